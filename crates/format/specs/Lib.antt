@@ -1,0 +1,9 @@
+pub mod Alphabet
+pub mod Units
+pub mod Offsets
+pub mod Registry
+pub mod Conversion
+pub mod Framing
+pub mod Cutting
+pub mod Judging
+pub mod Report

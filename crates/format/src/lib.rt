@@ -1,0 +1,77 @@
+// The format's types. What they mean is defined in specs/, in document 01's order; there is no code here.
+
+// A place or a length in a text stream, in characters.
+pub struct TextOffset(pub usize);
+
+// A place or a length in a binary stream, in bytes.
+pub struct BinaryOffset(pub usize);
+
+// A row of the code registry: a code of so many characters, the last of which is a letter's sextet (A is 0, a is 26).
+pub struct CodeRow {
+    pub chars: u8,
+    pub letter: u8,
+    // full size in text
+    pub size: u8,
+    // pad size: 1, 2 or 0
+    pub pad: u8,
+    // zero lead bytes
+    pub lead: u8,
+    // tag characters; 0 for a code with a raw value
+    pub tag: u8,
+}
+
+// What a header says of its item. The code is the kind with the header's length, which tells small from large.
+pub enum Kind {
+    Fixed(CodeRow),
+    // letter: the variable type; count: the units behind the header
+    Variable { letter: u8, lead: u8, count: usize },
+    Group { letter: u8 },
+    Genus,
+}
+
+// What the first unit says: a header of one unit with the item's full size in units, or what a second unit completes.
+pub enum Opening {
+    Unknown,
+    Short { kind: Kind, size: usize },
+    LargeVariable { letter: u8, lead: u8 },
+    // digit: the first of the count's five
+    LargeGroup { letter: u8, digit: u8 },
+    Version,
+}
+
+// What conversion to binary answers: the length written, or a number and a place.
+pub enum ToBinary {
+    Written(BinaryOffset),
+    Refused(u8, TextOffset),
+}
+
+// What conversion to text answers: the length written, or a number and a place.
+pub enum ToText {
+    Written(TextOffset),
+    Refused(u8, BinaryOffset),
+}
+
+// What conversion of a binary offset to text answers: none where the text would pass the longest stream.
+pub enum InText {
+    At(TextOffset),
+    Past,
+}
+
+// What framing finds: an item with its header and full size in units, or a number and a place in sextets from its start.
+pub enum Framed {
+    Item {
+        kind: Kind,
+        head: usize,
+        size: usize,
+    },
+    Unframed {
+        number: u8,
+        place: usize,
+    },
+}
+
+// What judging an item finds; the place is counted in sextets or in a stream's elements, as the definition says.
+pub enum Verdict {
+    Accepted,
+    Refused { number: u8, place: usize },
+}
