@@ -7,3 +7,4 @@ pub mod Framing
 pub mod Cutting
 pub mod Judging
 pub mod Report
+pub mod Values

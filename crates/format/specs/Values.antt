@@ -1,0 +1,36 @@
+-- 01, "Values": "in B the raw value is always whole bytes at the item's end". Of a primitive's own sextets. Assumes nothing.
+use Prim.Native.Nat.{ℕ, _+_, _*_, _/_}
+use mathlib.Core.List.{List, [], map}
+use lib.ListN.{length, take, drop}
+use lib.Dec.{eqb}
+use Rattle.base.specs.Pick.{pick}
+use Rattle.base.specs.Each.{each}
+use Rattle.format.specs.declared.CodeRow.{CodeRow}
+use Rattle.format.specs.declared.Kind.{Kind}
+use Rattle.format.specs.declared.Kind.the-variants.{Fixed, Variable, Group, Genus}
+use Rattle.format.specs.Alphabet.{charOf}
+use Rattle.format.specs.Units.{bytesOf}
+use Rattle.format.specs.Registry.{zeroBitsOf, prepadOf}
+
+-- an item's bytes in B
+unfoldable pub bytesIn : List ℕ → List ℕ
+bytesIn s = each 4 bytesOf (length s / 4) s
+
+-- where the raw value starts, in bytes from the item's start, h being the header's units: "A pad 1 code is followed by 2 zero
+-- bits, a pad 2 code by 4, then the raw bytes; a pad 0 code by the raw bytes. `V` has one zero lead byte more. A variable value
+-- opens with its 0, 1 or 2 zero lead bytes; the rest is raw." A tag has no raw: it is empty at the item's end
+unfoldable pub rawStart : Kind → ℕ → ℕ
+rawStart (Fixed c) h = pick (eqb (c .tag) 0) ((6 * c .chars + zeroBitsOf c) / 8) (c .size / 4 * 3)
+rawStart (Variable t lead count) h = 3 * h + lead
+rawStart (Group letter) h = 3 * h
+rawStart Genus h = 3 * h
+
+unfoldable pub rawOf : Kind → ℕ → List ℕ → List ℕ
+rawOf k h s = drop (rawStart k h) (bytesIn s)
+
+-- tag characters: "in `0J` `0L` `0N` a `_` stands before them"
+unfoldable pub tagOf : Kind → List ℕ → List ℕ
+tagOf (Fixed c) s = map charOf (take (c .tag) (drop (c .chars + prepadOf c) s))
+tagOf (Variable t lead count) s = []
+tagOf (Group letter) s = []
+tagOf Genus s = []

@@ -1,0 +1,4 @@
+pub mod Alphabet
+pub mod Units
+pub mod Conversion
+pub mod Registry

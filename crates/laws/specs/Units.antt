@@ -1,0 +1,70 @@
+-- A unit there and back. Both ways are one law, there-and-back of base, at 64 ^ 4 = 256 ^ 3. Assumes nothing.
+use Prim.Native.Nat.{ℕ, _<_}
+use mathlib.Core.Path.{_≡_, refl, ap, _∙_}
+use mathlib.Core.List.{List, [], _∷_, map}
+use lib.Dec.{lit<}
+use lib.ListN.{length, length-map}
+use Rattle.base.specs.Digits.{Below, none, more, digitsOf, numberOf, length-digits, digits-below, there-and-back, map-back}
+use Rattle.format.specs.Alphabet.{sextetOf, charOf}
+use Rattle.format.specs.Units.{bytesOf, sextetsOf, tripletOf, quadletOf}
+use Rattle.laws.specs.Alphabet.{sextet-char, char-sextet}
+
+-- ---- sextets and bytes
+
+pub bytes-size : (q : List ℕ) → length (bytesOf q) ≡ 3
+unfolding bytesOf
+bytes-size q = length-digits 256 3 (numberOf 64 q)
+
+pub sextets-size : (t : List ℕ) → length (sextetsOf t) ≡ 4
+unfolding sextetsOf
+sextets-size t = length-digits 64 4 (numberOf 256 t)
+
+pub bytes-below : (q : List ℕ) → Below 256 (bytesOf q)
+unfolding bytesOf
+bytes-below q = digits-below 256 3 (numberOf 64 q) (lit< tt)
+
+pub sextets-below : (t : List ℕ) → Below 64 (sextetsOf t)
+unfolding sextetsOf
+sextets-below t = digits-below 64 4 (numberOf 256 t) (lit< tt)
+
+pub sextets-bytes : (q : List ℕ) → length q ≡ 4 → Below 64 q → sextetsOf (bytesOf q) ≡ q
+unfolding sextetsOf bytesOf
+sextets-bytes q l h = there-and-back 64 4 256 3 (lit< tt) (lit< tt) refl q l h
+
+pub bytes-sextets : (t : List ℕ) → length t ≡ 3 → Below 256 t → bytesOf (sextetsOf t) ≡ t
+unfolding sextetsOf bytesOf
+bytes-sextets t l h = there-and-back 256 3 64 4 (lit< tt) (lit< tt) refl t l h
+
+-- ---- characters and bytes
+
+pub triplet-size : (q : List ℕ) → length (tripletOf q) ≡ 3
+unfolding tripletOf
+triplet-size q = bytes-size (map sextetOf q)
+
+pub quadlet-size : (t : List ℕ) → length (quadletOf t) ≡ 4
+unfolding quadletOf
+quadlet-size t = length-map (sextetsOf t) charOf ∙ sextets-size t
+
+-- a quadlet's sextets are its triplet's
+pub triplet-sextets : (q : List ℕ) → length q ≡ 4 → Below 64 (map sextetOf q) → sextetsOf (tripletOf q) ≡ map sextetOf q
+unfolding tripletOf
+triplet-sextets q l h = sextets-bytes (map sextetOf q) (length-map q sextetOf ∙ l) h
+
+pub quadlet-sextets : (t : List ℕ) → map sextetOf (quadletOf t) ≡ sextetsOf t
+unfolding quadletOf
+quadlet-sextets t = map-back sextetOf charOf 64 sextet-char (sextetsOf t) (sextets-below t)
+
+-- characters of the alphabet are their sextets' characters
+pub chars-back : (q : List ℕ) → Below 64 (map sextetOf q) → map charOf (map sextetOf q) ≡ q
+chars-back [] h = refl
+chars-back (c ∷ q) (more h r) = rw (char-sextet c h, chars-back q r)
+
+-- a quadlet in the alphabet, by way of its triplet
+pub quadlet-back : (q : List ℕ) → length q ≡ 4 → Below 64 (map sextetOf q) → quadletOf (tripletOf q) ≡ q
+unfolding quadletOf
+quadlet-back q l h = ap (map charOf) (triplet-sextets q l h) ∙ chars-back q h
+
+-- any triplet, by way of its quadlet
+pub triplet-back : (t : List ℕ) → length t ≡ 3 → Below 256 t → tripletOf (quadletOf t) ≡ t
+unfolding tripletOf
+triplet-back t l h = ap bytesOf (quadlet-sextets t) ∙ bytes-sextets t l h
