@@ -5,3 +5,4 @@ pub mod Digits
 pub mod Cases
 pub mod Lists
 pub mod Each
+pub mod Stores

@@ -1,8 +1,10 @@
 -- 01, "The registry we follow": "The alphabet is URL-safe Base64 of RFC 4648". Characters are numbers of ASCII. Assumes nothing.
 use Prim.Native.Nat.{ℕ, _+_, _-_}
 use mathlib.Core.Bool.{Bool, true, false}
+use mathlib.Core.List.{List, map}
 use lib.Dec.{leb, eqb}
 use Rattle.base.specs.Pick.{pick}
+use Rattle.base.specs.Lists.{upTo}
 
 abbrev pub within : ℕ → ℕ → ℕ → Bool
 within low high c = pick (leb low c) (leb c high) false
@@ -29,3 +31,10 @@ charOf v =
     (pick (eqb v 62) 45
     (pick (eqb v 63) 95
     0))))
+
+-- the same as tables: the value of each byte, the character of each sextet
+unfoldable pub sextetTable : List ℕ
+sextetTable = map sextetOf (upTo 256)
+
+unfoldable pub characterTable : List ℕ
+characterTable = map charOf (upTo 64)

@@ -2,7 +2,7 @@
 -- rules, read on its sextets." 003 calls the units quadlet and triplet. Assumes nothing.
 use Prim.Native.Nat.{ℕ, _/_}
 use mathlib.Core.List.{List, map}
-use lib.ListN.{length}
+use lib.ListN.{length, getD}
 use Rattle.base.specs.Digits.{numberOf, digitsOf}
 use Rattle.base.specs.Each.{each}
 use Rattle.format.specs.Alphabet.{sextetOf, charOf}
@@ -20,6 +20,13 @@ tripletOf q = bytesOf (map sextetOf q)
 
 unfoldable pub quadletOf : List ℕ → List ℕ
 quadletOf t = map charOf (sextetsOf t)
+
+-- the same with the values or characters read from a table
+unfoldable pub tripletBy : List ℕ → List ℕ → List ℕ
+tripletBy values q = bytesOf (map (λ c. getD values c 0) q)
+
+unfoldable pub quadletBy : List ℕ → List ℕ → List ℕ
+quadletBy characters t = map (λ v. getD characters v 0) (sextetsOf t)
 
 -- a form of stream
 pub record Domain : Type 0 where

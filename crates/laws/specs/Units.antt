@@ -3,10 +3,12 @@ use Prim.Native.Nat.{ℕ, _<_}
 use mathlib.Core.Path.{_≡_, refl, ap, _∙_}
 use mathlib.Core.List.{List, [], _∷_, map}
 use lib.Dec.{lit<}
-use lib.ListN.{length, length-map}
+use lib.ListN.{length, getD, length-map}
+use Rattle.base.specs.Lists.{getD-table}
 use Rattle.base.specs.Digits.{Below, none, more, digitsOf, numberOf, length-digits, digits-below, there-and-back, map-back}
 use Rattle.format.specs.Alphabet.{sextetOf, charOf}
-use Rattle.format.specs.Units.{bytesOf, sextetsOf, tripletOf, quadletOf}
+use Rattle.format.specs.Alphabet.{sextetTable, characterTable}
+use Rattle.format.specs.Units.{bytesOf, sextetsOf, tripletOf, quadletOf, tripletBy, quadletBy}
 use Rattle.laws.specs.Alphabet.{sextet-char, char-sextet}
 
 -- ---- sextets and bytes
@@ -68,3 +70,17 @@ quadlet-back q l h = ap (map charOf) (triplet-sextets q l h) ∙ chars-back q h
 pub triplet-back : (t : List ℕ) → length t ≡ 3 → Below 256 t → tripletOf (quadletOf t) ≡ t
 unfolding tripletOf
 triplet-back t l h = ap bytesOf (quadlet-sextets t) ∙ bytes-sextets t l h
+
+-- ---- by table
+
+map-below : (f g : ℕ → ℕ) (b : ℕ) → ((v : ℕ) → v < b → f v ≡ g v) → (l : List ℕ) → Below b l → map f l ≡ map g l
+map-below f g b e [] h = refl
+map-below f g b e (x ∷ l) (more p r) = rw (e x p, map-below f g b e l r)
+
+pub triplet-by : (q : List ℕ) → Below 256 q → tripletBy sextetTable q ≡ tripletOf q
+unfolding tripletBy tripletOf sextetTable
+triplet-by q h = ap bytesOf (map-below (λ c. getD sextetTable c 0) sextetOf 256 (λ c p. getD-table sextetOf 256 c p) q h)
+
+pub quadlet-by : (t : List ℕ) → quadletBy characterTable t ≡ quadletOf t
+unfolding quadletBy quadletOf characterTable
+quadlet-by t = map-below (λ v. getD characterTable v 0) charOf 64 (λ v p. getD-table charOf 64 v p) (sextetsOf t) (sextets-below t)

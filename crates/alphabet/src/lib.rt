@@ -1,0 +1,418 @@
+// The URL-safe Base64 alphabet: characters to sextets and back, and the search for a character outside it.
+ghost use mathlib.Core.Path.{_≡_};
+ghost use Prim.Native.Nat.{_+_, _≤_};
+ghost use lib.ListN.{length};
+ghost use Rattle.format.specs.Alphabet.{sextetOf, charOf, sextetTable, characterTable};
+ghost use Rattle.format.specs.Conversion.{firstStranger};
+ghost use Rattle.alphabet.specs.Blocks.{strangersAt, strangerBit};
+
+const SEXTETS: [u8; 256] = [
+    64,
+    64,
+    64,
+    64,
+    64,
+    64,
+    64,
+    64,
+    64,
+    64,
+    64,
+    64,
+    64,
+    64,
+    64,
+    64,
+    64,
+    64,
+    64,
+    64,
+    64,
+    64,
+    64,
+    64,
+    64,
+    64,
+    64,
+    64,
+    64,
+    64,
+    64,
+    64,
+    64,
+    64,
+    64,
+    64,
+    64,
+    64,
+    64,
+    64,
+    64,
+    64,
+    64,
+    64,
+    64,
+    62,
+    64,
+    64,
+    52,
+    53,
+    54,
+    55,
+    56,
+    57,
+    58,
+    59,
+    60,
+    61,
+    64,
+    64,
+    64,
+    64,
+    64,
+    64,
+    64,
+    0,
+    1,
+    2,
+    3,
+    4,
+    5,
+    6,
+    7,
+    8,
+    9,
+    10,
+    11,
+    12,
+    13,
+    14,
+    15,
+    16,
+    17,
+    18,
+    19,
+    20,
+    21,
+    22,
+    23,
+    24,
+    25,
+    64,
+    64,
+    64,
+    64,
+    63,
+    64,
+    26,
+    27,
+    28,
+    29,
+    30,
+    31,
+    32,
+    33,
+    34,
+    35,
+    36,
+    37,
+    38,
+    39,
+    40,
+    41,
+    42,
+    43,
+    44,
+    45,
+    46,
+    47,
+    48,
+    49,
+    50,
+    51,
+    64,
+    64,
+    64,
+    64,
+    64,
+    64,
+    64,
+    64,
+    64,
+    64,
+    64,
+    64,
+    64,
+    64,
+    64,
+    64,
+    64,
+    64,
+    64,
+    64,
+    64,
+    64,
+    64,
+    64,
+    64,
+    64,
+    64,
+    64,
+    64,
+    64,
+    64,
+    64,
+    64,
+    64,
+    64,
+    64,
+    64,
+    64,
+    64,
+    64,
+    64,
+    64,
+    64,
+    64,
+    64,
+    64,
+    64,
+    64,
+    64,
+    64,
+    64,
+    64,
+    64,
+    64,
+    64,
+    64,
+    64,
+    64,
+    64,
+    64,
+    64,
+    64,
+    64,
+    64,
+    64,
+    64,
+    64,
+    64,
+    64,
+    64,
+    64,
+    64,
+    64,
+    64,
+    64,
+    64,
+    64,
+    64,
+    64,
+    64,
+    64,
+    64,
+    64,
+    64,
+    64,
+    64,
+    64,
+    64,
+    64,
+    64,
+    64,
+    64,
+    64,
+    64,
+    64,
+    64,
+    64,
+    64,
+    64,
+    64,
+    64,
+    64,
+    64,
+    64,
+    64,
+    64,
+    64,
+    64,
+    64,
+    64,
+    64,
+    64,
+    64,
+    64,
+    64,
+    64,
+    64,
+    64,
+    64,
+    64,
+    64,
+    64,
+    64,
+    64,
+    64,
+    64,
+    64,
+    64,
+    64,
+    64,
+    64,
+    64,
+    64,
+];
+
+const CHARACTERS: [u8; 64] = [
+    65,
+    66,
+    67,
+    68,
+    69,
+    70,
+    71,
+    72,
+    73,
+    74,
+    75,
+    76,
+    77,
+    78,
+    79,
+    80,
+    81,
+    82,
+    83,
+    84,
+    85,
+    86,
+    87,
+    88,
+    89,
+    90,
+    97,
+    98,
+    99,
+    100,
+    101,
+    102,
+    103,
+    104,
+    105,
+    106,
+    107,
+    108,
+    109,
+    110,
+    111,
+    112,
+    113,
+    114,
+    115,
+    116,
+    117,
+    118,
+    119,
+    120,
+    121,
+    122,
+    48,
+    49,
+    50,
+    51,
+    52,
+    53,
+    54,
+    55,
+    56,
+    57,
+    45,
+    95,
+];
+
+// The value of each byte, 64 for one outside the alphabet. A caller that reads many characters names the table once and lends it.
+pub fn sextets() -> [u8; 256]
+    ensures { λ r. ⌜ r ≡ sextetTable ⌝ }
+{
+    SEXTETS
+}
+
+// The character of each sextet.
+pub fn characters() -> [u8; 64]
+    ensures { λ r. ⌜ r ≡ characterTable ⌝ }
+{
+    CHARACTERS
+}
+
+// The value of a character, 64 for one outside the alphabet.
+pub fn sextet(c: u8) -> u8
+    ensures { λ r. ⌜ r ≡ sextetOf c ⌝ }
+{
+    let values = sextets();
+    values[c as usize]
+}
+
+// The character of a sextet; 0, which is no character of the alphabet, for a number from 64 on.
+pub fn character(v: u8) -> u8
+    ensures { λ r. ⌜ r ≡ charOf v ⌝ }
+{
+    if v < 64 {
+        let chars = characters();
+        chars[v as usize]
+    } else {
+        0
+    }
+}
+
+// 1 for a character outside the alphabet, by comparisons that the back end turns into vector code.
+fn stranger(c: u8) -> u8
+    ensures { λ r. ⌜ r ≡ strangerBit c ⌝ }
+{
+    let known = ((65 <= c) & (c <= 90))
+        | ((97 <= c) & (c <= 122))
+        | ((48 <= c) & (c <= 57))
+        | (c == 45)
+        | (c == 95);
+    if known { 0 } else { 1 }
+}
+
+// How many of the 64 characters from a place on are outside the alphabet. There is no early way out, so that it is vectorised.
+fn strangers(s: &[u8], at: usize) -> u8
+    requires { ⌜ at + 64 ≤ length (now s) ⌝ }
+    ensures { λ r. ⌜ r ≡ strangersAt (now (s .entry)) at 64 ⌝ }
+{
+    let mut bad: u8 = 0;
+    let mut j: usize = 0;
+    while j < 64 {
+        let x = stranger(s[at + j]);
+        bad = bad + x;
+        j = j + 1;
+    }
+    bad
+}
+
+// The place of the first character outside the alphabet, or the length where there is none: whole blocks while they are clean,
+// then character by character.
+pub fn first_stranger(s: &[u8]) -> usize
+    ensures { λ r. ⌜ r ≡ firstStranger (now (s .entry)) ⌝ }
+{
+    let mut i = 0;
+    while i < s.len() {
+        if s.len() - i < 64 {
+            break;
+        }
+        if strangers(s, i) != 0 {
+            break;
+        }
+        i = i + 64;
+    }
+    while i < s.len() {
+        if stranger(s[i]) != 0 {
+            return i;
+        }
+        i = i + 1;
+    }
+    i
+}

@@ -1,0 +1,78 @@
+use native.Mathlib.Omega.{arith}
+use lib.ListN.{length-set}
+use Rattle.base.specs.Stores.{store4}
+use borrow.Author.Needs.{needs}
+use Rattle.convert.proofs.put_quadlet.Statement.{statement}
+use Rattle.convert.proofs.put_quadlet.Tie as tie
+use Rattle.convert.proofs.put_quadlet.Reads as reads
+use Rattle.convert.proofs.put_quadlet.Lts as lts
+
+-- src/lib.rt:84:13
+array-read-d : tie.Need-array-read-d
+array-read-d c = search needs
+
+-- src/lib.rt:84:5
+slice-write-d : tie.Need-slice-write-d
+slice-write-d c = search needs
+
+-- src/lib.rt:85:17
+array-read-d-2 : tie.Need-array-read-d-2
+array-read-d-2 c = search needs
+
+-- src/lib.rt:85:7
+add-d : tie.Need-add-d
+add-d c = search needs
+
+-- src/lib.rt:85:5
+slice-write-d-2 : tie.Need-slice-write-d-2
+slice-write-d-2 c = simp length-set (omega arith)
+
+-- src/lib.rt:86:17
+array-read-d-3 : tie.Need-array-read-d-3
+array-read-d-3 c = search needs
+
+-- src/lib.rt:86:7
+add-d-2 : tie.Need-add-d-2
+add-d-2 c = search needs
+
+-- src/lib.rt:86:5
+slice-write-d-3 : tie.Need-slice-write-d-3
+slice-write-d-3 c = simp length-set (omega arith)
+
+-- src/lib.rt:87:17
+array-read-d-4 : tie.Need-array-read-d-4
+array-read-d-4 c = search needs
+
+-- src/lib.rt:87:7
+add-d-3 : tie.Need-add-d-3
+add-d-3 c = search needs
+
+-- src/lib.rt:87:5
+slice-write-d-4 : tie.Need-slice-write-d-4
+slice-write-d-4 c = simp length-set (omega arith)
+
+-- src/lib.rt:80:1
+same-length : tie.Need-same-length
+same-length c = search needs
+
+-- src/lib.rt:80:1
+returns : tie.Need-returns
+returns c = store4 (c .args .d .now) (c .args .t3) (c .args .at) (search needs) (search needs)
+
+pub put-quadlet-spec : {M : Type 1} → statement M
+put-quadlet-spec =
+    tie.close
+    (tie.spec
+    array-read-d
+    slice-write-d
+    array-read-d-2
+    add-d
+    slice-write-d-2
+    array-read-d-3
+    add-d-2
+    slice-write-d-3
+    array-read-d-4
+    add-d-3
+    slice-write-d-4
+    same-length
+    returns)

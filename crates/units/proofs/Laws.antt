@@ -1,0 +1,44 @@
+-- What the code computes of a unit's elements is the definition. Assumes nothing.
+use mathlib.Core.Path.{_≡_, refl}
+use mathlib.Core.List.{List, [], _∷_, map}
+use Prim.Native.Nat.{ℕ, _+_, _*_, _/_, _%_, _<_}
+use native.Mathlib.Omega.{arith}
+use lib.ListN.{length, getD}
+use Rattle.base.specs.Lists.{list3, list4}
+use Rattle.base.specs.Digits.{numberOf, digitsOf, below-at}
+use Rattle.format.specs.Units.{bytesOf, sextetsOf, tripletBy, quadletBy}
+use Rattle.laws.specs.Units.{sextets-size, sextets-below}
+
+three : {a b c x y z : ℕ} → a ≡ x → b ≡ y → c ≡ z → a ∷ b ∷ c ∷ [] ≡ x ∷ y ∷ z ∷ []
+three p q r = cc
+
+four : {a b c d x y z w : ℕ} → a ≡ x → b ≡ y → c ≡ z → d ≡ w → a ∷ b ∷ c ∷ d ∷ [] ≡ x ∷ y ∷ z ∷ w ∷ []
+four p q r s = cc
+
+pub packed : (q : List ℕ) → length q ≡ 4 → (a b c d : ℕ) → a ≡ getD q 0 0 → b ≡ getD q 1 0 → c ≡ getD q 2 0 → d ≡ getD q 3 0
+    → (((a * 64 + b) * 64 + c) * 64 + d) / 65536 % 256 ∷ (((a * 64 + b) * 64 + c) * 64 + d) / 256 % 256 ∷ (((a * 64 + b) * 64 + c) * 64 + d) % 256 ∷ []
+    ≡ bytesOf q
+unfolding bytesOf
+packed q e a b c d ea eb ec ed = rw (list4 q e, ea, eb, ec, ed) (three (omega arith) (omega arith) (omega arith))
+
+pub unpacked : (t : List ℕ) → length t ≡ 3 → (a b c : ℕ) → a ≡ getD t 0 0 → b ≡ getD t 1 0 → c ≡ getD t 2 0
+    → ((a * 256 + b) * 256 + c) / 262144 % 64 ∷ ((a * 256 + b) * 256 + c) / 4096 % 64 ∷ ((a * 256 + b) * 256 + c) / 64 % 64 ∷ ((a * 256 + b) * 256 + c) % 64 ∷ []
+    ≡ sextetsOf t
+unfolding sextetsOf
+unpacked t e a b c ea eb ec = rw (list3 t e, ea, eb, ec) (four (omega arith) (omega arith) (omega arith) (omega arith))
+
+pub by-values : (values q : List ℕ) → length q ≡ 4 → (r : List ℕ)
+    → r ≡ bytesOf (getD values (getD q 0 0) 0 ∷ getD values (getD q 1 0) 0 ∷ getD values (getD q 2 0) 0 ∷ getD values (getD q 3 0) 0 ∷ [])
+    → r ≡ tripletBy values q
+unfolding tripletBy
+by-values values q e r p = rw (list4 q e) p
+
+-- each of three bytes' sextets is an index of a table of 64
+pub sextet-below : (t q : List ℕ) → q ≡ sextetsOf t → (i : ℕ) → i < 4 → getD q i 0 < 64
+sextet-below t q e i h = rw e (below-at 64 (sextetsOf t) (sextets-below t) i (rw (sextets-size t) h))
+
+pub by-characters : (characters t q : List ℕ) → q ≡ sextetsOf t
+    → getD characters (getD q 0 0) 0 ∷ getD characters (getD q 1 0) 0 ∷ getD characters (getD q 2 0) 0 ∷ getD characters (getD q 3 0) 0 ∷ []
+    ≡ quadletBy characters t
+unfolding quadletBy sextetsOf
+by-characters characters t q e = rw e

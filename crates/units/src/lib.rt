@@ -1,0 +1,68 @@
+// A unit by value: four characters or three bytes, and the four sextets that both are. Functions that read a table are lent it,
+// since naming a constant table copies it.
+ghost use mathlib.Core.Path.{_≡_};
+ghost use Prim.Native.Nat.{_<_};
+ghost use lib.ListN.{getD};
+ghost use Rattle.format.specs.Units.{bytesOf, sextetsOf, tripletBy, quadletBy};
+
+fn wide(x: u8) -> u32
+    ensures { λ r. ⌜ (r ≡ x) × (r < 256) ⌝ }
+{
+    x as u32
+}
+
+// Four sextets as three bytes.
+pub fn pack(q: [u8; 4]) -> [u8; 3]
+    ensures { λ r. ⌜ r ≡ bytesOf q ⌝ }
+{
+    let n = ((wide(q[0]) * 64 + wide(q[1])) * 64 + wide(q[2])) * 64 + wide(q[3]);
+    [
+        (n / 65536 % 256) as u8,
+        (n / 256 % 256) as u8,
+        (n % 256) as u8,
+    ]
+}
+
+// Three bytes as four sextets.
+pub fn unpack(t: [u8; 3]) -> [u8; 4]
+    ensures { λ r. ⌜ r ≡ sextetsOf t ⌝ }
+{
+    let n = (wide(t[0]) * 256 + wide(t[1])) * 256 + wide(t[2]);
+    [
+        (n / 262144 % 64) as u8,
+        (n / 4096 % 64) as u8,
+        (n / 64 % 64) as u8,
+        (n % 64) as u8,
+    ]
+}
+
+fn value(values: &[u8; 256], c: u8) -> u8
+    ensures { λ r. ⌜ r ≡ getD (now (values .entry)) c 0 ⌝ }
+{
+    values[c as usize]
+}
+
+// Four characters as three bytes, each character's value taken from the table.
+pub fn triplet(values: &[u8; 256], q: [u8; 4]) -> [u8; 3]
+    ensures { λ r. ⌜ r ≡ tripletBy (now (values .entry)) q ⌝ }
+{
+    pack([
+        value(values, q[0]),
+        value(values, q[1]),
+        value(values, q[2]),
+        value(values, q[3]),
+    ])
+}
+
+// Three bytes as four characters, each sextet's character taken from the table.
+pub fn quadlet(characters: &[u8; 64], t: [u8; 3]) -> [u8; 4]
+    ensures { λ r. ⌜ r ≡ quadletBy (now (characters .entry)) t ⌝ }
+{
+    let q = unpack(t);
+    [
+        characters[q[0] as usize],
+        characters[q[1] as usize],
+        characters[q[2] as usize],
+        characters[q[3] as usize],
+    ]
+}
