@@ -24,7 +24,7 @@ pub fn unit_to_text(bytes: [u8; 3]) -> [u8; 4] {
 /// Text to binary: 1, 2, 5, 3, else the number of bytes written.
 pub fn to_binary(text: &[u8], out: &mut [u8]) -> Result<usize, Refusal> {
     Form::Text.check_length(text)?;
-    if text.len() % 4 != 0 {
+    if !text.len().is_multiple_of(4) {
         return Err(Refusal::new(NOT_WHOLE_UNITS, 0));
     }
     Form::Text.check_alphabet(text, 0, text.len())?;
@@ -34,7 +34,7 @@ pub fn to_binary(text: &[u8], out: &mut [u8]) -> Result<usize, Refusal> {
 /// Binary to text: 1, 2, 3, else the number of characters written.
 pub fn to_text(binary: &[u8], out: &mut [u8]) -> Result<usize, Refusal> {
     Form::Binary.check_length(binary)?;
-    if binary.len() % 3 != 0 {
+    if !binary.len().is_multiple_of(3) {
         return Err(Refusal::new(NOT_WHOLE_UNITS, 0));
     }
     lend(&text_of(binary), out)

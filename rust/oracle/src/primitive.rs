@@ -218,7 +218,10 @@ fn item(head: &[u8], lead: usize, raw: &[u8]) -> Vec<u8> {
 mod tests {
     use super::*;
 
-    fn read(text: &str, offset: usize) -> Result<(String, Vec<u8>, Vec<u8>), (u8, usize)> {
+    /// Code, tag characters and raw value, or number and place.
+    type Outcome = Result<(String, Vec<u8>, Vec<u8>), (u8, usize)>;
+
+    fn read(text: &str, offset: usize) -> Outcome {
         let mut out = [0xEE; 64];
         let found = read_text(text.as_bytes(), offset, &mut out);
         let found = found.map_err(|refused| (refused.number, refused.place))?;
@@ -227,7 +230,7 @@ mod tests {
         Ok((found.code.characters(), tag, out[..found.raw].to_vec()))
     }
 
-    fn raw(code: &str, raw: &[u8]) -> Result<(String, Vec<u8>, Vec<u8>), (u8, usize)> {
+    fn raw(code: &str, raw: &[u8]) -> Outcome {
         Ok((code.to_string(), Vec::new(), raw.to_vec()))
     }
 
