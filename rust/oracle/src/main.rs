@@ -4,8 +4,7 @@ use oracle::convert;
 use oracle::form::Form;
 use oracle::primitive::{self, Named, Primitive, Tag};
 use oracle::refusal::Refusal;
-use oracle::report::report;
-use oracle::report::write_report;
+use oracle::report::{report, write_report};
 use oracle::walk::{step, Found, Walk};
 use std::io::{self, Read, Write};
 use std::process::ExitCode;
@@ -125,9 +124,10 @@ impl Options {
         Ok((plain, options))
     }
 
-    /// A buffer of the asked room, or of `enough`.
+    /// A buffer of the asked room, or of `enough`. More than enough makes no
+    /// difference to any answer, so it is not taken.
     fn buffer(&self, enough: usize) -> Vec<u8> {
-        vec![0; self.room.unwrap_or(enough)]
+        vec![0; self.room.map_or(enough, |room| room.min(enough))]
     }
 }
 

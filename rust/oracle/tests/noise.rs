@@ -11,6 +11,14 @@ use oracle::registry::{Code, FIXED, VARIABLE};
 use oracle::report::{report, write_report, Report};
 use oracle::walk::{step, Found, Walk};
 
+/// Accepted and refused items, and what cannot be framed.
+#[rustfmt::skip]
+const PIECES: [&str; 24] = [
+    "MAAB", "MQAA", "0HD_____", "0HEAAAAA", "VABh", "VBAA", "1AAM", "4BAA", "5BAA", "5BABAGhp",
+    "6BABAABh", "0J_A", "0JAA", "-_AAACAA", "-_AAABAA", "7AABAAABAAAA", "XABC", "-0AA", "-AAA",
+    "-KAA", "bAAA", "1AAK", "MA!A", "0HAA==AA",
+];
+
 /// Marsaglia's xorshift with 64 bits.
 struct Noise(u64);
 
@@ -39,32 +47,6 @@ impl Noise {
 
     /// A stream of pieces that are likely to be framed, whole or not.
     fn likely(&mut self, pieces: usize) -> String {
-        const PIECES: [&str; 24] = [
-            "MAAB",
-            "MQAA",
-            "0HD_____",
-            "0HEAAAAA",
-            "VABh",
-            "VBAA",
-            "1AAM",
-            "4BAA",
-            "5BAA",
-            "5BABAGhp",
-            "6BABAABh",
-            "0J_A",
-            "0JAA",
-            "-_AAACAA",
-            "-_AAABAA",
-            "7AABAAABAAAA",
-            "XABC",
-            "-0AA",
-            "-AAA",
-            "-KAA",
-            "bAAA",
-            "1AAK",
-            "MA!A",
-            "0HAA==AA",
-        ];
         let mut stream = String::new();
         for _ in 0..pieces {
             if self.below(40) == 0 {

@@ -5,7 +5,34 @@ mod common;
 
 use common::{binary, reads, rows, rows_of};
 use oracle::form::Form;
-use oracle::report::report;
+use oracle::report::{report, write_report};
+
+#[test]
+fn p06_room_is_asked_by_items_only() {
+    // One item, with and without a remainder: 17 + 18 = 35. Written are
+    // 4 + 9, 4 and 4, and 5 for the remainder's row. No item: 17, written 17.
+    for (stream, room, written) in [("MAAB", 35, 21), ("MAABMA!!", 35, 26), ("bAAA", 17, 17)] {
+        let mut out = vec![0; room];
+        let answer = write_report(stream.as_bytes(), Form::Text, &mut out);
+        assert_eq!(answer, Ok(written), "{stream}");
+        let short = write_report(stream.as_bytes(), Form::Text, &mut out[1..]);
+        assert_eq!(short.map_err(|r| (r.number, r.place)), Err((3, 0)));
+    }
+}
+
+#[test]
+fn p18_every_digit_counts() {
+    // The first of five digits stands for 64^4 = 16,777,216 units, the first
+    // of four for 262,144; each passes the end, with an opaque group too.
+    for stream in ["--JBAAAA", "--KBAAAA", "--AB____", "7AABBAAA", "8AABBAAA"] {
+        rows(stream, &[], &[], Some((0, 4)));
+        rows_of(&binary(stream), Form::Binary, &[], &[], Some((0, 4)));
+    }
+    // `BA` is 64 units: 4 + 256 characters.
+    let full = format!("4BBA{}", "AAAA".repeat(64));
+    rows(&full, &[(0, 260, 0)], &[], None);
+    rows(&full[..256], &[], &[], Some((0, 4)));
+}
 
 #[test]
 fn p09_a_report_has_no_two() {

@@ -45,6 +45,8 @@ fn reports() {
         "",
         "3 0",
     );
+    let most = usize::MAX.to_string();
+    answered(&["report", "text", "--room", &most], b"", &[0; 12]);
     answered(&["report", "binary"], b"", &[0; 12]);
     refused(&["report", "text"], &vec![b'A'; 4_194_305], "", "1 0");
 }
