@@ -491,7 +491,8 @@ fn of_001_transferable_path_signature() {
     // "SAD Path Signature Group": `-JAB` holds `6AAE`, which passes it. Then
     // `AAA-a-credential-FABE_T2...` reads as a seed of 44 characters, no pad
     // bit set, and 44 behind 8 stands `zYEF`: 6.
-    let stream = format!("-JAB6AAEAAA-a-credential-FAB{PREFIX}{NUMBER}{EVENT}-AAD{SIG_0}");
+    let group = format!("-FAB{PREFIX}{NUMBER}{EVENT}-AAD{SIG_0}{SIG_1}{SIG_2}");
+    let stream = format!("-JAB6AAEAAA-a-credential{group}");
     let items = &[(0, 8, 4), (8, 44, 0)];
     rows(&stream, items, &[(0, 4, 4)], Some((52, 6)));
 }
@@ -500,7 +501,8 @@ fn of_001_transferable_path_signature() {
 fn of_001_nontransferable_path_signature() {
     // `-JAB` holds `5AAB`, which passes it; then `AA-a...` a seed; then `9G93`.
     let key = "BmMfUwIOywRkyc5GyQXfgDA4UOAMvjvnXcaK9G939ArM";
-    let stream = format!("-JAB5AABAA-a-CAB{key}");
+    let signature = POST_PADDED_OF_001[16];
+    let stream = format!("-JAB5AABAA-a-CAB{key}{signature}");
     let items = &[(0, 8, 4), (8, 44, 0)];
     rows(&stream, items, &[(0, 4, 4)], Some((52, 6)));
     // `-CAB` by itself: the key passes its group. At 8 stands `UwIO`: `U`
