@@ -1,0 +1,236 @@
+//! Judging a framed item.
+//!
+//! 01: "Judging a framed primitive: 5 behind the header, 9, 8, 10. Judging a
+//! group: 11, then its items one by one, each framed (an inner 7 next), then
+//! judged; the first refusal stands, with number and place. An opaque group:
+//! 11, then 5."
+
+use crate::form::Form;
+use crate::frame::{frame, require_genus_version, Frame};
+use crate::refusal::{Refusal, LEAD_WITHOUT_VALUE, NOT_ZERO, PREPAD, TOO_DEEP};
+use crate::registry::Code;
+
+/// A group may stand within this many groups less one.
+pub const MOST_GROUPS: usize = 16;
+
+/// Judges a framed item that stands within `depth` groups. A genus/version
+/// has no judging of its own (P32).
+pub fn judge(stream: &[u8], form: Form, framed: &Frame, depth: usize) -> Result<(), Refusal> {
+    match framed.code {
+        Code::Fixed(_) | Code::Variable { .. } => judge_primitive(stream, form, framed),
+        Code::Group { .. } => judge_group(stream, form, framed, depth),
+        Code::Genus => Ok(()),
+    }
+}
+
+/// 5 behind the header, 9, 8, 10.
+pub fn judge_primitive(stream: &[u8], form: Form, framed: &Frame) -> Result<(), Refusal> {
+    form.check_alphabet(stream, framed.behind_header(), framed.end())?;
+    let refuse = |number| Err(Refusal::new(number, framed.offset));
+    if framed.code.lead() > 0 && framed.count == 0 && is_variable(framed.code) {
+        return refuse(LEAD_WITHOUT_VALUE);
+    }
+    let (from, count) = zeros(framed.code);
+    if !form.zero_bits(stream, framed.offset, from, count) {
+        return refuse(NOT_ZERO);
+    }
+    if let Code::Fixed(row) = framed.code {
+        // The prepad stands right behind the code characters (P40).
+        let behind_code = form.character(stream, framed.offset, row.code.len());
+        if row.prepad && behind_code != Some(b'_') {
+            return refuse(PREPAD);
+        }
+    }
+    Ok(())
+}
+
+/// What is judged of a group itself, before its items: 11, then 5 if opaque.
+pub fn judge_group_itself(
+    stream: &[u8],
+    form: Form,
+    framed: &Frame,
+    depth: usize,
+) -> Result<(), Refusal> {
+    if depth >= MOST_GROUPS {
+        return Err(Refusal::new(TOO_DEEP, framed.offset));
+    }
+    if framed.code.is_opaque() {
+        form.check_alphabet(stream, framed.behind_header(), framed.end())?;
+    }
+    Ok(())
+}
+
+fn judge_group(stream: &[u8], form: Form, group: &Frame, depth: usize) -> Result<(), Refusal> {
+    judge_group_itself(stream, form, group, depth)?;
+    if group.code.is_opaque() {
+        return Ok(());
+    }
+    let mut position = group.behind_header();
+    let mut first = group.code.is_overrideable();
+    while position < group.end() {
+        let item = frame(stream, form, position, group.end())?;
+        if first {
+            require_genus_version(stream, form, &item)?;
+        }
+        judge(stream, form, &item, depth + 1)?;
+        position = item.end();
+        first = false;
+    }
+    Ok(())
+}
+
+fn is_variable(code: Code) -> bool {
+    matches!(code, Code::Variable { .. })
+}
+
+/// Which bits of the item must be zero: the pad bits behind the code
+/// characters and the lead bytes behind these. First bit, and how many.
+fn zeros(code: Code) -> (usize, usize) {
+    match code {
+        Code::Fixed(row) => (6 * row.code.len(), row.pad_bits() + 8 * row.lead),
+        Code::Variable { .. } => (24 * code.header_units(), 8 * code.lead()),
+        Code::Group { .. } | Code::Genus => (0, 0),
+    }
+}
+
+#[cfg(test)]
+mod tests {
+    use super::*;
+    use crate::frame::frame_top_level;
+
+    fn text(stream: &str) -> Result<(), (u8, usize)> {
+        let framed = frame_top_level(stream.as_bytes(), Form::Text, 0).unwrap();
+        judge(stream.as_bytes(), Form::Text, &framed, 0)
+            .map_err(|refused| (refused.number, refused.place))
+    }
+
+    fn binary(stream: &[u8]) -> Result<(), (u8, usize)> {
+        let framed = frame_top_level(stream, Form::Binary, 0).unwrap();
+        judge(stream, Form::Binary, &framed, 0).map_err(|refused| (refused.number, refused.place))
+    }
+
+    #[test]
+    fn pad_bits() {
+        assert_eq!(text("MP__"), Ok(()));
+        assert_eq!(text("MQAA"), Err((8, 0)));
+        assert_eq!(text("MgAA"), Err((8, 0)));
+        assert_eq!(text("0HD_____"), Ok(()));
+        assert_eq!(text("0HEAAAAA"), Err((8, 0)));
+        assert_eq!(binary(&[0x30, 0xFF, 0xFF]), Ok(()));
+        assert_eq!(binary(&[0x31, 0x00, 0x00]), Err((8, 0)));
+    }
+
+    #[test]
+    fn label_one_has_pad_bits_and_a_lead_byte() {
+        // P38. B is 000001: its low four bits and the next two make up `h`.
+        assert_eq!(text("VABh"), Ok(()));
+        assert_eq!(text("VAD_"), Ok(()));
+        assert_eq!(text("VAEA"), Err((8, 0)));
+        assert_eq!(text("VBAA"), Err((8, 0)));
+        assert_eq!(text("VQAA"), Err((8, 0)));
+        assert_eq!(binary(&[0x54, 0x00, 0x61]), Ok(()));
+        assert_eq!(binary(&[0x54, 0x01, 0x61]), Err((8, 0)));
+    }
+
+    #[test]
+    fn lead_bytes_of_variable_values() {
+        assert_eq!(text("5BABAPAA"), Ok(()));
+        assert_eq!(text("5BABAQAA"), Err((8, 0)));
+        assert_eq!(text("6BABAABh"), Ok(()));
+        assert_eq!(text("6BABAAEA"), Err((8, 0)));
+        assert_eq!(text("9AABAAABAABh"), Ok(()));
+        assert_eq!(text("9AABAAABAAEA"), Err((8, 0)));
+        assert_eq!(text("4BAB____"), Ok(()));
+    }
+
+    #[test]
+    fn nine_for_a_lead_without_value() {
+        for stream in ["5BAA", "6BAA", "8AABAAAA", "9AABAAAA"] {
+            assert_eq!(text(stream), Err((9, 0)));
+        }
+        for stream in ["4BAA", "7AABAAAA"] {
+            assert_eq!(text(stream), Ok(()));
+        }
+    }
+
+    #[test]
+    fn tags_are_free_but_for_the_prepad() {
+        // P39, P40.
+        assert_eq!(text("X___"), Ok(()));
+        assert_eq!(text("0J_A"), Ok(()));
+        assert_eq!(text("0JAA"), Err((10, 0)));
+        assert_eq!(text("0L_AAAAA"), Ok(()));
+        assert_eq!(text("0LAAAAAA"), Err((10, 0)));
+        assert_eq!(text("0N-AAAAAAAAA"), Err((10, 0)));
+        assert_eq!(text("0K__"), Ok(()));
+        // `0J_A` is 110100 001001 111111 000000: D0 9F C0.
+        assert_eq!(binary(&[0xD0, 0x9F, 0xC0]), Ok(()));
+        assert_eq!(binary(&[0xD0, 0x90, 0x00]), Err((10, 0)));
+    }
+
+    #[test]
+    fn five_over_the_whole_item_comes_first() {
+        // P36.
+        assert_eq!(text("0HEAA!AA"), Err((5, 5)));
+        assert_eq!(text("0LAAA=AA"), Err((5, 5)));
+    }
+
+    #[test]
+    fn the_first_refusal_in_a_group_stands() {
+        // P05: 8 at the first item, not 6 at the second.
+        assert_eq!(text("-AACMQAA_AAA"), Err((8, 4)));
+        assert_eq!(text("-AACMAAB_AAA"), Err((6, 8)));
+        assert_eq!(text("-AACMAABMA!A"), Err((5, 10)));
+        assert_eq!(text("-AAB0AAA"), Err((4, 4)));
+    }
+
+    #[test]
+    fn only_k_and_l_are_opaque() {
+        assert_eq!(text("-KAB_AAA"), Ok(()));
+        assert_eq!(text("-LAB_AAA"), Ok(()));
+        assert_eq!(text("--KAAAAB_AAA"), Ok(()));
+        assert_eq!(text("-HAB_AAA"), Err((6, 4)));
+        assert_eq!(text("-KAB_A!A"), Err((5, 6)));
+    }
+
+    #[test]
+    fn genus_version_as_first_item() {
+        assert_eq!(text("-AAC-_AAABAA"), Err((7, 4)));
+        assert_eq!(text("-AAC-_AAACAA"), Ok(()));
+        assert_eq!(text("--CAAAAC-_AAABAA"), Err((7, 8)));
+        assert_eq!(text("-JAC-_AAABAA"), Ok(()));
+        // P27, P28, P29.
+        assert_eq!(text("-AADMAAB-_AAABAA"), Ok(()));
+        assert_eq!(text("-AAD-AAA-_AAABAA"), Ok(()));
+        assert_eq!(text("-AAD-CAC-_AAABAA"), Err((7, 8)));
+        assert_eq!(text("-AAD-KAA-_AAABAA"), Ok(()));
+    }
+
+    /// `groups` nested small `-J` groups, each holding the next.
+    fn nested(groups: usize) -> String {
+        let header = |inner: usize| format!("-JA{}", (b'A' + inner as u8) as char);
+        (0..groups).rev().map(header).collect()
+    }
+
+    #[test]
+    fn sixteen_groups_but_not_seventeen() {
+        assert_eq!(text(&nested(16)), Ok(()));
+        assert_eq!(text(&nested(17)), Err((11, 64)));
+    }
+
+    #[test]
+    fn eleven_for_opaque_groups_too_but_behind_framing() {
+        // P34, P35: the 17th group is an opaque one with a bad character, and
+        // then one that passes its group.
+        let opaque = format!("{}-KAB!!!!", deepened(2));
+        assert_eq!(text(&opaque), Err((11, 64)));
+        let passing = format!("{}-KAB", deepened(1));
+        assert_eq!(text(&passing), Err((4, 64)));
+    }
+
+    /// Sixteen nested `-J` headers around `units` units that are still to come.
+    fn deepened(units: u8) -> String {
+        let header = |inner: u8| format!("-JA{}", (b'A' + inner) as char);
+        (units..units + 16).rev().map(header).collect()
+    }
+}

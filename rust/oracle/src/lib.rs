@@ -1,0 +1,25 @@
+//! An independent second opinion on CESR streams.
+//!
+//! Everything here is written from the papers alone: 003 (the registry), 01
+//! (what is built and its rules) and the agreed readings P01 to P64 of the
+//! open points. Comments name the sentence a line follows. Plain data, plain
+//! recursion: it is meant to be read beside 01.
+//!
+//! Offsets and sizes are always in the stream's own measure: characters for
+//! text, bytes for binary.
+
+#![forbid(unsafe_code)]
+
+pub mod alphabet;
+pub mod convert;
+pub mod form;
+pub mod frame;
+pub mod judge;
+pub mod primitive;
+pub mod refusal;
+pub mod registry;
+pub mod report;
+pub mod walk;
+
+pub use form::Form;
+pub use refusal::Refusal;

@@ -1,0 +1,271 @@
+//! The oracle as a program for scripts. See `--help`.
+
+use oracle::convert;
+use oracle::form::Form;
+use oracle::primitive::{self, Named, Primitive, Tag};
+use oracle::refusal::Refusal;
+use oracle::report::{report, write_report};
+use oracle::walk::{step, Found, Walk};
+use std::io::{self, Read, Write};
+use std::process::ExitCode;
+
+const HELP: &str = "\
+oracle: an independent second opinion on CESR streams
+
+usage, with FORM = text or binary; the stream comes from standard input:
+  oracle report FORM [--room N]       the report's bytes
+  oracle convert to-binary [--room N] the stream's bytes in binary
+  oracle convert to-text [--room N]   the stream's characters in text
+  oracle read FORM OFFSET [--room N]  one line: code=C tag=T raw=HEX size=N
+  oracle walk FORM                    one line an item: OFFSET SIZE DEPTH CODE
+  oracle step FORM OPEN POSITION FIRST [END ...]
+                                      one step from a given state, FIRST 0 or 1,
+                                      up to 16 slots (the rest 0); two lines:
+                                      what is found (as in walk, or `end`), and
+                                      the next state in the same order
+without a stream:
+  oracle write FORM CODE [--tag S] [--raw HEX] [--room N]
+  oracle write FORM small|large TYPE [--raw HEX] [--room N]
+                                      the item's characters or bytes
+
+N is the room lent, in bytes (of the raw value for read); without it the room
+is enough. In binary, read asks no room. Offsets and sizes are in characters
+for text and bytes for binary. CODE names in answers: M 0A 1AAM 4B 7AAB -A --A -_
+
+exit 0: done. exit 1: refused, and `refused NUMBER PLACE` on standard error
+(walk has then printed the items before it). exit 2: wrong usage.
+";
+
+/// Why there is no answer: a refusal by the papers, or no sense in the call.
+enum Failure {
+    Refused(Refusal),
+    Usage(&'static str),
+    Io(io::Error),
+}
+
+impl From<Refusal> for Failure {
+    fn from(refused: Refusal) -> Self {
+        Failure::Refused(refused)
+    }
+}
+
+impl From<io::Error> for Failure {
+    fn from(error: io::Error) -> Self {
+        Failure::Io(error)
+    }
+}
+
+type Answer = Result<Vec<u8>, Failure>;
+
+fn main() -> ExitCode {
+    let words = std::env::args_os().skip(1);
+    let words: Vec<Vec<u8>> = words.map(|w| w.into_encoded_bytes()).collect();
+    let done = run(&words).and_then(|answer| Ok(io::stdout().write_all(&answer)?));
+    match done {
+        Ok(()) => ExitCode::SUCCESS,
+        Err(Failure::Refused(Refusal { number, place })) => {
+            eprintln!("refused {number} {place}");
+            ExitCode::from(1)
+        }
+        Err(Failure::Usage(why)) => {
+            eprintln!("usage: {why}; see oracle --help");
+            ExitCode::from(2)
+        }
+        Err(Failure::Io(error)) => {
+            eprintln!("input or output: {error}");
+            ExitCode::from(2)
+        }
+    }
+}
+
+fn run(words: &[Vec<u8>]) -> Answer {
+    let words: Vec<&[u8]> = words.iter().map(Vec::as_slice).collect();
+    let (plain, options) = Options::split(&words)?;
+    match plain.as_slice() {
+        [b"--help" | b"-h" | b"help"] => Ok(HELP.into()),
+        [b"report", name] => run_report(form(name)?, &options),
+        [b"convert", way] => run_convert(way, &options),
+        [b"read", name, offset] => run_read(form(name)?, number(offset)?, &options),
+        [b"walk", name] => run_walk(form(name)?),
+        [b"step", name, rest @ ..] => run_step(form(name)?, rest),
+        [b"write", name, b"small", letter] => {
+            run_write(form(name)?, typed(letter, false)?, &options)
+        }
+        [b"write", name, b"large", letter] => {
+            run_write(form(name)?, typed(letter, true)?, &options)
+        }
+        [b"write", name, code] => run_write(form(name)?, Named::Fixed(code), &options),
+        _ => Err(Failure::Usage("no such command")),
+    }
+}
+
+/// The `--name value` pairs among the words.
+#[derive(Default)]
+struct Options {
+    room: Option<usize>,
+    tag: Vec<u8>,
+    raw: Vec<u8>,
+}
+
+impl Options {
+    fn split<'w>(words: &[&'w [u8]]) -> Result<(Vec<&'w [u8]>, Options), Failure> {
+        let mut plain = Vec::new();
+        let mut options = Options::default();
+        let mut words = words.iter();
+        while let Some(word) = words.next() {
+            let mut given = || words.next().ok_or(Failure::Usage("a value is missing"));
+            match *word {
+                b"--room" => options.room = Some(number(given()?)?),
+                b"--tag" => options.tag = given()?.to_vec(),
+                b"--raw" => options.raw = bytes_of_hex(given()?)?,
+                other => plain.push(other),
+            }
+        }
+        Ok((plain, options))
+    }
+
+    /// A buffer of the asked room, or of `enough`. More than enough makes no
+    /// difference to any answer, so it is not taken.
+    fn buffer(&self, enough: usize) -> Vec<u8> {
+        vec![0; self.room.map_or(enough, |room| room.min(enough))]
+    }
+}
+
+fn run_report(form: Form, options: &Options) -> Answer {
+    let stream = standard_input()?;
+    let mut out = options.buffer(report(&stream, form)?.room());
+    let length = write_report(&stream, form, &mut out)?;
+    out.truncate(length);
+    Ok(out)
+}
+
+fn run_convert(way: &[u8], options: &Options) -> Answer {
+    let stream = standard_input()?;
+    let mut out = options.buffer(stream.len() / 3 * 4);
+    let length = match way {
+        b"to-binary" => convert::to_binary(&stream, &mut out)?,
+        b"to-text" => convert::to_text(&stream, &mut out)?,
+        _ => return Err(Failure::Usage("to-binary or to-text")),
+    };
+    out.truncate(length);
+    Ok(out)
+}
+
+fn run_read(form: Form, offset: usize, options: &Options) -> Answer {
+    let stream = standard_input()?;
+    if form == Form::Binary {
+        let (found, raw) = primitive::read_binary(&stream, offset)?;
+        return Ok(read_line(&found, raw));
+    }
+    let mut out = options.buffer(stream.len());
+    let found = primitive::read_text(&stream, offset, &mut out)?;
+    Ok(read_line(&found, &out[..found.raw]))
+}
+
+fn read_line(found: &Primitive, raw: &[u8]) -> Vec<u8> {
+    let tag = String::from_utf8_lossy(&found.tag.characters[..found.tag.number]);
+    let raw: String = raw.iter().map(|byte| format!("{byte:02x}")).collect();
+    let code = found.code.characters();
+    format!("code={code} tag={tag} raw={raw} size={}\n", found.size).into()
+}
+
+fn run_write(form: Form, named: Named, options: &Options) -> Answer {
+    // Enough for any item: the largest header, lead, fixed item and value.
+    let mut out = options.buffer(256 + options.raw.len() / 3 * 4);
+    let tag = Tag::of(&options.tag);
+    let length = primitive::write(named, &tag, &options.raw, form, &mut out)?;
+    out.truncate(length);
+    Ok(out)
+}
+
+fn run_walk(form: Form) -> Answer {
+    let stream = standard_input()?;
+    let mut lines = String::new();
+    let mut state = Walk::start();
+    loop {
+        let (next, found) = step(state, &stream, form);
+        match found {
+            Found::Item { .. } => lines += &found_line(&found),
+            Found::End => return Ok(lines.into()),
+            Found::Refused { number, place } => {
+                io::stdout().write_all(lines.as_bytes())?;
+                return Err(Refusal::new(number, place).into());
+            }
+        }
+        state = next;
+    }
+}
+
+fn found_line(found: &Found) -> String {
+    match found {
+        Found::Item {
+            offset,
+            size,
+            depth,
+            code,
+        } => format!("{offset} {size} {depth} {}\n", code.characters()),
+        Found::Refused { number, place } => format!("refused {number} {place}\n"),
+        Found::End => "end\n".to_string(),
+    }
+}
+
+fn run_step(form: Form, words: &[&[u8]]) -> Answer {
+    let numbers: Result<Vec<usize>, Failure> = words.iter().map(|w| number(w)).collect();
+    let numbers = numbers?;
+    let [open, position, first, ends @ ..] = numbers.as_slice() else {
+        return Err(Failure::Usage("step FORM OPEN POSITION FIRST [END ...]"));
+    };
+    let mut state = Walk::start();
+    if ends.len() > state.ends.len() || *first > 1 {
+        return Err(Failure::Usage("at most 16 ends, and FIRST 0 or 1"));
+    }
+    state.ends[..ends.len()].copy_from_slice(ends);
+    (state.open, state.position, state.first) = (*open, *position, *first == 1);
+    let (next, found) = step(state, &standard_input()?, form);
+    if let Found::Refused { number, place } = found {
+        return Err(Refusal::new(number, place).into());
+    }
+    let ends: String = next.ends.iter().map(|end| format!(" {end}")).collect();
+    let first = u8::from(next.first);
+    let line = format!("{} {} {first}{ends}\n", next.open, next.position);
+    Ok((found_line(&found) + &line).into())
+}
+
+fn form(name: &[u8]) -> Result<Form, Failure> {
+    match name {
+        b"text" => Ok(Form::Text),
+        b"binary" => Ok(Form::Binary),
+        _ => Err(Failure::Usage("text or binary")),
+    }
+}
+
+fn typed(letter: &[u8], large: bool) -> Result<Named<'static>, Failure> {
+    match *letter {
+        [letter] => Ok(Named::Variable { letter, large }),
+        // Not one letter: no type at all, so it is 6 like any unknown one.
+        _ => Err(Refusal::new(oracle::refusal::UNKNOWN_CODE, 0).into()),
+    }
+}
+
+fn number(word: &[u8]) -> Result<usize, Failure> {
+    let word = std::str::from_utf8(word).ok();
+    word.and_then(|word| word.parse().ok())
+        .ok_or(Failure::Usage("a number was expected"))
+}
+
+fn bytes_of_hex(word: &[u8]) -> Result<Vec<u8>, Failure> {
+    let wrong = || Failure::Usage("an even number of hexadecimal digits was expected");
+    let digit = |character: &u8| (*character as char).to_digit(16).ok_or_else(wrong);
+    let digits = word.iter().map(digit).collect::<Result<Vec<u32>, _>>()?;
+    if !digits.len().is_multiple_of(2) {
+        return Err(wrong());
+    }
+    let pairs = digits.chunks_exact(2);
+    Ok(pairs.map(|pair| (pair[0] * 16 + pair[1]) as u8).collect())
+}
+
+fn standard_input() -> Result<Vec<u8>, Failure> {
+    let mut stream = Vec::new();
+    io::stdin().read_to_end(&mut stream)?;
+    Ok(stream)
+}

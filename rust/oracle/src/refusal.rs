@@ -1,0 +1,69 @@
+//! The numbers a vendor sees, and the place that comes with each.
+
+/// A refused call: 01's number, and the place in the stream's own measure.
+#[derive(Clone, Copy, Debug, PartialEq, Eq)]
+pub struct Refusal {
+    pub number: u8,
+    pub place: usize,
+}
+
+impl Refusal {
+    pub fn new(number: u8, place: usize) -> Self {
+        Refusal { number, place }
+    }
+}
+
+/// Stream longer than 4,194,304 characters or 3,145,728 bytes.
+pub const TOO_LONG: u8 = 1;
+/// Whole-stream conversion: not whole units.
+pub const NOT_WHOLE_UNITS: u8 = 2;
+/// Output room too small.
+pub const ROOM: u8 = 3;
+/// Header or full size passes the end of stream or enclosing group.
+pub const PAST_END: u8 = 4;
+/// Character outside the alphabet.
+pub const CHARACTER: u8 = 5;
+/// Code unknown or reserved.
+pub const UNKNOWN_CODE: u8 = 6;
+/// Genus/version required but not `AAACAA`.
+pub const GENUS_VERSION: u8 = 7;
+/// Pad bit or lead byte not zero.
+pub const NOT_ZERO: u8 = 8;
+/// Selector 5, 6, 8, 9 with n = 0.
+pub const LEAD_WITHOUT_VALUE: u8 = 9;
+/// Tag prepad not `_`.
+pub const PREPAD: u8 = 10;
+/// Group standing within 16 groups already.
+pub const TOO_DEEP: u8 = 11;
+/// Writer: raw length or tag length unfit for the code.
+pub const UNFIT_LENGTH: u8 = 12;
+/// Walk state unfit for the stream.
+pub const UNFIT_STATE: u8 = 13;
+/// Primitive asked for, group or genus/version found.
+pub const NOT_A_PRIMITIVE: u8 = 14;
+
+#[cfg(test)]
+mod tests {
+    use super::*;
+
+    #[test]
+    fn the_numbers_are_one_to_fourteen_in_01s_order() {
+        let numbers = [
+            TOO_LONG,
+            NOT_WHOLE_UNITS,
+            ROOM,
+            PAST_END,
+            CHARACTER,
+            UNKNOWN_CODE,
+            GENUS_VERSION,
+            NOT_ZERO,
+            LEAD_WITHOUT_VALUE,
+            PREPAD,
+            TOO_DEEP,
+            UNFIT_LENGTH,
+            UNFIT_STATE,
+            NOT_A_PRIMITIVE,
+        ];
+        assert!(numbers.iter().copied().eq(1..=14));
+    }
+}

@@ -1,0 +1,363 @@
+//! Seeded noise: nothing panics, and what 01 says of every report holds.
+
+mod common;
+
+use common::binary;
+use oracle::convert::{to_binary, to_text};
+use oracle::form::Form;
+use oracle::frame::frame_top_level;
+use oracle::primitive::{read_binary, read_text, write, Named, Primitive, Tag};
+use oracle::registry::{Code, FIXED, VARIABLE};
+use oracle::report::{report, write_report, Report};
+use oracle::walk::{step, Found, Walk};
+
+/// Accepted and refused items, and what cannot be framed.
+#[rustfmt::skip]
+const PIECES: [&str; 24] = [
+    "MAAB", "MQAA", "0HD_____", "0HEAAAAA", "VABh", "VBAA", "1AAM", "4BAA", "5BAA", "5BABAGhp",
+    "6BABAABh", "0J_A", "0JAA", "-_AAACAA", "-_AAABAA", "7AABAAABAAAA", "XABC", "-0AA", "-AAA",
+    "-KAA", "bAAA", "1AAK", "MA!A", "0HAA==AA",
+];
+
+/// Marsaglia's xorshift with 64 bits.
+struct Noise(u64);
+
+impl Noise {
+    fn next(&mut self) -> u64 {
+        self.0 ^= self.0 << 13;
+        self.0 ^= self.0 >> 7;
+        self.0 ^= self.0 << 17;
+        self.0
+    }
+
+    fn below(&mut self, limit: usize) -> usize {
+        (self.next() % limit as u64) as usize
+    }
+
+    fn bytes(&mut self, length: usize) -> Vec<u8> {
+        (0..length).map(|_| self.next() as u8).collect()
+    }
+
+    fn characters(&mut self, length: usize) -> String {
+        const ALPHABET: &[u8; 64] =
+            b"ABCDEFGHIJKLMNOPQRSTUVWXYZabcdefghijklmnopqrstuvwxyz0123456789-_";
+        let mut one = || ALPHABET[self.below(64)] as char;
+        (0..length).map(|_| one()).collect()
+    }
+
+    /// A stream of pieces that are likely to be framed, whole or not.
+    fn likely(&mut self, pieces: usize) -> String {
+        let mut stream = String::new();
+        for _ in 0..pieces {
+            if self.below(40) == 0 {
+                // Fifteen to seventeen groups, each holding just the next.
+                let groups = 15 + self.below(3) as u8;
+                let header = |inner: u8| format!("-JA{}", (b'A' + inner) as char);
+                stream += &(0..groups).rev().map(header).collect::<String>();
+            } else if self.below(3) == 0 {
+                let letter = b"ABCJKLZ"[self.below(7)] as char;
+                let count = (b'A' + self.below(7) as u8) as char;
+                let large = self.below(4) == 0;
+                stream += &if large {
+                    format!("--{letter}AAAA{count}")
+                } else {
+                    format!("-{letter}A{count}")
+                };
+            } else {
+                stream += PIECES[self.below(PIECES.len())];
+            }
+        }
+        stream
+    }
+}
+
+/// Every call on one stream, at several offsets and states.
+fn try_every_call(noise: &mut Noise, stream: &[u8]) {
+    let mut out = vec![0; noise.below(600)];
+    let _ = to_binary(stream, &mut out);
+    let _ = to_text(stream, &mut out);
+    for form in [Form::Text, Form::Binary] {
+        let _ = write_report(stream, form, &mut out);
+        check_report(stream, form);
+        check_walk(stream, form);
+        let mut state = Walk::start();
+        for end in state.ends.iter_mut().take(3) {
+            *end = noise.below(stream.len() + 2);
+        }
+        state.open = noise.below(5);
+        state.position = noise.below(stream.len() + 2);
+        state.first = noise.below(2) == 0;
+        let _ = step(state, stream, form);
+    }
+    for _ in 0..4 {
+        let offset = noise.below(stream.len() + 2);
+        let _ = read_text(stream, offset, &mut out);
+        let _ = read_binary(stream, offset);
+    }
+    let _ = read_text(stream, usize::MAX, &mut out);
+    let _ = read_binary(stream, usize::MAX);
+}
+
+/// 01, "The report": the rows tile the stream, the counts agree, and every
+/// item has the verdict and the place that it gets by itself.
+fn check_report(stream: &[u8], form: Form) {
+    let found = report(stream, form).unwrap();
+    let mut offset = 0;
+    for (index, row) in found.items.iter().enumerate() {
+        assert_eq!(row.offset, offset);
+        offset += row.size;
+        let alone = report(&stream[row.offset..offset], form).unwrap();
+        assert_eq!((alone.items.len(), alone.remainder), (1, None));
+        assert_eq!(alone.items[0].verdict, row.verdict);
+        let own = alone.refusals.first().map(|r| (r.number, r.place));
+        let moved = own.map(|(number, place)| (index, number, place + row.offset));
+        let here = found.refusals.iter().find(|r| r.index == index);
+        assert_eq!(here.map(|r| (r.index, r.number, r.place)), moved);
+        assert_eq!(moved.map_or(0, |(_, number, _)| number), row.verdict);
+    }
+    assert_eq!(found.remainder.map_or(stream.len(), |r| r.offset), offset);
+    let accepted = found.items.iter().filter(|row| row.verdict == 0).count();
+    assert_eq!(found.items.len(), accepted + found.refusals.len());
+}
+
+/// The walk yields the report's items as its items of depth 0, and stops at
+/// the first refusal of the report in stream order.
+fn check_walk(stream: &[u8], form: Form) {
+    let found = report(stream, form).unwrap();
+    let (mut state, mut top_level) = (Walk::start(), Vec::new());
+    let last = loop {
+        match step(state, stream, form) {
+            (
+                next,
+                Found::Item {
+                    offset,
+                    size,
+                    depth,
+                    ..
+                },
+            ) => {
+                state = next;
+                if depth == 0 {
+                    top_level.push((offset, size));
+                }
+            }
+            (_, last) => break last,
+        }
+    };
+    let rows: Vec<_> = found.items.iter().map(|r| (r.offset, r.size)).collect();
+    assert!(rows.starts_with(&top_level));
+    match (found.refusals.first(), found.remainder) {
+        (Some(row), _) => {
+            let (number, place) = (row.number, row.place);
+            assert_eq!(last, Found::Refused { number, place });
+        }
+        (None, Some(rest)) => {
+            assert!(matches!(last, Found::Refused { number, .. } if number == rest.number))
+        }
+        (None, None) => assert_eq!((last, top_level.len()), (Found::End, rows.len())),
+    }
+}
+
+#[test]
+fn nothing_panics_on_bytes() {
+    let mut noise = Noise(0x0123_4567_89AB_CDEF);
+    for _ in 0..4000 {
+        let length = noise.below(120);
+        let stream = noise.bytes(length);
+        try_every_call(&mut noise, &stream);
+    }
+}
+
+#[test]
+fn nothing_panics_on_characters() {
+    let mut noise = Noise(0xFEED_FACE_CAFE_BEEF);
+    for _ in 0..4000 {
+        let length = noise.below(120);
+        let stream = noise.characters(length);
+        try_every_call(&mut noise, stream.as_bytes());
+    }
+}
+
+#[test]
+fn nothing_panics_on_likely_streams() {
+    let mut noise = Noise(0xDEAD_BEEF_0BAD_F00D);
+    for _ in 0..8000 {
+        let pieces = noise.below(16);
+        let mut stream = noise.likely(pieces).into_bytes();
+        stream.truncate(stream.len() - noise.below(2).min(stream.len()));
+        if !stream.is_empty() && noise.below(3) == 0 {
+            let place = noise.below(stream.len());
+            stream[place] = noise.next() as u8;
+        }
+        try_every_call(&mut noise, &stream);
+    }
+}
+
+#[test]
+fn the_noise_meets_every_number() {
+    // P03: a verdict is 4 to 11, a remainder's number 4 to 7.
+    let mut noise = Noise(0xDEAD_BEEF_0BAD_F00D);
+    let (mut verdicts, mut remainders) = ([0; 256], [0; 256]);
+    for _ in 0..8000 {
+        let pieces = noise.below(16);
+        let stream = noise.likely(pieces);
+        let found = report(stream.as_bytes(), Form::Text).unwrap();
+        for row in &found.items {
+            verdicts[usize::from(row.verdict)] += 1;
+        }
+        if let Some(rest) = found.remainder {
+            remainders[usize::from(rest.number)] += 1;
+        }
+    }
+    for number in 0..256 {
+        let verdict = number == 0 || (4..=11).contains(&number);
+        assert_eq!(verdicts[number] > 0, verdict, "verdict {number}");
+        let remainder = (4..=7).contains(&number);
+        assert_eq!(remainders[number] > 0, remainder, "remainder {number}");
+    }
+}
+
+/// Text measures as binary ones: four characters are three bytes. Odd places
+/// are none of an item's, and 5, which has them, is not in binary.
+fn in_bytes(report: &Report) -> Report {
+    let mut same = report.clone();
+    for row in &mut same.items {
+        (row.offset, row.size) = (row.offset / 4 * 3, row.size / 4 * 3);
+    }
+    for row in &mut same.refusals {
+        row.place = row.place / 4 * 3;
+    }
+    if let Some(rest) = &mut same.remainder {
+        rest.offset = rest.offset / 4 * 3;
+    }
+    same
+}
+
+#[test]
+fn text_and_binary_reports_agree() {
+    let mut noise = Noise(0x5EED_5EED_5EED_5EED);
+    for round in 0..8000 {
+        let pieces = noise.below(16);
+        let stream = if round % 2 == 0 {
+            noise.likely(pieces)
+        } else {
+            noise.characters(4 * pieces)
+        };
+        if stream.contains(['!', '=']) {
+            continue;
+        }
+        let text = report(stream.as_bytes(), Form::Text).unwrap();
+        let bytes = report(&binary(&stream), Form::Binary).unwrap();
+        assert_eq!(in_bytes(&text), bytes, "{stream}");
+    }
+}
+
+#[test]
+fn conversions_are_inverse() {
+    let mut noise = Noise(42);
+    for _ in 0..2000 {
+        let units = noise.below(20);
+        let stream = noise.characters(4 * units);
+        let mut back = vec![0; 4 * units];
+        assert_eq!(to_text(&binary(&stream), &mut back), Ok(4 * units));
+        assert_eq!(back, stream.as_bytes());
+    }
+}
+
+/// Writes to both forms and reads back.
+fn round_trip(named: Named, tag: &Tag, raw: &[u8]) -> Primitive {
+    let mut text = vec![0; 8 + 4 * 60];
+    let size = write(named, tag, raw, Form::Text, &mut text).unwrap();
+    let mut out = vec![0; raw.len()];
+    let found = read_text(&text[..size], 0, &mut out).unwrap();
+    assert_eq!((found.size, &out[..]), (size, raw));
+    assert_eq!(found.tag, *tag);
+    let mut bytes = vec![0; size / 4 * 3];
+    let length = write(named, tag, raw, Form::Binary, &mut bytes).unwrap();
+    assert_eq!(length, bytes.len());
+    let (same, part) = read_binary(&bytes, 0).unwrap();
+    assert_eq!((same.code, same.tag, part), (found.code, *tag, raw));
+    let whole = std::str::from_utf8(&text[..size]).unwrap();
+    assert_eq!(binary(whole), bytes);
+    found
+}
+
+#[test]
+fn every_fixed_code_is_written_and_read_back() {
+    let mut noise = Noise(7);
+    for row in FIXED.iter() {
+        for _ in 0..20 {
+            let raw = noise.bytes(row.raw());
+            let tag = Tag::of(noise.characters(row.tag).as_bytes());
+            let found = round_trip(Named::Fixed(row.code.as_bytes()), &tag, &raw);
+            assert_eq!((found.code, found.size), (Code::Fixed(row), row.full));
+        }
+    }
+}
+
+#[test]
+fn every_variable_type_is_written_and_read_back() {
+    let mut noise = Noise(11);
+    for (letter, _) in VARIABLE {
+        for length in 0..100 {
+            for large in [false, true] {
+                let raw = noise.bytes(length);
+                let named = Named::Variable { letter, large };
+                let found = round_trip(named, &Tag::NONE, &raw);
+                let lead = (3 - length % 3) % 3;
+                let first = if large { b'7' } else { b'4' };
+                let selector = first + lead as u8;
+                assert_eq!(found.code, Code::Variable { selector, letter });
+            }
+        }
+    }
+}
+
+#[test]
+fn damage_behind_a_header_stays_in_its_item() {
+    // Demand 3: rows of the items that are unchanged stay, and the remainder.
+    let mut noise = Noise(0xDA3A_6E00_0000_0001);
+    for _ in 0..4000 {
+        let pieces = 1 + noise.below(16);
+        let stream = noise.likely(pieces).into_bytes();
+        let before = report(&stream, Form::Text).unwrap();
+        if before.items.is_empty() {
+            continue;
+        }
+        let hit = noise.below(before.items.len());
+        let item = before.items[hit];
+        let framed = frame_top_level(&stream, Form::Text, item.offset).unwrap();
+        if framed.size == framed.header {
+            continue;
+        }
+        let mut damaged = stream.clone();
+        let place = framed.behind_header() + noise.below(framed.size - framed.header);
+        damaged[place] = noise.next() as u8;
+        let after = report(&damaged, Form::Text).unwrap();
+        assert_eq!(after.items.len(), before.items.len());
+        assert_eq!(after.remainder, before.remainder);
+        let pairs = before.items.iter().zip(&after.items).enumerate();
+        assert!(pairs.clone().all(|(i, (a, b))| i == hit || a == b));
+        assert_eq!(after.items[hit].size, item.size);
+    }
+}
+
+#[test]
+fn long_streams_take_linear_time() {
+    // The limit in the smallest items, and in sixteen groups around them.
+    let flat = "1AAK".repeat(1 << 20);
+    let found = report(flat.as_bytes(), Form::Text).unwrap();
+    assert_eq!((found.items.len(), found.refusals.len()), (1 << 20, 0));
+    let mut stream = "1AAK".repeat((1 << 20) - 32);
+    for _ in 0..16 {
+        let units = stream.len() / 4;
+        let digits = [18, 12, 6, 0].map(|shift| {
+            let value = (units >> shift) as u8 & 63;
+            oracle::alphabet::character(value) as char
+        });
+        stream = format!("--JA{}{stream}", digits.iter().collect::<String>());
+    }
+    assert_eq!(stream.len(), 4_194_304);
+    let found = report(stream.as_bytes(), Form::Text).unwrap();
+    assert_eq!((found.items.len(), found.refusals.len()), (1, 0));
+}

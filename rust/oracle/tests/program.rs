@@ -1,0 +1,141 @@
+//! The line protocol of the program.
+
+mod common;
+
+use common::hex;
+use std::io::Write;
+use std::process::{Command, Stdio};
+
+/// Exit status, standard output and standard error.
+fn run(words: &[&str], stream: &[u8]) -> (i32, Vec<u8>, String) {
+    let mut child = Command::new(env!("CARGO_BIN_EXE_oracle"))
+        .args(words)
+        .stdin(Stdio::piped())
+        .stdout(Stdio::piped())
+        .stderr(Stdio::piped())
+        .spawn()
+        .unwrap();
+    // A refused call may end without having read; that is no failure.
+    let _ = child.stdin.take().unwrap().write_all(stream);
+    let done = child.wait_with_output().unwrap();
+    let error = String::from_utf8_lossy(&done.stderr).into_owned();
+    (done.status.code().unwrap(), done.stdout, error)
+}
+
+fn answered(words: &[&str], stream: &[u8], answer: &[u8]) {
+    let found = run(words, stream);
+    assert_eq!(found, (0, answer.to_vec(), String::new()), "{words:?}");
+}
+
+fn refused(words: &[&str], stream: &[u8], answer: &str, error: &str) {
+    let found = run(words, stream);
+    assert_eq!(found, (1, answer.into(), format!("refused {error}\n")));
+}
+
+#[test]
+fn reports() {
+    let deck = hex(
+        "00000002 00000000 00000008 04 00000008 00000004 00 00000001 00000000 04 00000004 00000000",
+    );
+    answered(&["report", "text"], b"-AAB0AAAMAAB", &deck);
+    answered(&["report", "text", "--room", "53"], b"-AAB0AAAMAAB", &deck);
+    refused(
+        &["report", "text", "--room", "52"],
+        b"-AAB0AAAMAAB",
+        "",
+        "3 0",
+    );
+    let most = usize::MAX.to_string();
+    answered(&["report", "text", "--room", &most], b"", &[0; 12]);
+    answered(&["report", "binary"], b"", &[0; 12]);
+    refused(&["report", "text"], &vec![b'A'; 4_194_305], "", "1 0");
+}
+
+#[test]
+fn conversions() {
+    answered(&["convert", "to-binary"], b"1AAM", &[0xD4, 0, 0x0C]);
+    answered(&["convert", "to-text"], &[0xD4, 0, 0x0C], b"1AAM");
+    refused(&["convert", "to-binary"], b"1AA!", "", "5 3");
+    refused(&["convert", "to-binary"], b"1AA", "", "2 0");
+    refused(&["convert", "to-text", "--room", "3"], &[0; 3], "", "3 0");
+}
+
+#[test]
+fn reads() {
+    answered(
+        &["read", "text", "4"],
+        b"MAABWGhp",
+        b"code=W tag= raw=6869 size=4\n",
+    );
+    answered(
+        &["read", "text", "0"],
+        b"0J_A",
+        b"code=0J tag=A raw= size=4\n",
+    );
+    answered(
+        &["read", "binary", "0"],
+        &[0x54, 0, 0x61],
+        b"code=V tag= raw=61 size=3\n",
+    );
+    refused(&["read", "text", "0"], b"-AAA", "", "14 0");
+    refused(&["read", "text", "9"], b"MAAB", "", "4 9");
+    refused(&["read", "text", "0", "--room", "1"], b"MAAB", "", "3 0");
+}
+
+#[test]
+fn writes() {
+    answered(&["write", "text", "M", "--raw", "0001"], b"", b"MAAB");
+    answered(&["write", "text", "0J", "--tag", "A"], b"", b"0J_A");
+    answered(&["write", "binary", "1AAM"], b"", &[0xD4, 0, 0x0C]);
+    answered(
+        &["write", "text", "small", "B", "--raw", "6869"],
+        b"",
+        b"5BABAGhp",
+    );
+    answered(&["write", "text", "large", "B"], b"", b"7AABAAAA");
+    refused(&["write", "text", "-A"], b"", "", "6 0");
+    refused(&["write", "text", "small", "G"], b"", "", "6 0");
+    refused(&["write", "text", "X", "--tag", "A!A"], b"", "", "5 1");
+    refused(
+        &["write", "text", "Z", "--tag", "AAAAAAAAAAAA"],
+        b"",
+        "",
+        "12 0",
+    );
+    refused(&["write", "text", "1AAM", "--room", "3"], b"", "", "3 0");
+}
+
+#[test]
+fn walks_and_steps() {
+    answered(&["walk", "text"], b"-AABMAAB", b"0 8 0 -A\n4 4 1 M\n");
+    refused(&["walk", "text"], b"-AAB0AAAMAAB", "0 8 0 -A\n", "4 4");
+    let zeros = " 0".repeat(15);
+    let inside = format!("0 8 0 -A\n1 4 1 8{zeros}\n");
+    answered(
+        &["step", "text", "0", "0", "0"],
+        b"-AABMAAB",
+        inside.as_bytes(),
+    );
+    let end = format!("end\n0 4 0 0{zeros}\n");
+    answered(&["step", "text", "0", "4", "0"], b"MAAB", end.as_bytes());
+    refused(&["step", "text", "0", "0", "1"], b"MAAB", "", "13 0");
+    refused(&["step", "text", "17", "0", "0"], b"MAAB", "", "13 0");
+}
+
+#[test]
+fn help_and_wrong_usage() {
+    let (status, help, _) = run(&["--help"], b"");
+    assert_eq!(status, 0);
+    assert!(String::from_utf8_lossy(&help).contains("oracle report FORM"));
+    let calls: [&[&str]; 6] = [
+        &[],
+        &["report", "word"],
+        &["read", "text", "x"],
+        &["report", "text", "--room"],
+        &["write", "text", "M", "--raw", "0"],
+        &["convert", "back"],
+    ];
+    for words in calls {
+        assert_eq!(run(words, b"").0, 2, "{words:?}");
+    }
+}
