@@ -36,6 +36,15 @@ textToBinary s room =
     (pick (ltb room (length s / 4 * 3)) (B.Refused 3 (textOffset 0))
     (B.Written (binaryOffset (length s / 4 * 3))))))
 
+-- the answer as numbers: 0 and the length written, or 01's number and the place
+unfoldable pub toBinaryNumber : ToBinary → ℕ
+toBinaryNumber (B.Written n) = 0
+toBinaryNumber (B.Refused number place) = number
+
+unfoldable pub toBinaryValue : ToBinary → ℕ
+toBinaryValue (B.Written n) = n .0
+toBinaryValue (B.Refused number place) = place .0
+
 -- what a buffer that held d holds afterwards
 unfoldable pub binaryLeft : ToBinary → List ℕ → List ℕ → List ℕ
 binaryLeft (B.Written n) s d = toBinary s ++ drop (n .0) d
@@ -49,6 +58,14 @@ binaryToText s room =
     (pick (ltb 0 (length s % 3)) (T.Refused 2 (binaryOffset 0))
     (pick (ltb room (length s / 3 * 4)) (T.Refused 3 (binaryOffset 0))
     (T.Written (textOffset (length s / 3 * 4)))))
+
+unfoldable pub toTextNumber : ToText → ℕ
+toTextNumber (T.Written n) = 0
+toTextNumber (T.Refused number place) = number
+
+unfoldable pub toTextValue : ToText → ℕ
+toTextValue (T.Written n) = n .0
+toTextValue (T.Refused number place) = place .0
 
 unfoldable pub textLeft : ToText → List ℕ → List ℕ → List ℕ
 textLeft (T.Written n) s d = toText s ++ drop (n .0) d
