@@ -8,3 +8,5 @@ pub mod Cutting
 pub mod Judging
 pub mod Report
 pub mod Values
+pub mod Reading
+pub mod Writing

@@ -75,3 +75,57 @@ pub enum Verdict {
     Accepted,
     Refused { number: u8, place: usize },
 }
+
+// A primitive's code as a caller names it. Letters are characters of the alphabet.
+pub enum Code {
+    // a code of 1, 2 or 4 characters: a letter, `0` and a letter, `1AA` and a letter
+    Fixed { chars: u8, letter: u8 },
+    // a variable type, with the small or the large header
+    Small { letter: u8 },
+    Large { letter: u8 },
+}
+
+// A primitive that was read: its code, its full size in units, and where its raw value starts and how long it is, in bytes of the
+// binary form, from the item's start; how many tag characters there are.
+pub struct Primitive {
+    pub code: Code,
+    pub size: usize,
+    pub start: usize,
+    pub raw: usize,
+    pub tags: usize,
+}
+
+// What reading a primitive of a text answers.
+pub enum TextFound {
+    Found(Primitive),
+    Refused(u8, TextOffset),
+}
+
+// The same with the tag characters, unused places 0.
+pub struct TextRead {
+    pub found: TextFound,
+    pub tag: [u8; 11],
+}
+
+// What reading a primitive of a binary answers.
+pub enum BinaryFound {
+    Found(Primitive),
+    Refused(u8, BinaryOffset),
+}
+
+// The same with the tag characters, unused places 0.
+pub struct BinaryRead {
+    pub found: BinaryFound,
+    pub tag: [u8; 11],
+}
+
+// What writing a primitive answers: the length written, or a number and, for 5, the index of the tag character.
+pub enum TextWritten {
+    Written(TextOffset),
+    Refused(u8, usize),
+}
+
+pub enum BinaryWritten {
+    Written(BinaryOffset),
+    Refused(u8, usize),
+}
