@@ -94,7 +94,7 @@ same-digits : (at at′ : ℕ → ℕ) → Same 2 at at′ → digits4 at′ ≡
 same-digits at at′ s = rw (s 4 (omega arith), s 5 (omega arith), s 6 (omega arith), s 7 (omega arith))
 
 -- a header of two units, of a kind and a full size that the second one's digits give
-abbrev long : (ℕ → Kind) → (ℕ → ℕ) → (ℕ → ℕ) → ℕ → Framed
+abbrev pub long : (ℕ → Kind) → (ℕ → ℕ) → (ℕ → ℕ) → ℕ → Framed
 long kind size at len = second at len (fit (kind (digits4 at)) 2 (size (digits4 at)) len)
 
 long-good : (kind : ℕ → Kind) (size : ℕ → ℕ) → ((m : ℕ) → 2 ≤ size m) → ((m : ℕ) → Shaped (kind m) 2 (size m)) → (at : ℕ → ℕ) (len : ℕ)

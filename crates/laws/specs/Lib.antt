@@ -4,3 +4,6 @@ pub mod Conversion
 pub mod Registry
 pub mod Domains
 pub mod Framing
+pub mod Frames
+pub mod Judging
+pub mod Local
