@@ -156,6 +156,7 @@ module _ (frame : List ℕ → Framed) (judge : List ℕ → Verdict) where
         → ByItself frame judge zs (rowOf o xs n)
     unfolding rows remainder rowsOf remainderOf
     own-row zs xs o {k} {h} {n} e f = record {
+      framed = (k, h, rw (e, C.frame-take frame F xs f));
       own = judge (take n xs);
       one-row = rw (e, C.cut-own frame F xs f, item-length xs f, shift-zero (judge (take n xs)));
       nothing-left = rw (e, C.cut-own frame F xs f);

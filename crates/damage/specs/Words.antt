@@ -86,9 +86,10 @@ module _ (frame : List ℕ → Framed) where
     pub long : length ys ≡ length xs
     pub kept : (i : ℕ) → ((k : ℕ) → k < length rs → ¬ Behind xs (row rs k) i) → getD ys i 0 ≡ getD xs i 0
 
--- what the bytes of r's item get as a stream by themselves: one item with a verdict of its own, and no remainder. r has that
--- verdict, its place counted on from the item's offset
+-- what the bytes of r's item get as a stream by themselves: they are framed as one item, with a verdict of its own, and there
+-- is no remainder. r has that verdict, its place counted on from the item's offset
 pub record ByItself (frame : List ℕ → Framed) (judge : List ℕ → Verdict) (xs : List ℕ) (r : ItemRow) : Type 0 where
+  pub framed : (k : Kind) × (h : ℕ) × (frame (itemAt xs r) ≡ Item k h (r .size))
   pub own : Verdict
   pub one-row : rows frame judge (itemAt xs r) ≡ record { offset = 0; size = r .size; verdict = own } ∷ []
   pub nothing-left : remainder frame judge (itemAt xs r) ≡ []

@@ -35,6 +35,7 @@ Shaped Genus h n = (h ≡ 2) × (n ≡ 2)
 -- an item that the framing f found at these sextets, with so many units left
 pub record Lawful (f : (ℕ → ℕ) → ℕ → Framed) (at : ℕ → ℕ) (len : ℕ) (k : Kind) (h n : ℕ) : Type 0 where
   pub some : 0 < h
+  pub few : h ≤ 2
   pub inside : h ≤ n
   pub room : n ≤ len
   pub shape : Shaped k h n
@@ -73,17 +74,18 @@ same-known at at′ h i s l k = rw (s i (omega arith), s (i + 1) (omega arith), 
 
 -- ---- headers
 
-fit-good : (f : (ℕ → ℕ) → ℕ → Framed) (at : ℕ → ℕ) (k : Kind) (h n len : ℕ) → 0 < h → h ≤ n → Shaped k h n
+fit-good : (f : (ℕ → ℕ) → ℕ → Framed) (at : ℕ → ℕ) (k : Kind) (h n len : ℕ) → 0 < h → h ≤ 2 → h ≤ n → Shaped k h n
     → ((at′ : ℕ → ℕ) (len′ : ℕ) → Same h at at′ → n ≤ len′ → f at′ len′ ≡ fit k h n len′) → Good f at len (fit k h n len)
 unfolding fit
-fit-good f at k h n len a b w g =
+fit-good f at k h n len a t b w g =
     pick-by (Good f at len) (ltb len n) (Unframed 4 0) (Item k h n) (λ _. tt)
     (λ e. record {
       some = a;
+      few = t;
       inside = b;
       room = ltb-false len n e;
       shape = w;
-      alike = λ at′ len′ s l. g at′ len′ s l ∙ ap (λ t. pick t (Unframed 4 0) (Item k h n)) (le-ltb len′ n l);
+      alike = λ at′ len′ s l. g at′ len′ s l ∙ ap (λ b′. pick b′ (Unframed 4 0) (Item k h n)) (le-ltb len′ n l);
     })
 
 second-next : (at : ℕ → ℕ) (len : ℕ) (next : Framed) → 2 ≤ len → Known at 4 → second at len next ≡ next
@@ -102,7 +104,7 @@ long-good : (kind : ℕ → Kind) (size : ℕ → ℕ) → ((m : ℕ) → 2 ≤ 
 unfolding second
 long-good kind size big shaped at len =
     pick-by (Good (long kind size) at len) (ltb len 2) _ _ (λ _. tt) (λ _. known-by (Good (long kind size) at len) at 4 _ (λ j b. tt) (λ k.
-    fit-good (long kind size) at (kind (digits4 at)) 2 (size (digits4 at)) len (omega arith) (big _) (shaped _)
+    fit-good (long kind size) at (kind (digits4 at)) 2 (size (digits4 at)) len (omega arith) (omega arith) (big _) (shaped _)
     (λ at′ len′ s l. second-next at′ len′ _ (omega (arith, big (digits4 at))) (same-known at at′ 2 4 s (omega arith) k)
     ∙ ap (λ (m : ℕ). fit (kind m) 2 (size m) len′) (same-digits at at′ s))))
 
@@ -116,7 +118,7 @@ headed-good : (o : Opening) → Opens o → (at : ℕ → ℕ) (len : ℕ) → G
 unfolding headed extent
 headed-good Unknown o at len = tt
 headed-good (Short k n) o at len =
-    fit-good (headed (Short k n)) at k 1 n len (omega arith) (short-some k n o) (short-shaped k n o) (λ at′ len′ s l. refl)
+    fit-good (headed (Short k n)) at k 1 n len (omega arith) (omega arith) (short-some k n o) (short-shaped k n o) (λ at′ len′ s l. refl)
 headed-good (LargeVariable t l) o at len = long-good (Variable t l) (λ m. 2 + m) (λ m. omega arith) (λ m. (o, refl)) at len
 headed-good (LargeGroup l d) o at len = long-good (λ m. Group l) (λ m. 2 + (d * 16777216 + m)) (λ m. omega arith) (λ m. tt) at len
 headed-good Version o at len = long-good (λ m. Genus) (λ m. 2) (λ m. omega arith) (λ m. (refl, refl)) at len
@@ -139,6 +141,7 @@ module _ (op : ℕ → ℕ → ℕ → ℕ → Opening) (opens : (a b c d : ℕ)
   onward at len k (Unframed n p) g = tt
   onward at len k (Item kind h n) g = record {
     some = g .some;
+    few = g .few;
     inside = g .inside;
     room = g .room;
     shape = g .shape;
@@ -163,6 +166,7 @@ module _ (op : ℕ → ℕ → ℕ → ℕ → Opening) (opens : (a b c d : ℕ)
       → ((at′ : ℕ → ℕ) → Same h at at′ → ruled at′ (Item k h n) ≡ Item k h n) → Lawful (ruledWith op) at len k h n
   passed at len k h n g p = record {
     some = g .some;
+    few = g .few;
     inside = g .inside;
     room = g .room;
     shape = g .shape;

@@ -7,3 +7,4 @@ pub mod Framing
 pub mod Frames
 pub mod Judging
 pub mod Local
+pub mod Items
