@@ -35,7 +35,8 @@ pub record Demand2 : Type 0 where
       → toText b ≡ concat (λ r. toText (itemAt b r)) (rowsIn binary b) ++ toText (remainderAt (remainderIn binary b) b)
   -- each of them being such a stream again, so that no conversion refuses it
   pub text-parts : (t : List ℕ) → WholeText t
-      → ((k : ℕ) → k < length (rowsIn text t) → WholeText (itemAt t (row (rowsIn text t) k))) × WholeText (remainderAt (remainderIn text t) t)
+      → ((k : ℕ) → k < length (rowsIn text t) → WholeText (itemAt t (row (rowsIn text t) k)))
+      × WholeText (remainderAt (remainderIn text t) t)
   pub binary-parts : (b : List ℕ) → WholeBinary b
       → ((k : ℕ) → k < length (rowsIn binary b) → WholeBinary (itemAt b (row (rowsIn binary b) k)))
       × WholeBinary (remainderAt (remainderIn binary b) b)
@@ -53,8 +54,8 @@ pub record Changed (d : Domain) (xs ys : List ℕ) : Type 0 where
 
 pub record Demand3 (d : Domain) : Type 0 where
   -- "The report that demand 2 defines": 01's three sections, each after its count
-  pub sections : (xs : List ℕ)
-      → report d xs ≡ section rowBytes (rowsIn d xs) ++ (section refusalBytes (refusalsIn d xs) ++ section remainderBytes (remainderIn d xs))
+  pub sections : (xs : List ℕ) → report d xs ≡ section rowBytes (rowsIn d xs)
+      ++ (section refusalBytes (refusalsIn d xs) ++ section remainderBytes (remainderIn d xs))
   -- 01: "A header is the first unit, or the first two"
   pub headers : (xs : List ℕ) (k : ℕ) → k < length (rowsIn d xs)
       → let h = headOf (frameIn d (itemAt xs (row (rowsIn d xs) k))) in (h ≡ d .unit) ⊎ (h ≡ 2 * d .unit)

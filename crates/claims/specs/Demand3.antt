@@ -27,7 +27,9 @@ use Rattle.claims.specs.Claims.{Demand3}
 
 one-or-two : (u h h′ : ℕ) → h ≡ h′ * u → 0 < h′ → h′ < 3 → (h ≡ u) ⊎ (h ≡ 2 * u)
 one-or-two u h h′ e p t =
-    ⊎-elim (λ l. let z : h′ ≡ 1 = omega arith in inl (e ∙ rw (z, one-mul))) (λ g. let z : h′ ≡ 2 = omega arith in inr (e ∙ rw z)) (lt-or-ge h′ 2)
+    ⊎-elim (λ l. let z : h′ ≡ 1 = omega arith in inl (e ∙ rw (z, one-mul)))
+    (λ g. let z : h′ ≡ 2 = omega arith in inr (e ∙ rw z))
+    (lt-or-ge h′ 2)
 
 module _ (d : Domain) where
   head-units : (xs : List ℕ) {k : Kind} {h n : ℕ} → frameIn d xs ≡ Item k h n → (h ≡ d .unit) ⊎ (h ≡ 2 * d .unit)
