@@ -8,3 +8,4 @@ pub mod Cutting
 pub mod Judging
 pub mod Report
 pub mod Values
+pub mod Deck
