@@ -2,11 +2,11 @@
 -- by its characters' numbers, with the paper's own line behind it; what is expected is the paper's. Assumes nothing.
 use Prim.Native.Nat.{ℕ, zero, suc, _+_, _*_, _/_, _%_}
 use mathlib.Core.Path.{_≡_, refl}
-use mathlib.Core.List.{List, [], _∷_, map}
+use mathlib.Core.List.{List, [], _∷_}
 use lib.ListN.{length}
 use Rattle.base.specs.Each.{each}
 use Rattle.format.specs.declared.Framed.{Framed}
-use Rattle.format.specs.declared.Framed.the-variants.{Item}
+use Rattle.format.specs.declared.Framed.the-variants.{Item, Unframed}
 use Rattle.format.specs.declared.Verdict.{Verdict}
 use Rattle.format.specs.declared.Verdict.the-variants.{Accepted, Refused}
 use Rattle.format.specs.Alphabet.{sextetOf, charOf}
@@ -22,6 +22,7 @@ use Rattle.format.specs.Report.{placed, frameIn, judgeIn, rowsIn, remain
 use Rattle.format.specs.Report.{be4, verdictByte, rowBytes, refusalBytes, remainderBytes, concat, section, report}
 use Rattle.format.specs.Values.{bytesIn, rawStart, rawOf, tagOf}
 
+infixr 5 _&_
 -- ---- what 01 says of a stream
 
 pub data Expected : Type 0 where
@@ -109,7 +110,10 @@ abbrev pub valueBy : Expected → Framed → List ℕ → List ℕ
 valueBy (raw bytes) (Item k h n) s = rawOf k h s
 valueBy (tag chars) (Item k h n) s = tagOf k s
 valueBy (inBinary bytes) (Item k h n) s = bytesIn s
-valueBy e r s = []
+valueBy accepted (Item k h n) s = []
+valueBy (refused n p) (Item k h m) s = []
+valueBy (unframed n o) (Item k h m) s = []
+valueBy e (Unframed n p) s = []
 
 -- what the definitions give of a stream; to compute it is to open all of them
 unfoldable pub given : Domain → List ℕ → Expected → Seen
@@ -135,21 +139,31 @@ expected d xs (inBinary bytes) = only xs Accepted bytes
 expected d xs (refused n p) = only xs (Refused n (inDomain d p)) []
 expected d xs (unframed n o) = record { items = []; left = record { offset = inDomain d o; number = n } ∷ []; value = [] }
 
--- each stream, in the form that is asked, gives what is expected
-abbrev pub Holds : Domain → (List ℕ → List ℕ) → List Example → Type 0
-Holds d form es = map (λ e. given d (form (e .stream)) (e .gives)) es ≡ map (λ e. expected d (form (e .stream)) (e .gives)) es
+-- a stream, in the form that is asked, gives what is expected
+abbrev pub Gives : Domain → (List ℕ → List ℕ) → Example → Type 0
+Gives d form e = given d (form (e .stream)) (e .gives) ≡ expected d (form (e .stream)) (e .gives)
+
+-- and so do all
+pub data Holds (d : Domain) (form : List ℕ → List ℕ) : List Example → Type 0 where
+  end : Holds d form []
+  _&_ : {e : Example} {es : List Example} → Gives d form e → Holds d form es → Holds d form (e ∷ es)
 
 -- ---- the claim
 
 -- the deck, in text and in binary
 pub deck-holds : Holds text (λ s. s) deck × Holds binary toBinary deck
 unfolding given deck
-deck-holds = (refl, refl)
+deck-holds = (
+  refl & refl & refl & refl & refl & refl & refl & refl & refl & refl & refl & refl & refl & refl & refl & refl & refl &
+      refl & refl & refl & refl & refl & refl & refl & refl & refl & end,
+  refl & refl & refl & refl & refl & refl & refl & refl & refl & refl & refl & refl & refl & refl & refl & refl & refl &
+      refl & refl & refl & refl & refl & refl & refl & refl & refl & end,
+)
 
 -- the order, in text: some of its characters are outside the alphabet
 pub order-holds : Holds text (λ s. s) order
 unfolding given order
-order-holds = refl
+order-holds = refl & refl & refl & refl & refl & refl & refl & refl & refl & refl & end
 
 -- ---- reports
 
