@@ -5,14 +5,16 @@ use Prim.Native.Nat.{ℕ, _+_, _*_, _/_, _≤_, _<_}
 use mathlib.Core.Path.{_≡_}
 use mathlib.Core.List.{List, [], _++_}
 use mathlib.Core.Logic.{_⊎_}
-use lib.ListN.{length}
+use lib.ListN.{length, drop}
+use Rattle.format.specs.declared.Kind.{Kind}
 use Rattle.format.specs.declared.ToBinary.the-variants as B
 use Rattle.format.specs.declared.ToText.the-variants as T
-use Rattle.format.specs.Units.{Domain, text, binary}
+use Rattle.format.specs.Units.{Domain, text, binary, textSextets, binarySextets}
 use Rattle.format.specs.Offsets.{textOffset, binaryOffset}
 use Rattle.format.specs.Conversion.{toBinary, toText, textToBinary, binaryToText}
 use Rattle.format.specs.Report.{rowsIn, refusalsIn, remainderIn, refusal, frameIn, judgeIn}
 use Rattle.format.specs.Report.{rowBytes, refusalBytes, remainderBytes, concat, section, report}
+use Rattle.format.specs.Values.{rawStart, rawOf}
 use Rattle.damage.specs.Words.{row, itemAt, headOf, Alike, accepted, withIndex, Damaged, ByItself, Partition}
 use Rattle.claims.specs.Words.{WholeText, WholeBinary, SameReport, remainderAt}
 
@@ -28,6 +30,9 @@ pub record Demand2 : Type 0 where
   -- what is written is such a stream of the other form, and converts back to the first
   pub text-back : (t : List ℕ) → WholeText t → WholeBinary (toBinary t) × (toText (toBinary t) ≡ t)
   pub binary-back : (b : List ℕ) → WholeBinary b → WholeText (toText b) × (toBinary (toText b) ≡ b)
+  -- ".. and raw forms", reading: 01: "in B the raw value is always whole bytes at the item's end", whichever form is read
+  pub text-raw : (t : List ℕ) (k : Kind) (h : ℕ) → WholeText t → rawOf k h (textSextets t) ≡ drop (rawStart k h) (toBinary t)
+  pub binary-raw : (b : List ℕ) (k : Kind) (h : ℕ) → WholeBinary b → rawOf k h (binarySextets b) ≡ drop (rawStart k h) b
   -- "A whole stream converted at once equals its items, then any remainder, converted one by one,"
   pub text-items : (t : List ℕ) → WholeText t
       → toBinary t ≡ concat (λ r. toBinary (itemAt t r)) (rowsIn text t) ++ toBinary (remainderAt (remainderIn text t) t)

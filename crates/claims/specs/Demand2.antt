@@ -15,6 +15,7 @@ use Rattle.format.specs.Conversion.{toBinary, toText, firstStranger, textToBina
 use Rattle.laws.specs.Conversion.{length-to-binary, length-to-text, text-to-binary-sextets, binary-to-text-sextets}
 use Rattle.laws.specs.Conversion.{text-below, to-binary-below, text-back, binary-back, binary-joins, text-joins, no-stranger}
 use Rattle.laws.specs.Domains.{text-reader, binary-reader}
+use Rattle.laws.specs.Values.{text-raw, binary-raw}
 use Rattle.claims.specs.Words.{WholeText, WholeBinary}
 use Rattle.claims.specs.Ratio.{Same, same-report}
 use Rattle.claims.specs.Parts.{one-by-one, every-part}
@@ -118,6 +119,8 @@ demand2 = record {
   binary-converts = binary-converts;
   text-back = λ t w. (binary-whole t w, text-back t (w .quadlets) (w .alphabet));
   binary-back = λ b w. (text-whole b w, binary-back b (w .triplets) (w .bytes));
+  text-raw = λ t k h w. text-raw k h t;
+  binary-raw = λ b k h w. binary-raw k h b (w .triplets) (w .bytes);
   text-items = λ t w. one-by-one text text-reader toBinary binary-joins t;
   binary-items = λ b w. one-by-one binary binary-reader toText text-joins b;
   text-parts = every-part text text-reader (λ s. WholeText s) no-text text-takes text-drops;

@@ -46,8 +46,11 @@ module _ (d : Domain) (R : Reader d) where
         (g : Lawful f (sextet (d .sextets xs)) (length (d .sextets xs) / 4) k h′ n′) where
       in-elements : (0 < h) × (h ≤ n) × (n ≤ length xs)
       in-elements =
-          rw (eh, en)
-          (mul-pos (g .some) (R .pos), mul-le-mul-right (d .unit) (g .inside), le-div-iff-mul-le (R .pos) .0 (rw (R .units xs) at (g .room)))
+          rw (eh, en) (
+            mul-pos (g .some) (R .pos),
+            mul-le-mul-right (d .unit) (g .inside),
+            le-div-iff-mul-le (R .pos) .0 (rw (R .units xs) at (g .room)),
+          )
 
       alike-elements : (ys : List ℕ) → Agree h xs ys → n ≤ length ys → framedIn d f ys ≡ Item k h n
       unfolding scale

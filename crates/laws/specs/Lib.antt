@@ -8,3 +8,4 @@ pub mod Frames
 pub mod Judging
 pub mod Local
 pub mod Items
+pub mod Values
