@@ -133,26 +133,27 @@ same-ours at at′ s =
 abbrev pub ruledWith : (ℕ → ℕ → ℕ → ℕ → Opening) → (ℕ → ℕ) → ℕ → Framed
 ruledWith op at len = ruled at (frameWith op at len)
 
+-- what is lawful by one framing is so by another that finds it wherever the header is the same
+moved : (f g : (ℕ → ℕ) → ℕ → Framed) (at : ℕ → ℕ) (len : ℕ) (k : Kind) (h n : ℕ) → Lawful f at len k h n
+    → ((at′ : ℕ → ℕ) (len′ : ℕ) → Same h at at′ → n ≤ len′ → g at′ len′ ≡ Item k h n) → Lawful g at len k h n
+moved f g at len k h n l e =
+    record { some = l .some; few = l .few; inside = l .inside; room = l .room; shape = l .shape; alike = e }
+
 module _ (op : ℕ → ℕ → ℕ → ℕ → Opening) (opens : (a b c d : ℕ) → Opens (op a b c d)) where
   -- what a header obeys, the whole order obeys
   onward : (at : ℕ → ℕ) (len : ℕ) → Known at 0 → (r : Framed) → Good (headed (op (at 0) (at 1) (at 2) (at 3))) at len r
       → Good (frameWith op) at len r
   unfolding frameWith
   onward at len k (Unframed n p) g = tt
-  onward at len k (Item kind h n) g = record {
-    some = g .some;
-    few = g .few;
-    inside = g .inside;
-    room = g .room;
-    shape = g .shape;
-    alike = λ at′ len′ s l.
-        let e0 : at′ 0 ≡ at 0 = s 0 (omega arith) in
-        let e1 : at′ 1 ≡ at 1 = s 1 (omega arith) in
-        let e2 : at′ 2 ≡ at 2 = s 2 (omega arith) in
-        let e3 : at′ 3 ≡ at 3 = s 3 (omega arith) in
-        rw (le-ltb len′ 1 (omega arith))
-        (known-next at′ 0 _ (same-known at at′ h 0 s (omega arith) k) ∙ rw (e0, e1, e2, e3) (g .alike at′ len′ s l));
-  }
+  onward at len k (Item kind h n) g =
+      moved _ (frameWith op) at len kind h n g
+      (λ at′ len′ s l.
+      let e0 : at′ 0 ≡ at 0 = s 0 (omega arith) in
+      let e1 : at′ 1 ≡ at 1 = s 1 (omega arith) in
+      let e2 : at′ 2 ≡ at 2 = s 2 (omega arith) in
+      let e3 : at′ 3 ≡ at 3 = s 3 (omega arith) in
+      rw (le-ltb len′ 1 (omega arith))
+      (known-next at′ 0 _ (same-known at at′ h 0 s (omega arith) k) ∙ rw (e0, e1, e2, e3) (g .alike at′ len′ s l)))
 
   pub frameWith-good : (at : ℕ → ℕ) (len : ℕ) → Good (frameWith op) at len (frameWith op at len)
   unfolding frameWith
@@ -164,14 +165,8 @@ module _ (op : ℕ → ℕ → ℕ → ℕ → Opening) (opens : (a b c d : ℕ)
   -- an item that 7 lets pass wherever the header is the same
   passed : (at : ℕ → ℕ) (len : ℕ) (k : Kind) (h n : ℕ) → Lawful (frameWith op) at len k h n
       → ((at′ : ℕ → ℕ) → Same h at at′ → ruled at′ (Item k h n) ≡ Item k h n) → Lawful (ruledWith op) at len k h n
-  passed at len k h n g p = record {
-    some = g .some;
-    few = g .few;
-    inside = g .inside;
-    room = g .room;
-    shape = g .shape;
-    alike = λ at′ len′ s l. ap (ruled at′) (g .alike at′ len′ s l) ∙ p at′ s;
-  }
+  passed at len k h n g p =
+      moved (frameWith op) (ruledWith op) at len k h n g (λ at′ len′ s l. ap (ruled at′) (g .alike at′ len′ s l) ∙ p at′ s)
 
   ruled-good : (at : ℕ → ℕ) (len : ℕ) (r : Framed) → Good (frameWith op) at len r → Good (ruledWith op) at len (ruled at r)
   unfolding ruled
