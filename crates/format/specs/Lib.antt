@@ -10,3 +10,4 @@ pub mod Report
 pub mod Values
 pub mod Reading
 pub mod Writing
+pub mod Deck

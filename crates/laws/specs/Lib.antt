@@ -2,3 +2,10 @@ pub mod Alphabet
 pub mod Units
 pub mod Conversion
 pub mod Registry
+pub mod Domains
+pub mod Framing
+pub mod Frames
+pub mod Judging
+pub mod Local
+pub mod Items
+pub mod Values

@@ -1,0 +1,95 @@
+-- The demands of the mission, over the definitions of format. Statements only, a field a sentence, each below the mission's own
+-- words in quotes (01's where they say so). What the words mean is in Words, and in damage's Words. `Claims` is proved in Proved;
+-- the deck, in format's Deck. Assumes nothing.
+use Prim.Native.Nat.{ℕ, _+_, _*_, _/_, _≤_, _<_}
+use mathlib.Core.Path.{_≡_}
+use mathlib.Core.List.{List, [], _++_}
+use mathlib.Core.Logic.{_⊎_}
+use lib.ListN.{length, drop}
+use Rattle.format.specs.declared.Kind.{Kind}
+use Rattle.format.specs.declared.ToBinary.the-variants as B
+use Rattle.format.specs.declared.ToText.the-variants as T
+use Rattle.format.specs.Units.{Domain, text, binary, textSextets, binarySextets}
+use Rattle.format.specs.Offsets.{textOffset, binaryOffset}
+use Rattle.format.specs.Conversion.{toBinary, toText, textToBinary, binaryToText}
+use Rattle.format.specs.Report.{rowsIn, refusalsIn, remainderIn, refusal, frameIn, judgeIn}
+use Rattle.format.specs.Report.{rowBytes, refusalBytes, remainderBytes, concat, section, report}
+use Rattle.format.specs.Values.{rawStart, rawOf}
+use Rattle.damage.specs.Words.{row, itemAt, headOf, Alike, accepted, withIndex, Damaged, ByItself, Partition}
+use Rattle.claims.specs.Words.{WholeText, WholeBinary, SameReport, remainderAt}
+
+-- ---- demand 2: "A binary stream of whole triplets, or a text one of whole quadlets in the alphabet, either within the length
+-- limit, is the premise."
+
+pub record Demand2 : Type 0 where
+  -- "Text, binary .. forms convert each way": such a stream is not refused where there is room
+  pub text-converts : (t : List ℕ) (room : ℕ) → WholeText t → length t / 4 * 3 ≤ room
+      → textToBinary t room ≡ B.Written (binaryOffset (length t / 4 * 3))
+  pub binary-converts : (b : List ℕ) (room : ℕ) → WholeBinary b → length b / 3 * 4 ≤ room
+      → binaryToText b room ≡ T.Written (textOffset (length b / 3 * 4))
+  -- what is written is such a stream of the other form, and converts back to the first
+  pub text-back : (t : List ℕ) → WholeText t → WholeBinary (toBinary t) × (toText (toBinary t) ≡ t)
+  pub binary-back : (b : List ℕ) → WholeBinary b → WholeText (toText b) × (toBinary (toText b) ≡ b)
+  -- ".. and raw forms", reading: 01: "in B the raw value is always whole bytes at the item's end", whichever form is read
+  pub text-raw : (t : List ℕ) (k : Kind) (h : ℕ) → WholeText t → rawOf k h (textSextets t) ≡ drop (rawStart k h) (toBinary t)
+  pub binary-raw : (b : List ℕ) (k : Kind) (h : ℕ) → WholeBinary b → rawOf k h (binarySextets b) ≡ drop (rawStart k h) b
+  -- "A whole stream converted at once equals its items, then any remainder, converted one by one,"
+  pub text-items : (t : List ℕ) → WholeText t
+      → toBinary t ≡ concat (λ r. toBinary (itemAt t r)) (rowsIn text t) ++ toBinary (remainderAt (remainderIn text t) t)
+  pub binary-items : (b : List ℕ) → WholeBinary b
+      → toText b ≡ concat (λ r. toText (itemAt b r)) (rowsIn binary b) ++ toText (remainderAt (remainderIn binary b) b)
+  -- each of them being such a stream again, so that no conversion refuses it
+  pub text-parts : (t : List ℕ) → WholeText t
+      → ((k : ℕ) → k < length (rowsIn text t) → WholeText (itemAt t (row (rowsIn text t) k)))
+      × WholeText (remainderAt (remainderIn text t) t)
+  pub binary-parts : (b : List ℕ) → WholeBinary b
+      → ((k : ℕ) → k < length (rowsIn binary b) → WholeBinary (itemAt b (row (rowsIn binary b) k)))
+      × WholeBinary (remainderAt (remainderIn binary b) b)
+  -- "and its report is the same in text and binary, with offsets, sizes and places in the ratio four to three."
+  pub text-report : (t : List ℕ) → WholeText t → SameReport t (toBinary t)
+  pub binary-report : (b : List ℕ) → WholeBinary b → SameReport (toText b) b
+
+-- ---- demand 3
+
+-- "Take any stream within the length limit, and change whichever bytes you like, to whatever values, behind the headers of its
+-- top-level items. The length, every header and any unframed remainder stay."
+pub record Changed (d : Domain) (xs ys : List ℕ) : Type 0 where
+  pub within : length xs ≤ d .limit
+  pub behind : Damaged (frameIn d) (rowsIn d xs) xs ys
+
+pub record Demand3 (d : Domain) : Type 0 where
+  -- "The report that demand 2 defines": 01's three sections, each after its count
+  pub sections : (xs : List ℕ) → report d xs ≡ section rowBytes (rowsIn d xs)
+      ++ (section refusalBytes (refusalsIn d xs) ++ section remainderBytes (remainderIn d xs))
+  -- 01: "A header is the first unit, or the first two"
+  pub headers : (xs : List ℕ) (k : ℕ) → k < length (rowsIn d xs)
+      → let h = headOf (frameIn d (itemAt xs (row (rowsIn d xs) k))) in (h ≡ d .unit) ⊎ (h ≡ 2 * d .unit)
+  -- "then has the same items in the same order, at the same offsets and lengths,"
+  pub same-items : (xs ys : List ℕ) → Changed d xs ys → Alike (rowsIn d xs) (rowsIn d ys)
+  -- "and the same remainder."
+  pub same-remainder : (xs ys : List ℕ) → Changed d xs ys → remainderIn d ys ≡ remainderIn d xs
+  -- "Each unchanged item keeps its verdict and place of refusal."
+  pub unchanged : (xs ys : List ℕ) → Changed d xs ys → (k : ℕ) → k < length (rowsIn d xs)
+      → itemAt ys (row (rowsIn d ys) k) ≡ itemAt xs (row (rowsIn d xs) k) → row (rowsIn d ys) k .verdict ≡ row (rowsIn d xs) k .verdict
+  -- "Each changed item gets the verdict it would get as a stream by itself, its place counted on from the item's offset."
+  -- 01: "In each of them every item, changed or not"
+  pub by-itself : (xs : List ℕ) (k : ℕ) → k < length (rowsIn d xs) → ByItself (frameIn d) (judgeIn d) xs (row (rowsIn d xs) k)
+  -- 01: "An item with a verdict other than 0 has exactly one refusal row: its index in the whole stream, that verdict, and the
+  -- place that it gets by itself plus the item's offset."
+  pub refusal-rows : (xs : List ℕ) (k : ℕ) → k < length (rowsIn d xs)
+      → withIndex k (refusalsIn d xs) ≡ refusal k (row (rowsIn d xs) k .verdict)
+  -- 01: "There are no other refusal rows."
+  pub no-other : (xs : List ℕ) (k : ℕ) → length (rowsIn d xs) ≤ k → withIndex k (refusalsIn d xs) ≡ []
+  -- "Every byte of a stream lies in exactly one item, or else in the remainder."
+  pub partition : (xs : List ℕ) → Partition (length xs) (rowsIn d xs) (remainderIn d xs)
+  -- "The number of items is the accepted plus the refused,"
+  pub counts : (xs : List ℕ) → length (rowsIn d xs) ≡ accepted (rowsIn d xs) + length (refusalsIn d xs)
+  -- "and no remainder is counted as either": it has a section of its own, with at most one row
+  pub apart : (xs : List ℕ) → length (remainderIn d xs) ≤ 1
+
+-- ---- all of it
+
+pub record Claims : Type 0 where
+  pub demand2 : Demand2
+  pub demand3-text : Demand3 text
+  pub demand3-binary : Demand3 binary

@@ -1,0 +1,10 @@
+pub mod Words
+pub mod Claims
+pub mod Numbers
+pub mod Demand3
+pub mod Aligned
+pub mod Ratio
+pub mod Parts
+pub mod Demand2
+pub mod Proved
+pub mod Room

@@ -1,0 +1,187 @@
+-- 01, "The deck we check by": "Starred ones are proved over the definitions as one table under a single claim." Text is written
+-- by its characters' numbers, with the paper's own line behind it; what is expected is the paper's. Assumes nothing.
+use Prim.Native.Nat.{ℕ, zero, suc, _+_, _*_, _/_, _%_}
+use mathlib.Core.Path.{_≡_, refl}
+use mathlib.Core.List.{List, [], _∷_}
+use lib.ListN.{length}
+use Rattle.base.specs.Each.{each}
+use Rattle.format.specs.declared.Framed.{Framed}
+use Rattle.format.specs.declared.Framed.the-variants.{Item, Unframed}
+use Rattle.format.specs.declared.Verdict.{Verdict}
+use Rattle.format.specs.declared.Verdict.the-variants.{Accepted, Refused}
+use Rattle.format.specs.Alphabet.{sextetOf, charOf}
+use Rattle.format.specs.Units.{Domain, text, binary, bytesOf, sextetsOf, tripletOf, textSextets, binarySextets}
+use Rattle.format.specs.Conversion.{toBinary}
+use Rattle.format.specs.Registry.{codes, isType, isGroup, isOpaque, isOverrideable, fixedAmong, fixed, opening, extent}
+use Rattle.format.specs.Framing.{fit, known, second, headed, frameWith, isOurs, ruled, frame, frameRuled, scale}
+use Rattle.format.specs.Cutting.{cutBy, cutF, cut}
+use Rattle.format.specs.Judging.{shift, andThen, unless, scan, behind, hasLead, zeroBits, prepadRight, judgeKind, judgeBy}
+use Rattle.format.specs.Judging.{inTurn, frame4, frameRuled4, contents, ownCheck, group, judge}
+use Rattle.format.specs.Report.{ItemRow, RemainderRow, rowsOf, remainderOf, refusal, refusalsOf, rows, refusals, remainder}
+use Rattle.format.specs.Report.{placed, frameIn, judgeIn, rowsIn, remainderIn}
+use Rattle.format.specs.Report.{be4, verdictByte, rowBytes, refusalBytes, remainderBytes, concat, section, report}
+use Rattle.format.specs.Values.{bytesIn, rawStart, rawOf, tagOf}
+
+infixr 5 _&_
+-- ---- what 01 says of a stream
+
+pub data Expected : Type 0 where
+  accepted : Expected  -- one item, accepted
+  raw : List ℕ → Expected  -- one item, accepted, with this raw value
+  tag : List ℕ → Expected  -- one item, accepted, with these tag characters
+  inBinary : List ℕ → Expected  -- one item, accepted, which is this in B
+  refused : ℕ → ℕ → Expected  -- one item, refused: number, and place in text
+  unframed : ℕ → ℕ → Expected  -- no item, a remainder: number, and offset in text
+
+pub record Example : Type 0 where
+  pub stream : List ℕ  -- in text
+  pub gives : Expected
+
+abbrev pub example : List ℕ → Expected → Example
+example s e = record { stream = s; gives = e }
+
+-- so many groups, each but the last holding the next one alone
+unfoldable pub groups : ℕ → List ℕ
+groups zero = []
+groups (suc n) = 45 ∷ 65 ∷ 65 ∷ charOf n ∷ groups n
+
+-- ---- the deck, with the errors seen shipped
+
+unfoldable pub deck : List Example
+deck =
+    example (77 ∷ 65 ∷ 65 ∷ 66 ∷ []) (raw (0 ∷ 1 ∷ [])) ∷  -- `MAAB`* raw 00 01
+    example (77 ∷ 80 ∷ 95 ∷ 95 ∷ []) (raw (255 ∷ 255 ∷ [])) ∷  -- `MP__`* raw FF FF
+    example (77 ∷ 81 ∷ 65 ∷ 65 ∷ []) (refused 8 0) ∷  -- `MQAA`* 8
+    example (48 ∷ 72 ∷ 68 ∷ 95 ∷ 95 ∷ 95 ∷ 95 ∷ 95 ∷ []) accepted ∷  -- `0HD_____`* accepted
+    example (48 ∷ 72 ∷ 69 ∷ 65 ∷ 65 ∷ 65 ∷ 65 ∷ 65 ∷ []) (refused 8 0) ∷  -- `0HEAAAAA`* 8
+    example (86 ∷ 65 ∷ 66 ∷ 104 ∷ []) (raw (97 ∷ [])) ∷  -- `VABh`* raw 61
+    example (87 ∷ 71 ∷ 104 ∷ 112 ∷ []) (raw (104 ∷ 105 ∷ [])) ∷  -- `WGhp` raw 68 69
+    example (49 ∷ 65 ∷ 65 ∷ 77 ∷ []) (inBinary (212 ∷ 0 ∷ 12 ∷ [])) ∷  -- `1AAM` in B is D4 00 0C*
+    example (52 ∷ 66 ∷ 65 ∷ 65 ∷ []) (raw []) ∷  -- `4BAA` empty raw*
+    example (53 ∷ 66 ∷ 65 ∷ 65 ∷ []) (refused 9 0) ∷  -- `5BAA` 9*
+    example (53 ∷ 66 ∷ 65 ∷ 66 ∷ 65 ∷ 71 ∷ 104 ∷ 112 ∷ []) (raw (104 ∷ 105 ∷ [])) ∷  -- `5BABAGhp` raw 68 69
+    example (54 ∷ 66 ∷ 65 ∷ 66 ∷ 65 ∷ 65 ∷ 66 ∷ 104 ∷ []) (raw (97 ∷ [])) ∷  -- `6BABAABh` raw 61
+    example (53 ∷ 66 ∷ 65 ∷ 66 ∷ 65 ∷ 80 ∷ 65 ∷ 65 ∷ []) accepted ∷  -- `5BABAPAA` accepted
+    example (53 ∷ 66 ∷ 65 ∷ 66 ∷ 65 ∷ 81 ∷ 65 ∷ 65 ∷ []) (refused 8 0) ∷  -- `5BABAQAA` 8*
+    example (48 ∷ 74 ∷ 95 ∷ 65 ∷ []) (tag (65 ∷ [])) ∷  -- `0J_A` tag `A`
+    example (48 ∷ 74 ∷ 65 ∷ 65 ∷ []) (refused 10 0) ∷  -- `0JAA` 10*
+    example (45 ∷ 48 ∷ 65 ∷ 65 ∷ []) (unframed 6 0) ∷  -- `-0AA` 6
+    example (45 ∷ 65 ∷ 65 ∷ 65 ∷ []) accepted ∷  -- `-AAA` accepted
+    example (45 ∷ 65 ∷ 65 ∷ 66 ∷ 77 ∷ 65 ∷ 65 ∷ 66 ∷ []) accepted ∷  -- `-AABMAAB` accepted
+    example (45 ∷ 65 ∷ 65 ∷ 67 ∷ 77 ∷ 65 ∷ 65 ∷ 66 ∷ []) (unframed 4 0) ∷  -- `-AACMAAB` remainder 4 at 0*
+    example (45 ∷ 65 ∷ 65 ∷ 67 ∷ 45 ∷ 95 ∷ 65 ∷ 65 ∷ 65 ∷ 66 ∷ 65 ∷ 65 ∷ []) (refused 7 4) ∷  -- `-AAC-_AAABAA` 7 at 4*
+    example (45 ∷ 74 ∷ 65 ∷ 67 ∷ 45 ∷ 95 ∷ 65 ∷ 65 ∷ 65 ∷ 66 ∷ 65 ∷ 65 ∷ []) accepted ∷  -- `-JAC-_AAABAA` accepted*
+    example (groups 16) accepted ∷  -- sixteen nested groups accepted
+    example (groups 17) (refused 11 64) ∷  -- seventeen 11
+    example (45 ∷ 45 ∷ 65 ∷ 65 ∷ 65 ∷ 66 ∷ 65 ∷ 65 ∷ []) (unframed 4 0) ∷  -- `--AAABAA` heads a large group of 4,096 units
+    -- `E8wYuBjhslETYaLZcxMkWrhVbMcA8RS1pKYl7nJ77ntA` is refused 8
+    example
+    (69 ∷ 56 ∷ 119 ∷ 89 ∷ 117 ∷ 66 ∷ 106 ∷ 104 ∷ 115 ∷ 108 ∷ 69 ∷ 84 ∷ 89 ∷ 97 ∷ 76 ∷ 90 ∷ 99 ∷ 120 ∷ 77 ∷ 107 ∷ 87 ∷ 114 ∷
+    104 ∷ 86 ∷ 98 ∷ 77 ∷ 99 ∷ 65 ∷ 56 ∷ 82 ∷ 83 ∷ 49 ∷ 112 ∷ 75 ∷ 89 ∷ 108 ∷ 55 ∷ 110 ∷ 74 ∷ 55 ∷ 55 ∷ 110 ∷ 116 ∷ 65 ∷ [])
+    (refused 8 0) ∷
+    []
+
+-- ---- the order of the numbers: "Framing an item: 4 (first unit), 5 (its first bad character), 6, 4 (second unit), 5, 4 (extent)",
+-- "Judging a framed primitive: 5 behind the header, 9, 8, 10"
+
+unfoldable pub order : List Example
+order =
+    example (77 ∷ 33 ∷ 65 ∷ []) (unframed 4 0) ∷  -- `M!A`: 4 (first unit), then 5
+    example (98 ∷ 33 ∷ 33 ∷ 65 ∷ []) (unframed 5 0) ∷  -- `b!!A`: 5, then 6
+    example (55 ∷ 65 ∷ 65 ∷ 71 ∷ []) (unframed 6 0) ∷  -- `7AAG`: 6, then 4 (second unit)
+    example (55 ∷ 65 ∷ 65 ∷ 66 ∷ 33 ∷ 65 ∷ 65 ∷ []) (unframed 4 0) ∷  -- `7AAB!AA`: 4 (second unit), then 5
+    example (55 ∷ 65 ∷ 65 ∷ 66 ∷ 33 ∷ 65 ∷ 65 ∷ 66 ∷ []) (unframed 5 0) ∷  -- `7AAB!AAB`: 5, then 4 (extent)
+    example (45 ∷ 95 ∷ 65 ∷ 65 ∷ 65 ∷ 66 ∷ 65 ∷ 65 ∷ []) (unframed 7 0) ∷  -- `-_AAABAA`: at top level 7 is part of framing
+    example (48 ∷ 72 ∷ 69 ∷ 65 ∷ 65 ∷ 33 ∷ 65 ∷ 65 ∷ []) (refused 5 5) ∷  -- `0HEAA!AA`: 5 behind the header, then 8
+    example (56 ∷ 65 ∷ 65 ∷ 66 ∷ 65 ∷ 65 ∷ 65 ∷ 65 ∷ []) (refused 9 0) ∷  -- `8AABAAAA`: 9
+    example (45 ∷ 75 ∷ 65 ∷ 66 ∷ 65 ∷ 65 ∷ 33 ∷ 65 ∷ []) (refused 5 6) ∷  -- `-KABAA!A`: an opaque group, 5
+    -- `-AACMQAA_AAA`: the first refusal stands, with number and place
+    example (45 ∷ 65 ∷ 65 ∷ 67 ∷ 77 ∷ 81 ∷ 65 ∷ 65 ∷ 95 ∷ 65 ∷ 65 ∷ 65 ∷ []) (refused 8 4) ∷
+    []
+
+-- ---- what it means
+
+pub record Seen : Type 0 where
+  pub items : List ItemRow
+  pub left : List RemainderRow
+  pub value : List ℕ  -- what is asked of the item: raw value, tag characters, bytes; or nothing
+
+abbrev pub valueBy : Expected → Framed → List ℕ → List ℕ
+valueBy (raw bytes) (Item k h n) s = rawOf k h s
+valueBy (tag chars) (Item k h n) s = tagOf k s
+valueBy (inBinary bytes) (Item k h n) s = bytesIn s
+valueBy accepted (Item k h n) s = []
+valueBy (refused n p) (Item k h m) s = []
+valueBy (unframed n o) (Item k h m) s = []
+valueBy e (Unframed n p) s = []
+
+-- what the definitions give of a stream; to compute it is to open all of them
+unfoldable pub given : Domain → List ℕ → Expected → Seen
+unfolding groups charOf rows remainder rowsOf remainderOf cut cutF cutBy frameIn judgeIn placed frameRuled frame frameWith ruled
+    isOurs headed second known fit opening extent fixed fixedAmong codes isType isGroup isOpaque isOverrideable scale
+    textSextets sextetOf judge judgeBy judgeKind group ownCheck inTurn contents frame4 frameRuled4 andThen shift unless scan
+    behind zeroBits hasLead prepadRight binarySextets sextetsOf bytesOf tripletOf toBinary each rawStart rawOf tagOf bytesIn
+given d xs e = record { items = rowsIn d xs; left = remainderIn d xs; value = valueBy e (frame (d .sextets xs)) (d .sextets xs) }
+
+-- one item that is the whole stream
+abbrev pub only : List ℕ → Verdict → List ℕ → Seen
+only xs v value = record { items = record { offset = 0; size = length xs; verdict = v } ∷ []; left = []; value = value }
+
+-- a place in text as one in the domain
+abbrev pub inDomain : Domain → ℕ → ℕ
+inDomain d p = p / 4 * d .unit + p % 4
+
+abbrev pub expected : Domain → List ℕ → Expected → Seen
+expected d xs accepted = only xs Accepted []
+expected d xs (raw bytes) = only xs Accepted bytes
+expected d xs (tag chars) = only xs Accepted chars
+expected d xs (inBinary bytes) = only xs Accepted bytes
+expected d xs (refused n p) = only xs (Refused n (inDomain d p)) []
+expected d xs (unframed n o) = record { items = []; left = record { offset = inDomain d o; number = n } ∷ []; value = [] }
+
+-- a stream, in the form that is asked, gives what is expected
+abbrev pub Gives : Domain → (List ℕ → List ℕ) → Example → Type 0
+Gives d form e = given d (form (e .stream)) (e .gives) ≡ expected d (form (e .stream)) (e .gives)
+
+-- and so do all
+pub data Holds (d : Domain) (form : List ℕ → List ℕ) : List Example → Type 0 where
+  end : Holds d form []
+  _&_ : {e : Example} {es : List Example} → Gives d form e → Holds d form es → Holds d form (e ∷ es)
+
+-- ---- the claim
+
+-- the deck, in text and in binary
+pub deck-holds : Holds text (λ s. s) deck × Holds binary toBinary deck
+unfolding given deck
+deck-holds = (
+  refl & refl & refl & refl & refl & refl & refl & refl & refl & refl & refl & refl & refl & refl & refl & refl & refl &
+      refl & refl & refl & refl & refl & refl & refl & refl & refl & end,
+  refl & refl & refl & refl & refl & refl & refl & refl & refl & refl & refl & refl & refl & refl & refl & refl & refl &
+      refl & refl & refl & refl & refl & refl & refl & refl & refl & end,
+)
+
+-- the order, in text: some of its characters are outside the alphabet
+pub order-holds : Holds text (λ s. s) order
+unfolding given order
+order-holds = refl & refl & refl & refl & refl & refl & refl & refl & refl & refl & end
+
+-- ---- reports
+
+-- `-AAB0AAAMAAB`: 39 bytes, room 53
+abbrev pub two : List ℕ
+two = 45 ∷ 65 ∷ 65 ∷ 66 ∷ 48 ∷ 65 ∷ 65 ∷ 65 ∷ 77 ∷ 65 ∷ 65 ∷ 66 ∷ []
+
+pub report-39 : (report text two ≡ 0 ∷ 0 ∷ 0 ∷ 2
+    ∷ 0 ∷ 0 ∷ 0 ∷ 0 ∷ 0 ∷ 0 ∷ 0 ∷ 8 ∷ 4
+    ∷ 0 ∷ 0 ∷ 0 ∷ 8 ∷ 0 ∷ 0 ∷ 0 ∷ 4 ∷ 0
+    ∷ 0 ∷ 0 ∷ 0 ∷ 1
+    ∷ 0 ∷ 0 ∷ 0 ∷ 0 ∷ 4 ∷ 0 ∷ 0 ∷ 0 ∷ 4
+    ∷ 0 ∷ 0 ∷ 0 ∷ 0 ∷ [])
+    × (length (report text two) ≡ 39) × (17 + 18 * length (rowsIn text two) ≡ 53)
+unfolding given refusals refusalsOf refusal report section concat be4 rowBytes refusalBytes remainderBytes verdictByte
+report-39 = (refl, refl, refl)
+
+-- "Empty stream: twelve zero bytes, room 17"
+pub report-empty : (report text [] ≡ 0 ∷ 0 ∷ 0 ∷ 0 ∷ 0 ∷ 0 ∷ 0 ∷ 0 ∷ 0 ∷ 0 ∷ 0 ∷ 0 ∷ []) × (17 + 18 * length (rowsIn text []) ≡ 17)
+unfolding given refusals refusalsOf refusal report section concat be4 rowBytes refusalBytes remainderBytes verdictByte
+report-empty = (refl, refl)
