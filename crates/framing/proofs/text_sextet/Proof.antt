@@ -1,0 +1,35 @@
+use mathlib.Core.Path.{refl}
+use native.Mathlib.Omega.{arith}
+use Rattle.framing.proofs.Laws.{text-there, text-past}
+use borrow.Author.Needs.{needs}
+use Rattle.framing.proofs.text_sextet.Statement.{statement}
+use Rattle.framing.proofs.text_sextet.Tie as tie
+use Rattle.framing.proofs.text_sextet.Reads as reads
+use Rattle.framing.proofs.text_sextet.Lts as lts
+
+-- src/lib.rt:23:17
+shared-slice-read-c : tie.Need-shared-slice-read-c
+shared-slice-read-c c = search needs
+
+-- src/lib.rt:24:16
+cast-result : tie.Need-cast-result
+cast-result c = omega (arith, c .shared-slice-known .given (c .before .before .args .i))
+
+-- src/lib.rt:24:9
+element-copy-out-result : tie.Need-element-copy-out-result
+element-copy-out-result c = omega (arith, c .shared-slice-known .given (c .before .before .args .i))
+
+-- src/lib.rt:18:1
+returns : tie.Need-returns
+returns c =
+    let a = c .before .before .before in
+    text-there (a .args .values .now) (a .args .s .now) (a .args .i) _ (a .pre) (search needs) refl
+    (omega (arith, c .before .shared-slice-known .given (a .args .i)))
+
+-- src/lib.rt:18:1
+returns-2 : tie.Need-returns-2
+returns-2 c = text-past (c .before .args .s .now) (c .before .args .i) (search needs)
+
+pub text-sextet-spec : {M : Type 1} → statement M
+text-sextet-spec =
+    tie.close (tie.spec shared-slice-read-c cast-result element-copy-out-result returns returns-2)

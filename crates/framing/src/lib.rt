@@ -1,0 +1,306 @@
+// Framing an item: one header rule on sextets, which are read from either form. Sizes are in units, places in sextets from the
+// item's start. A part of a stream from the item's start to the enclosing end is lent.
+use format::Framed;
+use format::Kind;
+use format::Opening;
+ghost use mathlib.Core.Path.{_≡_};
+ghost use mathlib.Core.List.{_++_};
+ghost use lib.ListN.{getD};
+ghost use Prim.Native.Nat.{_+_, _*_, _≤_};
+ghost use Rattle.format.specs.Alphabet.{sextetTable};
+ghost use Rattle.format.specs.Units.{textSextets, binarySextets};
+ghost use Rattle.format.specs.Registry.{opening};
+ghost use Rattle.format.specs.Framing.{fit, known, second, headed, frameWith, isOurs, ruled, frame, frameRuled};
+ghost use Rattle.framing.specs.Heads.{unitOf, headOf};
+
+// ---- the first three units, as sextets; 0 past the end
+
+fn text_sextet(values: &[u8; 256], s: &[u8], i: usize) -> u8
+    requires { ⌜ now values ≡ sextetTable ⌝ }
+    ensures { λ r. ⌜ r ≡ getD (textSextets (now (s .entry))) i 0 ⌝ }
+{
+    if i < s.len() {
+        let c = s[i];
+        values[c as usize]
+    } else {
+        0
+    }
+}
+
+fn text_unit(values: &[u8; 256], s: &[u8], at: usize) -> [u8; 4]
+    requires { ⌜ (now values ≡ sextetTable) × (at ≤ 8) ⌝ }
+    ensures { λ r. ⌜ r ≡ unitOf (textSextets (now (s .entry))) at ⌝ }
+{
+    [
+        text_sextet(values, s, at),
+        text_sextet(values, s, at + 1),
+        text_sextet(values, s, at + 2),
+        text_sextet(values, s, at + 3),
+    ]
+}
+
+fn join(a: [u8; 4], b: [u8; 4], c: [u8; 4]) -> [u8; 12]
+    ensures { λ r. ⌜ r ≡ a ++ (b ++ c) ⌝ }
+{
+    [
+        a[0],
+        a[1],
+        a[2],
+        a[3],
+        b[0],
+        b[1],
+        b[2],
+        b[3],
+        c[0],
+        c[1],
+        c[2],
+        c[3],
+    ]
+}
+
+// The sextets of a text's first three units, 64 for a character outside the alphabet.
+pub fn text_head(s: &[u8]) -> [u8; 12]
+    ensures { λ r. ⌜ r ≡ headOf (textSextets (now (s .entry))) ⌝ }
+{
+    let values = alphabet::sextets();
+    let a = text_unit(&values, s, 0);
+    let b = text_unit(&values, s, 4);
+    let c = text_unit(&values, s, 8);
+    join(a, b, c)
+}
+
+fn binary_unit(s: &[u8], k: usize) -> [u8; 4]
+    requires { ⌜ k ≤ 2 ⌝ }
+    ensures { λ r. ⌜ r ≡ unitOf (binarySextets (now (s .entry))) (4 * k) ⌝ }
+{
+    let at = 3 * k;
+    if at + 3 <= s.len() {
+        units::unpack([s[at], s[at + 1], s[at + 2]])
+    } else {
+        [0, 0, 0, 0]
+    }
+}
+
+// The sextets of a binary's first three whole units.
+pub fn binary_head(s: &[u8]) -> [u8; 12]
+    ensures { λ r. ⌜ r ≡ headOf (binarySextets (now (s .entry))) ⌝ }
+{
+    let a = binary_unit(s, 0);
+    let b = binary_unit(s, 1);
+    let c = binary_unit(s, 2);
+    join(a, b, c)
+}
+
+// ---- the header rule
+
+fn fitted(kind: Kind, head: usize, size: usize, len: usize) -> Framed
+    ensures { λ r. ⌜ r ≡ fit kind head size len ⌝ }
+{
+    if len < size {
+        Framed::Unframed {
+            number: 4,
+            place: 0,
+        }
+    } else {
+        Framed::Item { kind, head, size }
+    }
+}
+
+// The first bad character of the second unit.
+fn known_second(cs: [u8; 12], next: Framed) -> Framed
+    ensures { λ r. ⌜ r ≡ known (λ i. getD cs i 0) 4 next ⌝ }
+{
+    if cs[4] >= 64 {
+        return Framed::Unframed {
+            number: 5,
+            place: 4,
+        };
+    }
+    if cs[5] >= 64 {
+        return Framed::Unframed {
+            number: 5,
+            place: 5,
+        };
+    }
+    if cs[6] >= 64 {
+        return Framed::Unframed {
+            number: 5,
+            place: 6,
+        };
+    }
+    if cs[7] >= 64 {
+        return Framed::Unframed {
+            number: 5,
+            place: 7,
+        };
+    }
+    next
+}
+
+fn seconded(cs: [u8; 12], len: usize, next: Framed) -> Framed
+    ensures { λ r. ⌜ r ≡ second (λ i. getD cs i 0) len next ⌝ }
+{
+    if len < 2 {
+        return Framed::Unframed {
+            number: 4,
+            place: 0,
+        };
+    }
+    known_second(cs, next)
+}
+
+// 6, and what stands behind it.
+fn frame_opening(op: Opening, cs: [u8; 12], len: usize) -> Framed
+    ensures { λ r. ⌜ r ≡ headed op (λ i. getD cs i 0) len ⌝ }
+{
+    let unit = [cs[4], cs[5], cs[6], cs[7]];
+    let size = registry::extent(op, unit);
+    match op {
+        Opening::Unknown => Framed::Unframed {
+            number: 6,
+            place: 0,
+        },
+        Opening::Short { kind, size } => fitted(kind, 1, size, len),
+        Opening::LargeVariable { letter, lead } => {
+            let count = registry::number(unit);
+            let kind = Kind::Variable {
+                letter,
+                lead,
+                count,
+            };
+            let item = fitted(kind, 2, size, len);
+            seconded(cs, len, item)
+        }
+        Opening::LargeGroup { letter, digit: _ } => {
+            let item = fitted(Kind::Group { letter }, 2, size, len);
+            seconded(cs, len, item)
+        }
+        Opening::Version => {
+            let item = fitted(Kind::Genus, 2, size, len);
+            seconded(cs, len, item)
+        }
+    }
+}
+
+// The first bad character of the first unit.
+fn known_first(cs: [u8; 12], next: Framed) -> Framed
+    ensures { λ r. ⌜ r ≡ known (λ i. getD cs i 0) 0 next ⌝ }
+{
+    if cs[0] >= 64 {
+        return Framed::Unframed {
+            number: 5,
+            place: 0,
+        };
+    }
+    if cs[1] >= 64 {
+        return Framed::Unframed {
+            number: 5,
+            place: 1,
+        };
+    }
+    if cs[2] >= 64 {
+        return Framed::Unframed {
+            number: 5,
+            place: 2,
+        };
+    }
+    if cs[3] >= 64 {
+        return Framed::Unframed {
+            number: 5,
+            place: 3,
+        };
+    }
+    next
+}
+
+// An item with these first sextets, which must end within so many units: 4, 5, 6, 4, 5, 4.
+pub fn frame_head(cs: [u8; 12], len: usize) -> Framed
+    ensures { λ r. ⌜ r ≡ frameWith opening (λ i. getD cs i 0) len ⌝ }
+{
+    if len < 1 {
+        return Framed::Unframed {
+            number: 4,
+            place: 0,
+        };
+    }
+    let op = registry::opening([cs[0], cs[1], cs[2], cs[3]]);
+    let item = frame_opening(op, cs, len);
+    known_first(cs, item)
+}
+
+fn is_ours(cs: [u8; 12]) -> bool
+    ensures { λ r. ⌜ r ≡ isOurs (λ i. getD cs i 0) ⌝ }
+{
+    let low = registry::number([cs[4], cs[5], cs[6], cs[7]]);
+    let high = registry::number([0, 0, cs[2], cs[3]]);
+    high * 16777216 + low == 8192
+}
+
+// The same where a genus/version must be `AAACAA`: then 7.
+pub fn frame_ruled_head(cs: [u8; 12], len: usize) -> Framed
+    ensures { λ r. ⌜ r ≡ ruled (λ i. getD cs i 0) (frameWith opening (λ i. getD cs i 0) len) ⌝ }
+{
+    let framed = frame_head(cs, len);
+    match framed {
+        Framed::Item {
+            kind,
+            head: _,
+            size: _,
+        } => match kind {
+            Kind::Fixed(_) => framed,
+            Kind::Variable {
+                letter: _,
+                lead: _,
+                count: _,
+            } => framed,
+            Kind::Group { letter: _ } => framed,
+            Kind::Genus => {
+                if is_ours(cs) {
+                    framed
+                } else {
+                    Framed::Unframed {
+                        number: 7,
+                        place: 0,
+                    }
+                }
+            }
+        },
+        Framed::Unframed {
+            number: _,
+            place: _,
+        } => framed,
+    }
+}
+
+// ---- either form
+
+// The item at the start of a part of a text.
+pub fn frame_text(s: &[u8]) -> Framed
+    ensures { λ r. ⌜ r ≡ frame (textSextets (now (s .entry))) ⌝ }
+{
+    let head = text_head(s);
+    frame_head(head, s.len() / 4)
+}
+
+// The item at the start of a part of a binary.
+pub fn frame_binary(s: &[u8]) -> Framed
+    ensures { λ r. ⌜ r ≡ frame (binarySextets (now (s .entry))) ⌝ }
+{
+    let head = binary_head(s);
+    frame_head(head, s.len() / 3)
+}
+
+// The same where 7 is asked.
+pub fn frame_ruled_text(s: &[u8]) -> Framed
+    ensures { λ r. ⌜ r ≡ frameRuled (textSextets (now (s .entry))) ⌝ }
+{
+    let head = text_head(s);
+    frame_ruled_head(head, s.len() / 4)
+}
+
+pub fn frame_ruled_binary(s: &[u8]) -> Framed
+    ensures { λ r. ⌜ r ≡ frameRuled (binarySextets (now (s .entry))) ⌝ }
+{
+    let head = binary_head(s);
+    frame_ruled_head(head, s.len() / 3)
+}
