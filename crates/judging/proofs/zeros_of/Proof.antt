@@ -1,0 +1,40 @@
+use borrow.Author.Tests.{eq-eqb, ne-eqb}
+use borrow.Author.Needs.{needs}
+use Rattle.judging.proofs.zeros_of.Statement.{statement}
+use Rattle.judging.proofs.zeros_of.Tie as tie
+use Rattle.judging.proofs.zeros_of.Reads as reads
+use Rattle.judging.proofs.zeros_of.Lts as lts
+use Rattle.judging.proofs.wide.Reads as wide-reads
+
+-- src/lib.rt:95:13
+wide-requires : tie.Need-wide-requires
+wide-requires c κs = search needs
+
+-- src/lib.rt:95:9
+mul-result : tie.Need-mul-result
+mul-result c = search needs
+
+-- src/lib.rt:95:29
+wide-requires-2 : tie.Need-wide-requires-2
+wide-requires-2 c κs = search needs
+
+-- src/lib.rt:95:25
+mul-result-2 : tie.Need-mul-result-2
+mul-result-2 c = search needs
+
+-- src/lib.rt:95:9
+add-result : tie.Need-add-result
+add-result c = search needs
+
+-- src/lib.rt:89:1
+returns : tie.Need-returns
+returns c = simp (eq-eqb _ _ (c .before .before .if1 .taken), c .wide2 .ensures .0, c .before .wide .ensures .0)
+
+-- src/lib.rt:89:1
+returns-2 : tie.Need-returns-2
+returns-2 c = simp (ne-eqb _ _ (c .if1 .left))
+
+pub zeros-of-spec : {M : Type 1} → statement M
+zeros-of-spec =
+    tie.close
+    (tie.spec wide-requires mul-result wide-requires-2 mul-result-2 add-result returns returns-2)
