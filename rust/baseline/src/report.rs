@@ -1,14 +1,14 @@
 //! The report: items, refusals, remainder.
 //!
-//! Two passes behind the search for strangers. The first frames the top-level
-//! items and counts them, so that the room is known before anything is
-//! written; the second judges them and writes their rows. Items of one size
-//! that follow each other are taken in a loop with a constant step, so that
-//! the processor need not wait for each header to know where the next one is.
+//! One pass behind the search for strangers frames and judges the top-level
+//! items and keeps their rows on the heap; the room is known after it. Items
+//! of one size that follow each other are taken in a loop with a constant
+//! step, so that the processor need not wait for each header to know where
+//! the next one is.
 
 use crate::alphabet::first_stranger;
 use crate::codes::{Class, ROWS};
-use crate::judge::{contents, frame, primitive, simple_size, Frame, Refused, Unit};
+use crate::judge::{contents, frame, primitive, Frame, Refused, Unit};
 use crate::{Form, Refusal, BINARY_LIMIT, TEXT_LIMIT};
 
 /// A row of the first two sections.
@@ -16,19 +16,21 @@ type Row = [u8; 9];
 
 /// The report in a buffer of its own: 1, else its bytes.
 pub fn report(stream: &[u8], form: Form) -> Result<Vec<u8>, Refusal> {
-    match form {
-        Form::Text => Ok(Deck::text(stream)?.report()),
-        Form::Binary => Ok(Deck::binary(stream)?.report()),
-    }
+    let rows = Rows::of(stream, form)?;
+    let mut bytes = vec![0; rows.length()];
+    rows.write(&mut bytes);
+    Ok(bytes)
 }
 
 /// The report into a lent buffer: 1, then 3 exactly if the room is below
 /// 17 + 18 x items, else the length written.
 pub fn write_report(stream: &[u8], form: Form, out: &mut [u8]) -> Result<usize, Refusal> {
-    match form {
-        Form::Text => Deck::text(stream)?.write(out),
-        Form::Binary => Deck::binary(stream)?.write(out),
+    let rows = Rows::of(stream, form)?;
+    if out.len() < 17 + 18 * rows.items.len() {
+        return Err(Refusal::new(3, 0));
     }
+    rows.write(out);
+    Ok(rows.length())
 }
 
 /// Where the next character outside the alphabet stands; binary has none.
@@ -59,88 +61,61 @@ impl Strangers<'_> {
     }
 }
 
-/// A stream whose top-level items are counted.
-struct Deck<'s, U> {
-    units: &'s [U],
-    strangers: Strangers<'s>,
-    items: usize,
+/// The rows of the three sections.
+#[derive(Default)]
+struct Rows {
+    items: Vec<Row>,
+    refusals: Vec<Row>,
     remainder: Option<(usize, u8)>,
 }
 
-impl<'s> Deck<'s, [u8; 4]> {
-    fn text(stream: &'s [u8]) -> Result<Self, Refusal> {
-        if stream.len() > TEXT_LIMIT {
-            return Err(Refusal::new(1, 0));
-        }
-        let (units, tail) = stream.as_chunks::<4>();
-        // Characters of a partial last unit are never looked at.
-        let strangers = Strangers::of(units.as_flattened());
-        Ok(Deck::counted(units, strangers, !tail.is_empty()))
+impl Rows {
+    fn of(stream: &[u8], form: Form) -> Result<Rows, Refusal> {
+        let (rows, tail) = match form {
+            Form::Text if stream.len() > TEXT_LIMIT => return Err(Refusal::new(1, 0)),
+            Form::Binary if stream.len() > BINARY_LIMIT => return Err(Refusal::new(1, 0)),
+            Form::Text => {
+                let (units, tail) = stream.as_chunks::<4>();
+                // Characters of a partial last unit are never looked at.
+                (judge_all(units, Strangers::of(units.as_flattened())), tail)
+            }
+            Form::Binary => {
+                let (units, tail) = stream.as_chunks::<3>();
+                (judge_all(units, Strangers::NONE), tail)
+            }
+        };
+        let partial = (!tail.is_empty()).then_some((stream.len() - tail.len(), 4));
+        let remainder = rows.remainder.or(partial);
+        Ok(Rows { remainder, ..rows })
+    }
+
+    /// The report's length.
+    fn length(&self) -> usize {
+        let rows = self.items.len() + self.refusals.len();
+        12 + 9 * rows + if self.remainder.is_some() { 5 } else { 0 }
+    }
+
+    /// Writes the sections to the buffer's start.
+    fn write(&self, out: &mut [u8]) {
+        let out = section(out, self.items.len(), self.items.as_flattened());
+        let out = section(out, self.refusals.len(), self.refusals.as_flattened());
+        match self.remainder {
+            None => section(out, 0, &[]),
+            Some((offset, number)) => {
+                let [a, b, c, d] = four(offset);
+                section(out, 1, &[a, b, c, d, number])
+            }
+        };
     }
 }
 
-impl<'s> Deck<'s, [u8; 3]> {
-    fn binary(stream: &'s [u8]) -> Result<Self, Refusal> {
-        if stream.len() > BINARY_LIMIT {
-            return Err(Refusal::new(1, 0));
-        }
-        let (units, tail) = stream.as_chunks::<3>();
-        Ok(Deck::counted(units, Strangers::NONE, !tail.is_empty()))
-    }
-}
-
-impl<'s, U: Unit> Deck<'s, U> {
-    fn counted(units: &'s [U], strangers: Strangers<'s>, partial: bool) -> Self {
-        let (items, stopped) = count(units, strangers);
-        let tail = partial.then_some((units.len(), 4));
-        let remainder = stopped.or(tail).map(|(at, number)| (at * U::SIZE, number));
-        Deck {
-            units,
-            strangers,
-            items,
-            remainder,
-        }
-    }
-
-    fn report(&self) -> Vec<u8> {
-        let mut bytes = vec![0; 4 + 9 * self.items];
-        let refusals = self.fill(&mut bytes);
-        bytes.extend(four(refusals.len()));
-        bytes.extend(refusals.as_flattened());
-        bytes.extend(four(usize::from(self.remainder.is_some())));
-        if let Some((offset, number)) = self.remainder {
-            bytes.extend(four(offset));
-            bytes.push(number);
-        }
-        bytes
-    }
-
-    fn write(&self, out: &mut [u8]) -> Result<usize, Refusal> {
-        if out.len() < 17 + 18 * self.items {
-            return Err(Refusal::new(3, 0));
-        }
-        let (items, rest) = out.split_at_mut(4 + 9 * self.items);
-        let refusals = self.fill(items);
-        let (count, rest) = rest.split_at_mut(4);
-        count.copy_from_slice(&four(refusals.len()));
-        let (rows, rest) = rest.split_at_mut(9 * refusals.len());
-        rows.copy_from_slice(refusals.as_flattened());
-        rest[..4].copy_from_slice(&four(usize::from(self.remainder.is_some())));
-        let mut length = 12 + 9 * (self.items + refusals.len());
-        if let Some((offset, number)) = self.remainder {
-            rest[4..8].copy_from_slice(&four(offset));
-            rest[8] = number;
-            length += 5;
-        }
-        Ok(length)
-    }
-
-    /// Writes the first section and gives the rows of the second.
-    fn fill(&self, section: &mut [u8]) -> Vec<Row> {
-        let (count, rows) = section.split_at_mut(4);
-        count.copy_from_slice(&four(self.items));
-        judge_all(self.units, self.strangers, rows.as_chunks_mut::<9>().0)
-    }
+/// Writes a count and the rows behind it, and gives the rest of the buffer.
+fn section<'o>(out: &'o mut [u8], count: usize, rows: &[u8]) -> &'o mut [u8] {
+    let (number, out) = out.split_at_mut(4);
+    number.copy_from_slice(&four(count));
+    let (part, out) = out.split_at_mut(rows.len());
+    part.copy_from_slice(rows);
+    out
 }
 
 /// Four bytes, big-endian. No offset or count here is above 4,194,304.
@@ -165,37 +140,18 @@ fn refusal_row<U: Unit>(index: usize, refused: Refused, stranger: usize) -> Row 
     [a, b, c, d, refused.number, e, f, g, h]
 }
 
-/// Frames the top-level items: their number, and where and why that stopped
-/// before the last whole unit.
-fn count<U: Unit>(units: &[U], mut strangers: Strangers) -> (usize, Option<(usize, u8)>) {
-    let (mut at, mut items) = (0, 0);
+/// Frames and judges the top-level items of whole units.
+fn judge_all<U: Unit>(units: &[U], mut strangers: Strangers) -> Rows {
+    let mut rows = Rows::default();
+    let mut at = 0;
     while at < units.len() {
         let bad = strangers.from::<U>(at);
-        let size = match frame::<U, true>(units, at, units.len(), bad) {
-            Err(number) => return (items, Some((at, number))),
-            Ok(item) if item.class == Class::OtherGenus => return (items, Some((at, 7))),
-            Ok(item) => item.size,
-        };
-        at += size;
-        items += 1;
-        let clean = &units[..bad.min(units.len())];
-        while at + size <= clean.len() && simple_size(clean[at].bits()) == size {
-            at += size;
-            items += 1;
-        }
-    }
-    (items, None)
-}
-
-/// Judges as many top-level items as there are rows, writes the rows, and
-/// gives those of the refusals.
-fn judge_all<U: Unit>(units: &[U], mut strangers: Strangers, rows: &mut [Row]) -> Vec<Row> {
-    let mut refusals = Vec::new();
-    let (mut at, mut index) = (0, 0);
-    while let Some(row) = rows.get_mut(index) {
-        let bad = strangers.from::<U>(at);
-        let Ok(item) = frame::<U, false>(units, at, units.len(), bad) else {
-            break;
+        let item = match top_level(units, at, bad) {
+            Ok(item) => item,
+            Err(number) => {
+                rows.remainder = Some((at * U::SIZE, number));
+                break;
+            }
         };
         let verdict = if bad < at + item.size {
             judge::<U, true>(units, at, &item, bad)
@@ -203,26 +159,38 @@ fn judge_all<U: Unit>(units: &[U], mut strangers: Strangers, rows: &mut [Row]) -
             judge::<U, false>(units, at, &item, bad)
         };
         let number = verdict.map_or_else(|refused| refused.number, |()| 0);
-        *row = item_row::<U>(at, item.size, number);
         if let Err(refused) = verdict {
-            refusals.push(refusal_row::<U>(index, refused, strangers.next));
+            let index = rows.items.len();
+            rows.refusals
+                .push(refusal_row::<U>(index, refused, strangers.next));
         }
-        index += 1;
+        rows.items.push(item_row::<U>(at, item.size, number));
         at += item.size;
         if number == 0 && matches!(item.class, Class::Plain | Class::FourZero) {
             let clean = &units[..bad.min(units.len())];
-            let taken = alike(clean, at, &item, &mut rows[index..]);
-            index += taken;
+            let taken = alike(clean, at, &item);
+            let offsets = (0..taken).map(|index| at + index * item.size);
+            rows.items
+                .extend(offsets.map(|at| item_row::<U>(at, item.size, 0)));
             at += taken * item.size;
         }
     }
-    refusals
+    rows
 }
 
-/// Writes the rows of accepted primitives like `item` from `at` on, and gives
-/// their number.
+/// Frames a top-level item: 7 follows.
 #[inline(always)]
-fn alike<U: Unit>(clean: &[U], mut at: usize, item: &Frame, rows: &mut [Row]) -> usize {
+fn top_level<U: Unit>(units: &[U], at: usize, bad: usize) -> Result<Frame, u8> {
+    let item = frame::<U, true>(units, at, units.len(), bad)?;
+    if item.class == Class::OtherGenus {
+        return Err(7);
+    }
+    Ok(item)
+}
+
+/// How many accepted primitives like `item` follow from `at` on.
+#[inline(always)]
+fn alike<U: Unit>(clean: &[U], mut at: usize, item: &Frame) -> usize {
     let like = ROWS[(item.bits >> 12) as usize];
     let zero = if item.class == Class::FourZero {
         0xF00
@@ -232,18 +200,13 @@ fn alike<U: Unit>(clean: &[U], mut at: usize, item: &Frame, rows: &mut [Row]) ->
     if usize::from(like.units) != item.size || like.count != 0 {
         return 0;
     }
-    let size = item.size;
     let mut taken = 0;
-    for row in rows {
-        if at + size > clean.len() {
-            break;
-        }
+    while at + item.size <= clean.len() {
         let bits = clean[at].bits();
         if ROWS[(bits >> 12) as usize] != like || bits & zero != 0 {
             break;
         }
-        *row = item_row::<U>(at, size, 0);
-        at += size;
+        at += item.size;
         taken += 1;
     }
     taken
