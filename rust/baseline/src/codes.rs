@@ -1,7 +1,7 @@
 //! The registry as one table by the first two sextets of an item.
 
 /// What the first two sextets say of an item.
-#[derive(Clone, Copy, Debug, PartialEq, Eq)]
+#[derive(Clone, Copy, Debug, PartialEq, Eq, PartialOrd)]
 #[repr(u8)]
 pub enum Class {
     Unknown,
@@ -27,17 +27,74 @@ pub enum Class {
     OtherGenus,
 }
 
-/// The full size in units is `units` and, for codes that count, the low twelve
-/// bits of the first unit. 0 for `Unknown` and `More`.
+/// An item has `behind` units behind its first, and for codes that count as
+/// many more as the low twelve bits of that one say.
 #[derive(Clone, Copy, Debug, PartialEq, Eq)]
 pub struct Row {
     pub class: Class,
-    pub units: u8,
+    pub behind: u8,
     pub count: u16,
 }
 
+/// What the last two sextets of a primitive's first unit must say, and the number if it does not.
+#[derive(Clone, Copy)]
+pub struct Check {
+    pub mask: u16,
+    pub want: u16,
+    pub number: u8,
+}
+
+impl Class {
+    /// Nothing is asked of a class that has no line of its own.
+    #[inline(always)]
+    pub fn check(self) -> Check {
+        CHECKS[self as usize]
+    }
+}
+
+static CHECKS: [Check; 13] = checks();
+
+const fn checks() -> [Check; 13] {
+    let mut checks = [Check {
+        mask: 0,
+        want: 0,
+        number: 0,
+    }; 13];
+    checks[Class::NotZero as usize] = Check {
+        mask: 0,
+        want: 1,
+        number: 8,
+    };
+    checks[Class::FourZero as usize] = Check {
+        mask: 0xF00,
+        want: 0,
+        number: 8,
+    };
+    checks[Class::Prepad as usize] = Check {
+        mask: 0xFC0,
+        want: 0xFC0,
+        number: 10,
+    };
+    checks
+}
+
+impl Row {
+    /// The row for the first two sextets of an item.
+    #[inline(always)]
+    pub fn of(code: u16) -> Row {
+        ROWS[usize::from(code & 0xFFF)]
+    }
+
+    /// Units behind the first, by its last two sextets. Without meaning for
+    /// `Unknown` and `More`.
+    #[inline(always)]
+    pub fn behind(self, low: u16) -> usize {
+        usize::from(self.behind) + usize::from(low & self.count)
+    }
+}
+
 /// By the first two sextets of an item.
-pub static ROWS: [Row; 4096] = rows();
+static ROWS: [Row; 4096] = rows();
 
 /// Sizes of `1AAA` to `1AAP` in units.
 pub const ONE: [u8; 16] = [12, 12, 20, 20, 39, 2, 9, 25, 12, 12, 1, 1, 1, 3, 1, 1];
@@ -61,13 +118,13 @@ const LOW_LINE: usize = 63;
 /// The group letters are `A` to `Z`, `a`, `b`, `c`.
 pub const LAST_GROUP: usize = 28;
 
-const UNKNOWN: Row = fixed(Class::Unknown, 0);
-const MORE: Row = fixed(Class::More, 0);
+const UNKNOWN: Row = fixed(Class::Unknown, 1);
+const MORE: Row = fixed(Class::More, 1);
 
 const fn fixed(class: Class, units: u8) -> Row {
     Row {
         class,
-        units,
+        behind: units - 1,
         count: 0,
     }
 }
@@ -75,7 +132,7 @@ const fn fixed(class: Class, units: u8) -> Row {
 const fn counted(class: Class) -> Row {
     Row {
         class,
-        units: 1,
+        behind: 0,
         count: 0xFFF,
     }
 }
@@ -148,9 +205,9 @@ pub const fn group(letter: usize) -> Class {
 }
 
 /// The first two sextets of the codes that need more of the header.
-pub const ONE_A: usize = 53 << 6;
-pub const SEVEN_A: usize = 59 << 6;
-pub const EIGHT_A: usize = 60 << 6;
-pub const NINE_A: usize = 61 << 6;
-pub const LARGE_GROUP: usize = DASH << 6 | DASH;
-pub const GENUS: usize = DASH << 6 | LOW_LINE;
+pub const ONE_A: u16 = 53 << 6;
+pub const SEVEN_A: u16 = 59 << 6;
+pub const EIGHT_A: u16 = 60 << 6;
+pub const NINE_A: u16 = 61 << 6;
+pub const LARGE_GROUP: u16 = (DASH << 6 | DASH) as u16;
+pub const GENUS: u16 = (DASH << 6 | LOW_LINE) as u16;

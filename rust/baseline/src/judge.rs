@@ -6,28 +6,40 @@
 //! such a stretch from its start to its end.
 
 use crate::alphabet::PAIRS;
-use crate::codes::{self, Class, ROWS};
+use crate::codes::{self, Class, Row};
 
 /// Units of a stream: four characters or three bytes each.
 pub trait Unit: Copy {
     const SIZE: usize;
-    /// The four sextets as one number.
-    fn bits(self) -> u32;
+    /// The first two sextets and the last two.
+    fn halves(self) -> (u16, u16);
+
+    /// All four as one number.
+    #[inline(always)]
+    fn bits(self) -> u32 {
+        let (high, low) = self.halves();
+        u32::from(high) << 12 | u32::from(low)
+    }
 }
 
 impl Unit for [u8; 4] {
     const SIZE: usize = 4;
     #[inline(always)]
-    fn bits(self) -> u32 {
+    fn halves(self) -> (u16, u16) {
         let [a, b, c, d] = self;
-        let high = PAIRS[usize::from(u16::from_le_bytes([a, b]))];
-        let low = PAIRS[usize::from(u16::from_le_bytes([c, d]))];
-        u32::from(high) << 12 | u32::from(low)
+        let pair = |first, second| PAIRS[usize::from(u16::from_le_bytes([first, second]))];
+        (pair(a, b), pair(c, d))
     }
 }
 
 impl Unit for [u8; 3] {
     const SIZE: usize = 3;
+    #[inline(always)]
+    fn halves(self) -> (u16, u16) {
+        let bits = self.bits();
+        ((bits >> 12) as u16, bits as u16 & 0xFFF)
+    }
+
     #[inline(always)]
     fn bits(self) -> u32 {
         let [a, b, c] = self;
@@ -41,7 +53,8 @@ pub struct Frame {
     pub size: usize,
     pub header: usize,
     pub class: Class,
-    pub bits: u32,
+    /// The last two sextets of the first unit.
+    pub low: u16,
 }
 
 /// The number of a refusal, with its place in units. The place of a 5 is the
@@ -56,223 +69,229 @@ fn refuse<T>(number: u8, place: usize) -> Result<T, Refused> {
     Err(Refused { number, place })
 }
 
-/// The full size of an item by its first unit; 0 if that does not decide.
+/// Frames the item that starts `left`, which is not empty and goes to the end
+/// of what is around. `clean` units from its start on have no stranger.
 #[inline(always)]
-pub fn simple_size(bits: u32) -> usize {
-    let row = ROWS[(bits >> 12) as usize];
-    usize::from(row.units) + (bits & u32::from(row.count)) as usize
-}
-
-/// Frames the item at `at`, which is before `end`. `bad` is the first unit
-/// from `at` on with a stranger in it.
-#[inline(always)]
-pub fn frame<U: Unit, const CAREFUL: bool>(
-    units: &[U],
-    at: usize,
-    end: usize,
-    bad: usize,
-) -> Result<Frame, u8> {
-    if CAREFUL && bad <= at {
+pub fn frame<U: Unit, const CAREFUL: bool>(left: &[U], clean: usize) -> Result<Frame, u8> {
+    if CAREFUL && clean < 1 {
         return Err(5);
     }
-    let bits = units[at].bits();
-    let row = ROWS[(bits >> 12) as usize];
-    let size = usize::from(row.units) + (bits & u32::from(row.count)) as usize;
-    if size == 0 {
-        return more::<U, CAREFUL>(units, at, end, bad);
-    }
-    if size > end - at {
-        return Err(4);
-    }
-    Ok(Frame {
-        size,
-        header: 1,
-        class: row.class,
-        bits,
-    })
+    let (code, low) = left[0].halves();
+    extent::<U, CAREFUL>(left, clean, code, low)
 }
 
-/// Frames an item whose first two sextets do not decide.
-fn more<U: Unit, const CAREFUL: bool>(
-    units: &[U],
-    at: usize,
-    end: usize,
-    bad: usize,
+/// The same for a first unit whose halves are known.
+#[inline(always)]
+fn extent<U: Unit, const CAREFUL: bool>(
+    left: &[U],
+    clean: usize,
+    code: u16,
+    low: u16,
 ) -> Result<Frame, u8> {
-    let bits = units[at].bits();
-    let (code, third, low) = (
-        (bits >> 12) as usize,
-        (bits >> 6) as usize & 63,
-        bits as usize & 63,
-    );
-    let (class, high) = match code {
-        codes::ONE_A => return one(end - at, bits),
-        codes::LARGE_GROUP if third <= codes::LAST_GROUP => (codes::group(third), low << 24),
-        codes::GENUS => (Class::OtherGenus, 0),
-        codes::SEVEN_A | codes::EIGHT_A | codes::NINE_A if third == 0 && codes::is_type(low) => {
-            (codes::lead((code - codes::SEVEN_A) >> 6), 0)
-        }
-        _ => return Err(6),
-    };
-    large::<U, CAREFUL>(units, at, end, bad, class, high)
+    let row = Row::of(code);
+    if row.class <= Class::More {
+        return more::<U, CAREFUL>(left, clean, code, low);
+    }
+    one_unit_header(left.len(), row.behind(low) + 1, row.class, low)
 }
 
-/// `1AAA` to `1AAP`.
-fn one(left: usize, bits: u32) -> Result<Frame, u8> {
-    let Some(size) = codes::ONE.get(bits as usize & 0xFFF) else {
-        return Err(6);
-    };
-    let size = usize::from(*size);
+#[inline(always)]
+fn one_unit_header(left: usize, size: usize, class: Class, low: u16) -> Result<Frame, u8> {
     if size > left {
         return Err(4);
     }
     Ok(Frame {
         size,
         header: 1,
-        class: Class::Plain,
-        bits,
+        class,
+        low,
     })
 }
 
-/// The second unit of a header of two.
-fn large<U: Unit, const CAREFUL: bool>(
-    units: &[U],
-    at: usize,
-    end: usize,
-    bad: usize,
-    class: Class,
-    high: usize,
+/// Frames an item whose first two sextets do not decide.
+fn more<U: Unit, const CAREFUL: bool>(
+    left: &[U],
+    clean: usize,
+    code: u16,
+    low: u16,
 ) -> Result<Frame, u8> {
-    if end - at < 2 {
-        return Err(4);
+    let (third, fourth) = (usize::from(low >> 6), usize::from(low & 63));
+    match code {
+        codes::ONE_A => match codes::ONE.get(usize::from(low)) {
+            Some(size) => one_unit_header(left.len(), usize::from(*size), Class::Plain, low),
+            None => Err(6),
+        },
+        codes::SEVEN_A | codes::EIGHT_A | codes::NINE_A if third == 0 && codes::is_type(fourth) => {
+            let count = second_unit::<U, CAREFUL>(left, clean)? as usize;
+            let class = codes::lead(usize::from(code - codes::SEVEN_A) >> 6);
+            two_unit_header(left.len(), count, class, low)
+        }
+        codes::LARGE_GROUP if third <= codes::LAST_GROUP => {
+            let digits = second_unit::<U, CAREFUL>(left, clean)? as usize;
+            let count = fourth << 24 | digits;
+            two_unit_header(left.len(), count, codes::group(third), low)
+        }
+        codes::GENUS => {
+            let second = second_unit::<U, CAREFUL>(left, clean)?;
+            // `-_AAACAA`: the second unit is `ACAA`.
+            let read = low == 0 && second == 2 << 12;
+            let class = if read {
+                Class::Genus
+            } else {
+                Class::OtherGenus
+            };
+            two_unit_header(left.len(), 0, class, low)
+        }
+        _ => Err(6),
     }
-    if CAREFUL && bad <= at + 1 {
-        return Err(5);
+}
+
+/// The second unit of a header of two: 4, 5, else its bits.
+#[inline(always)]
+fn second_unit<U: Unit, const CAREFUL: bool>(left: &[U], clean: usize) -> Result<u32, u8> {
+    match left.get(1) {
+        None => Err(4),
+        Some(_) if CAREFUL && clean < 2 => Err(5),
+        Some(unit) => Ok(unit.bits()),
     }
-    let bits = units[at].bits();
-    let low = units[at + 1].bits();
-    let (class, count) = match class {
-        // `-_AAACAA`: the second unit is `ACAA`.
-        Class::OtherGenus if bits & 0xFFF == 0 && low == 2 << 12 => (Class::Genus, 0),
-        Class::OtherGenus => (Class::OtherGenus, 0),
-        _ => (class, high | low as usize),
-    };
-    if count > end - at - 2 {
+}
+
+#[inline(always)]
+fn two_unit_header(left: usize, count: usize, class: Class, low: u16) -> Result<Frame, u8> {
+    if count > left - 2 {
         return Err(4);
     }
     Ok(Frame {
         size: count + 2,
         header: 2,
         class,
-        bits,
+        low,
     })
 }
 
-/// Judges a framed item that is no group and has no stranger in it.
+/// Judges a framed primitive or genus/version without strangers: 0, 9, 8, 10.
 #[inline(always)]
-pub fn primitive<U: Unit>(units: &[U], at: usize, item: &Frame) -> u8 {
-    match item.class {
-        Class::NotZero => 8,
-        Class::FourZero if item.bits & 0xF00 != 0 => 8,
-        Class::Prepad if item.bits & 0xFC0 != 0xFC0 => 10,
-        Class::Lead1 | Class::Lead2 => lead(units, at, item),
+pub fn primitive<U: Unit>(item: &[U], framed: &Frame) -> u8 {
+    let check = framed.class.check();
+    if framed.low & check.mask != check.want {
+        return check.number;
+    }
+    match framed.class {
+        Class::Lead1 => lead(&item[framed.header..], 16),
+        Class::Lead2 => lead(&item[framed.header..], 8),
         _ => 0,
     }
 }
 
 /// The lead bytes of a variable value: 9, then 8.
-fn lead<U: Unit>(units: &[U], at: usize, item: &Frame) -> u8 {
-    if item.size == item.header {
-        return 9;
-    }
-    let value = units[at + item.header].bits();
-    let shift = if item.class == Class::Lead1 { 16 } else { 8 };
-    if value >> shift != 0 {
-        8
-    } else {
-        0
+#[inline(always)]
+fn lead<U: Unit>(value: &[U], shift: u32) -> u8 {
+    match value.first() {
+        None => 9,
+        Some(unit) if unit.bits() >> shift != 0 => 8,
+        Some(_) => 0,
     }
 }
 
-/// The deepest place for a group.
+/// No group stands within more.
 const MOST_GROUPS: usize = 16;
 
-/// Judges the items in `from..to`, the contents of a top-level group.
+/// What is behind an open group in the one around it, and how deep that is.
+pub struct Around<'s, U> {
+    after: &'s [U],
+    depth: usize,
+}
+
+/// Judges the items of a top-level group's `body`, which starts at unit `at`;
+/// `bad` is the first unit with a stranger from there on.
 ///
 /// A group that ends where the one around it ends only makes the depth rise;
-/// any other keeps the end and the depth to come back to on the stack.
-pub fn contents<U: Unit, const CAREFUL: bool>(
-    units: &[U],
-    from: usize,
-    to: usize,
+/// any other leaves what is behind it on the stack.
+#[inline(never)]
+pub fn contents<'s, U: Unit, const CAREFUL: bool>(
+    body: &'s [U],
+    mut at: usize,
     bad: usize,
     mut first: bool,
+    open: &mut Vec<Around<'s, U>>,
 ) -> Result<(), Refused> {
-    let units = &units[..to];
-    let mut open = [(0usize, 0usize); MOST_GROUPS];
-    let (mut opened, mut depth, mut at, mut end) = (0, 1, from, to);
+    open.clear();
+    let (mut left, mut depth) = (body, 1);
     loop {
-        if at >= end {
-            if opened == 0 {
+        let Some((unit, rest)) = left.split_first() else {
+            let Some(around) = open.pop() else {
                 return Ok(());
-            }
-            opened -= 1;
-            (end, depth) = open[opened];
-            first = false;
+            };
+            (left, depth, first) = (around.after, around.depth, false);
+            continue;
+        };
+        let clean = bad.wrapping_sub(at);
+        if CAREFUL && clean < 1 {
+            return refuse(5, at);
         }
-        let item = match frame::<U, CAREFUL>(units, at, end, bad) {
+        let (code, low) = unit.halves();
+        let class = Row::of(code).class;
+        if let Class::Group | Class::Override = class {
+            let count = usize::from(low);
+            if count > rest.len() {
+                return refuse(4, at);
+            }
+            if depth >= MOST_GROUPS {
+                return refuse(11, at);
+            }
+            left = rest;
+            if count != rest.len() {
+                let (inner, after) = rest.split_at(count);
+                open.push(Around { after, depth });
+                left = inner;
+            }
+            (depth, first, at) = (depth + 1, class == Class::Override, at + 1);
+            continue;
+        }
+        let item = match extent::<U, CAREFUL>(left, clean, code, low) {
             Ok(item) => item,
             Err(number) => return refuse(number, at),
         };
+        let (whole, after) = left.split_at(item.size);
         if let Class::Group | Class::Override = item.class {
             if depth >= MOST_GROUPS {
                 return refuse(11, at);
             }
-            let inner = at + item.size;
-            if inner != end {
-                open[opened] = (end, depth);
-                opened += 1;
-                end = inner;
+            if !after.is_empty() {
+                open.push(Around { after, depth });
             }
-            depth += 1;
-            first = item.class == Class::Override;
-            at += item.header;
+            left = &whole[2..];
+            (depth, first, at) = (depth + 1, item.class == Class::Override, at + 2);
             continue;
         }
-        item_alone::<U, CAREFUL>(units, at, &item, bad, depth, first)?;
-        first = false;
-        at += item.size;
+        let number = alone::<U, CAREFUL>(whole, &item, clean, depth, first);
+        if number != 0 {
+            return refuse(number, at);
+        }
+        (left, first, at) = (after, false, at + item.size);
     }
 }
 
 /// Judges a framed item that is not opened: an inner 7, 11 and 5 of an opaque
 /// group, or a primitive's 5, 9, 8, 10.
 #[inline(always)]
-fn item_alone<U: Unit, const CAREFUL: bool>(
-    units: &[U],
-    at: usize,
+fn alone<U: Unit, const CAREFUL: bool>(
+    whole: &[U],
     item: &Frame,
-    bad: usize,
+    clean: usize,
     depth: usize,
     first: bool,
-) -> Result<(), Refused> {
-    if item.class == Class::Plain {
-        if CAREFUL && bad < at + item.size {
-            return refuse(5, at);
+) -> u8 {
+    if item.class > Class::Override {
+        if item.class == Class::OtherGenus && first {
+            return 7;
         }
-        return Ok(());
+        if item.class == Class::Opaque && depth >= MOST_GROUPS {
+            return 11;
+        }
     }
-    if item.class == Class::OtherGenus && first {
-        return refuse(7, at);
+    if CAREFUL && clean < item.size {
+        return 5;
     }
-    if item.class == Class::Opaque && depth >= MOST_GROUPS {
-        return refuse(11, at);
-    }
-    if CAREFUL && bad < at + item.size {
-        return refuse(5, at);
-    }
-    match primitive(units, at, item) {
-        0 => Ok(()),
-        number => refuse(number, at),
-    }
+    primitive(whole, item)
 }

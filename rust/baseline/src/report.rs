@@ -7,8 +7,8 @@
 //! the next one is.
 
 use crate::alphabet::first_stranger;
-use crate::codes::{Class, ROWS};
-use crate::judge::{contents, frame, primitive, Frame, Refused, Unit};
+use crate::codes::{Class, Row as Code};
+use crate::judge::{contents, frame, primitive, Around, Frame, Refused, Unit};
 use crate::{Form, Refusal, BINARY_LIMIT, TEXT_LIMIT};
 
 /// A row of the first two sections.
@@ -143,45 +143,68 @@ fn refusal_row<U: Unit>(index: usize, refused: Refused, stranger: usize) -> Row 
 /// Frames and judges the top-level items of whole units.
 fn judge_all<U: Unit>(units: &[U], mut strangers: Strangers) -> Rows {
     let mut rows = Rows::default();
+    let mut open = Vec::new();
     let mut at = 0;
     while at < units.len() {
         let bad = strangers.from::<U>(at);
-        let item = match top_level(units, at, bad) {
+        let left = &units[at..];
+        let item = match top_level(left, bad - at) {
             Ok(item) => item,
             Err(number) => {
                 rows.remainder = Some((at * U::SIZE, number));
                 break;
             }
         };
-        let verdict = if bad < at + item.size {
-            judge::<U, true>(units, at, &item, bad)
+        let whole = &left[..item.size];
+        let verdict = if bad - at < item.size {
+            judge::<U, true>(whole, at, &item, bad, &mut open)
         } else {
-            judge::<U, false>(units, at, &item, bad)
+            judge::<U, false>(whole, at, &item, bad, &mut open)
         };
-        let number = verdict.map_or_else(|refused| refused.number, |()| 0);
-        if let Err(refused) = verdict {
-            let index = rows.items.len();
-            rows.refusals
-                .push(refusal_row::<U>(index, refused, strangers.next));
+        match verdict {
+            Ok(()) => rows.items.push(item_row::<U>(at, item.size, 0)),
+            Err(refused) => rows.refuse::<U>(at, &item, refused, strangers.next),
         }
-        rows.items.push(item_row::<U>(at, item.size, number));
         at += item.size;
-        if number == 0 && matches!(item.class, Class::Plain | Class::FourZero) {
+        if matches!(item.class, Class::Plain | Class::FourZero) {
             let clean = &units[..bad.min(units.len())];
-            let taken = alike(clean, at, &item);
-            let offsets = (0..taken).map(|index| at + index * item.size);
-            rows.items
-                .extend(offsets.map(|at| item_row::<U>(at, item.size, 0)));
-            at += taken * item.size;
+            at += rows.accept_alike(clean, at, &item);
         }
     }
     rows
 }
 
+impl Rows {
+    /// The two rows of a refused item.
+    fn refuse<U: Unit>(&mut self, at: usize, item: &Frame, refused: Refused, stranger: usize) {
+        let row = refusal_row::<U>(self.items.len(), refused, stranger);
+        self.refusals.push(row);
+        self.items
+            .push(item_row::<U>(at, item.size, refused.number));
+    }
+
+    /// The rows of the accepted primitives like `item` that follow from `at`
+    /// on. Gives their size in all.
+    #[inline(always)]
+    fn accept_alike<U: Unit>(&mut self, clean: &[U], at: usize, item: &Frame) -> usize {
+        let before = clean
+            .get(at - item.size)
+            .map(|unit| Code::of(unit.halves().0));
+        let Some(like) = before.filter(|row| row.class == item.class && row.count == 0) else {
+            return 0;
+        };
+        let taken = alike(clean, at, item, like);
+        let offsets = (0..taken).map(|index| at + index * item.size);
+        let rows = offsets.map(|at| item_row::<U>(at, item.size, 0));
+        self.items.extend(rows);
+        taken * item.size
+    }
+}
+
 /// Frames a top-level item: 7 follows.
 #[inline(always)]
-fn top_level<U: Unit>(units: &[U], at: usize, bad: usize) -> Result<Frame, u8> {
-    let item = frame::<U, true>(units, at, units.len(), bad)?;
+fn top_level<U: Unit>(left: &[U], clean: usize) -> Result<Frame, u8> {
+    let item = frame::<U, true>(left, clean)?;
     if item.class == Class::OtherGenus {
         return Err(7);
     }
@@ -190,20 +213,12 @@ fn top_level<U: Unit>(units: &[U], at: usize, bad: usize) -> Result<Frame, u8> {
 
 /// How many accepted primitives like `item` follow from `at` on.
 #[inline(always)]
-fn alike<U: Unit>(clean: &[U], mut at: usize, item: &Frame) -> usize {
-    let like = ROWS[(item.bits >> 12) as usize];
-    let zero = if item.class == Class::FourZero {
-        0xF00
-    } else {
-        0
-    };
-    if usize::from(like.units) != item.size || like.count != 0 {
-        return 0;
-    }
+fn alike<U: Unit>(clean: &[U], mut at: usize, item: &Frame, like: Code) -> usize {
+    let check = like.class.check();
     let mut taken = 0;
     while at + item.size <= clean.len() {
-        let bits = clean[at].bits();
-        if ROWS[(bits >> 12) as usize] != like || bits & zero != 0 {
+        let (code, low) = clean[at].halves();
+        if Code::of(code) != like || low & check.mask != check.want {
             break;
         }
         at += item.size;
@@ -214,25 +229,21 @@ fn alike<U: Unit>(clean: &[U], mut at: usize, item: &Frame) -> usize {
 
 /// Judges a framed top-level item.
 #[inline(always)]
-fn judge<U: Unit, const CAREFUL: bool>(
-    units: &[U],
+fn judge<'s, U: Unit, const CAREFUL: bool>(
+    whole: &'s [U],
     at: usize,
     item: &Frame,
     bad: usize,
+    open: &mut Vec<Around<'s, U>>,
 ) -> Result<(), Refused> {
-    let end = at + item.size;
     if let Class::Group | Class::Override = item.class {
+        let body = &whole[item.header..];
         let first = item.class == Class::Override;
-        return contents::<U, CAREFUL>(units, at + item.header, end, bad, first);
+        return contents::<U, CAREFUL>(body, at + item.header, bad, first, open);
     }
-    if CAREFUL {
-        return Err(Refused {
-            number: 5,
-            place: at,
-        });
-    }
-    match primitive(units, at, item) {
+    let number = if CAREFUL { 5 } else { primitive(whole, item) };
+    match number {
         0 => Ok(()),
-        number => Err(Refused { number, place: at }),
+        _ => Err(Refused { number, place: at }),
     }
 }
