@@ -45,6 +45,12 @@ pub struct Check {
 }
 
 impl Class {
+    /// A group that is looked into.
+    #[inline(always)]
+    pub fn opens(self) -> bool {
+        matches!(self, Class::Group | Class::Override)
+    }
+
     /// Nothing is asked of a class that has no line of its own.
     #[inline(always)]
     pub fn check(self) -> Check {

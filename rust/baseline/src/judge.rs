@@ -218,7 +218,7 @@ pub fn contents<'s, U: Unit, const CAREFUL: bool>(
     open.clear();
     let (mut left, mut depth) = (body, 1);
     loop {
-        let Some((unit, rest)) = left.split_first() else {
+        let Some(unit) = left.first() else {
             let Some(around) = open.pop() else {
                 return Ok(());
             };
@@ -226,72 +226,61 @@ pub fn contents<'s, U: Unit, const CAREFUL: bool>(
             continue;
         };
         let clean = bad.wrapping_sub(at);
-        if CAREFUL && clean < 1 {
-            return refuse(5, at);
-        }
-        let (code, low) = unit.halves();
-        let class = Row::of(code).class;
-        if let Class::Group | Class::Override = class {
-            let count = usize::from(low);
-            if count > rest.len() {
-                return refuse(4, at);
-            }
-            if depth >= MOST_GROUPS {
-                return refuse(11, at);
-            }
-            left = rest;
-            if count != rest.len() {
-                let (inner, after) = rest.split_at(count);
-                open.push(Around { after, depth });
-                left = inner;
-            }
-            (depth, first, at) = (depth + 1, class == Class::Override, at + 1);
-            continue;
-        }
-        let item = match extent::<U, CAREFUL>(left, clean, code, low) {
+        let item = match item::<U, CAREFUL>(*unit, left, clean, depth, first) {
             Ok(item) => item,
             Err(number) => return refuse(number, at),
         };
         let (whole, after) = left.split_at(item.size);
-        if let Class::Group | Class::Override = item.class {
-            if depth >= MOST_GROUPS {
-                return refuse(11, at);
-            }
+        if item.class.opens() {
             if !after.is_empty() {
                 open.push(Around { after, depth });
             }
-            left = &whole[2..];
-            (depth, first, at) = (depth + 1, item.class == Class::Override, at + 2);
-            continue;
+            (left, at) = (&whole[item.header..], at + item.header);
+            (depth, first) = (depth + 1, item.class == Class::Override);
+        } else {
+            (left, at, first) = (after, at + item.size, false);
         }
-        let number = alone::<U, CAREFUL>(whole, &item, clean, depth, first);
-        if number != 0 {
-            return refuse(number, at);
-        }
-        (left, first, at) = (after, false, at + item.size);
     }
 }
 
-/// Judges a framed item that is not opened: an inner 7, 11 and 5 of an opaque
-/// group, or a primitive's 5, 9, 8, 10.
+/// Frames and judges the item that starts `left`; of a group that is opened
+/// the framing and 11.
 #[inline(always)]
-fn alone<U: Unit, const CAREFUL: bool>(
-    whole: &[U],
-    item: &Frame,
+fn item<U: Unit, const CAREFUL: bool>(
+    unit: U,
+    left: &[U],
     clean: usize,
     depth: usize,
     first: bool,
-) -> u8 {
-    if item.class > Class::Override {
-        if item.class == Class::OtherGenus && first {
-            return 7;
-        }
-        if item.class == Class::Opaque && depth >= MOST_GROUPS {
-            return 11;
-        }
+) -> Result<Frame, u8> {
+    if CAREFUL && clean < 1 {
+        return Err(5);
+    }
+    let (code, low) = unit.halves();
+    let class = Row::of(code).class;
+    if class.opens() {
+        let item = one_unit_header(left.len(), usize::from(low) + 1, class, low)?;
+        return if depth < MOST_GROUPS {
+            Ok(item)
+        } else {
+            Err(11)
+        };
+    }
+    let item = extent::<U, CAREFUL>(left, clean, code, low)?;
+    if item.class >= Class::Group && depth >= MOST_GROUPS && item.class <= Class::Opaque {
+        return Err(11);
+    }
+    if item.class.opens() {
+        return Ok(item);
+    }
+    if item.class == Class::OtherGenus && first {
+        return Err(7);
     }
     if CAREFUL && clean < item.size {
-        return 5;
+        return Err(5);
     }
-    primitive(whole, item)
+    match primitive(&left[..item.size], &item) {
+        0 => Ok(item),
+        number => Err(number),
+    }
 }
