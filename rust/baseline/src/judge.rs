@@ -217,6 +217,10 @@ pub fn contents<'s, U: Unit, const CAREFUL: bool>(
 ) -> Result<(), Refused> {
     open.clear();
     let (mut left, mut depth) = (body, 1);
+    if !CAREFUL {
+        let down = descend(left, depth, &mut first);
+        (left, at, depth) = (&left[down..], at + down, depth + down);
+    }
     loop {
         let Some(unit) = left.first() else {
             let Some(around) = open.pop() else {
@@ -241,6 +245,24 @@ pub fn contents<'s, U: Unit, const CAREFUL: bool>(
             (left, at, first) = (after, at + item.size, false);
         }
     }
+}
+
+/// How many small groups stand here of which each is all that is left of the
+/// one around it. Sets the mark of the last one.
+#[inline(always)]
+fn descend<U: Unit>(left: &[U], depth: usize, first: &mut bool) -> usize {
+    let most = left.len().min(MOST_GROUPS - depth);
+    let mut down = 0;
+    for unit in &left[..most] {
+        let (code, low) = unit.halves();
+        let class = Row::of(code).class;
+        if !class.opens() || usize::from(low) != left.len() - down - 1 {
+            break;
+        }
+        *first = class == Class::Override;
+        down += 1;
+    }
+    down
 }
 
 /// Frames and judges the item that starts `left`; of a group that is opened
