@@ -1,5 +1,5 @@
 //! Whole-stream conversion, as fast as tables go: twelve bits at a lookup, and
-//! stores of eight bytes that reach over where the next one begins.
+//! loads and stores of eight bytes that reach over where the next one begins.
 
 use crate::alphabet::{first_stranger, PAIRS, TWINS};
 use crate::{Refusal, BINARY_LIMIT, TEXT_LIMIT};
@@ -39,58 +39,62 @@ pub fn to_text(binary: &[u8], out: &mut [u8]) -> Result<usize, Refusal> {
     Ok(length)
 }
 
-/// Twelve bits of two characters.
+/// The 48 bits of eight characters, at the top of a number.
 #[inline(always)]
-fn twelve(a: u8, b: u8) -> u64 {
-    u64::from(PAIRS[usize::from(u16::from_le_bytes([a, b]))])
+fn high48(eight: [u8; 8]) -> u64 {
+    let word = u64::from_le_bytes(eight);
+    let twelve = |shift: u32| u64::from(PAIRS[usize::from((word >> shift) as u16)]);
+    twelve(0) << 52 | twelve(16) << 40 | twelve(32) << 28 | twelve(48) << 16
 }
 
-/// Two characters of twelve bits.
-#[inline(always)]
-fn twin(bits: u64) -> u64 {
-    u64::from(TWINS[bits as usize & 0xFFF])
-}
-
+/// Whole units in the alphabet, into just the room for them.
+///
+/// Eight bytes are stored where six are meant: the next store goes over the
+/// last two, and the last stores are of six and three bytes.
 fn pack(text: &[u8], out: &mut [u8]) {
     let (eights, last) = text.as_chunks::<8>();
-    let mut done = 0;
-    for eight in eights {
-        let [a, b, c, d, e, f, g, h] = *eight;
-        let bits =
-            twelve(a, b) << 52 | twelve(c, d) << 40 | twelve(e, f) << 28 | twelve(g, h) << 16;
-        let bytes = bits.to_be_bytes();
-        match out[done..].first_chunk_mut::<8>() {
-            Some(part) => *part = bytes,
-            None => out[done..done + 6].copy_from_slice(&bytes[..6]),
-        }
-        done += 6;
+    let (reaching, ending) = eights.split_at(eights.len().saturating_sub(1));
+    for (index, eight) in reaching.iter().enumerate() {
+        out[6 * index..6 * index + 8].copy_from_slice(&high48(*eight).to_be_bytes());
+    }
+    let mut rest = &mut out[6 * reaching.len()..];
+    if let [eight] = ending {
+        let (six, behind) = rest.split_at_mut(6);
+        six.copy_from_slice(&high48(*eight).to_be_bytes()[..6]);
+        rest = behind;
     }
     if let [a, b, c, d] = *last {
-        let bits = twelve(a, b) << 12 | twelve(c, d);
-        out[done..].copy_from_slice(&(bits as u32).to_be_bytes()[1..]);
+        let bits = high48([a, b, c, d, 0, 0, 0, 0]);
+        rest.copy_from_slice(&bits.to_be_bytes()[..3]);
     }
 }
 
-fn unpack(binary: &[u8], out: &mut [u8]) {
-    let (eights, last) = out.as_chunks_mut::<8>();
-    let mut done = 0;
-    for eight in eights {
-        let bits = match binary[done..].first_chunk::<8>() {
-            Some(part) => u64::from_be_bytes(*part),
-            None => {
-                let mut part = [0; 8];
-                part[..6].copy_from_slice(&binary[done..done + 6]);
-                u64::from_be_bytes(part)
-            }
-        };
-        let low = twin(bits >> 52) | twin(bits >> 40) << 16;
-        let high = twin(bits >> 28) | twin(bits >> 16) << 16;
-        *eight = (low | high << 32).to_le_bytes();
-        done += 6;
+/// Eight characters for the 48 bits at the top of a number.
+#[inline(always)]
+fn put_twins(bits: u64, eight: &mut [u8]) {
+    for (pair, shift) in eight.chunks_exact_mut(2).zip([52, 40, 28, 16]) {
+        let twin = TWINS[(bits >> shift) as usize & 0xFFF];
+        pair.copy_from_slice(&twin.to_le_bytes());
     }
-    if let ([a, b, c], [_, ..]) = (&binary[done..], &last) {
-        let bits = u64::from(u32::from_be_bytes([0, *a, *b, *c]));
-        let four = (twin(bits >> 12) | twin(bits) << 16) as u32;
-        last.copy_from_slice(&four.to_le_bytes());
+}
+
+/// Whole units, into just the room for them. Eight bytes are read where six
+/// are meant, as long as there are eight.
+fn unpack(binary: &[u8], out: &mut [u8]) {
+    let (blocks, _) = out.as_chunks_mut::<16>();
+    // The last block may have fewer than two bytes behind it.
+    let reaching = blocks.len().saturating_sub(1);
+    for (index, block) in blocks[..reaching].iter_mut().enumerate() {
+        let bytes = &binary[12 * index..12 * index + 14];
+        for (half, eight) in block.chunks_exact_mut(8).enumerate() {
+            let mut six = [0; 8];
+            six.copy_from_slice(&bytes[6 * half..6 * half + 8]);
+            put_twins(u64::from_be_bytes(six), eight);
+        }
+    }
+    let rest = binary[12 * reaching..].chunks_exact(3);
+    for (bytes, unit) in rest.zip(out[16 * reaching..].chunks_exact_mut(4)) {
+        let bits = [bytes[0], bytes[1], bytes[2], 0, 0, 0, 0, 0];
+        put_twins(u64::from_be_bytes(bits), unit);
     }
 }
