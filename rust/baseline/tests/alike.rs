@@ -4,6 +4,7 @@
 mod common;
 
 use common::{assert_alike, assert_alike_in_both};
+use oracle::Form as Judge;
 use streams::damage::{damage, OPERATORS};
 use streams::form::FORMS;
 use streams::generate::{any_deck, every_code, nested};
@@ -129,5 +130,31 @@ fn on_noise() {
             }
             assert_alike(&stream, form, "noise");
         }
+    }
+}
+
+#[test]
+fn the_streams_meet_every_number() {
+    // P03: a verdict is 4 to 11, a remainder's number 4 to 7; 5 in text only.
+    let mut random = Random::new(0xA11);
+    for (form, judge) in [(Form::Text, Judge::Text), (Form::Binary, Judge::Binary)] {
+        let (mut verdicts, mut remainders) = ([0; 256], [0; 256]);
+        for _ in 0..8000 {
+            let mut stream = form.of_text(&stream(&any_deck(&mut random, 6)));
+            damage(&mut random, form, &mut stream);
+            let report = oracle::report::report(&stream, judge).unwrap();
+            let rows = report.items.iter().map(|row| row.verdict);
+            rows.for_each(|verdict| verdicts[usize::from(verdict)] += 1);
+            let rest = report.remainder.map(|rest| rest.number);
+            rest.into_iter()
+                .for_each(|n| remainders[usize::from(n)] += 1);
+        }
+        for number in 4..12 {
+            let possible = number != 5 || form == Form::Text;
+            assert_eq!(verdicts[number] > 0, possible, "{form:?} verdict {number}");
+            let possible = possible && number < 8;
+            assert_eq!(remainders[number] > 0, possible, "{form:?} rest {number}");
+        }
+        println!("{form:?} {:?} {:?}", &verdicts[..12], &remainders[..12]);
     }
 }

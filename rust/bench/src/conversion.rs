@@ -1,11 +1,10 @@
 //! The tables of the two conversions. Sizes are those of the output.
 
-use crate::table::{print, Rate};
-use crate::timing::{assert_equal_answers, best_of, Contender, REFUSED};
+use crate::race::{Contender, Race, Rate, REFUSED};
 use crate::SIZES;
 use streams::Random;
 
-const TO_BINARY: [Contender; 4] = [
+static TO_BINARY: [Contender; 4] = [
     Contender {
         name: "Rattle",
         call: |text, out| proved::to_binary(text, out).unwrap_or(REFUSED),
@@ -21,7 +20,7 @@ const TO_BINARY: [Contender; 4] = [
     MEMCPY,
 ];
 
-const TO_TEXT: [Contender; 4] = [
+static TO_TEXT: [Contender; 4] = [
     Contender {
         name: "Rattle",
         call: |binary, out| proved::to_text(binary, out).unwrap_or(REFUSED),
@@ -49,22 +48,24 @@ const MEMCPY: Contender = Contender {
     },
 };
 
-pub fn run() {
+/// All but the last contender write the same bytes.
+const EQUAL: usize = 3;
+
+pub fn races() -> Vec<Race> {
     let mut random = Random::new(1);
+    let mut races = Vec::new();
     for (name, size) in SIZES {
-        let text = random.characters(size / 3 * 4);
+        let room = size / 3 * 3;
+        let text = random.characters(room / 3 * 4);
         let title = format!("Text to binary, {name} of output");
-        time(&title, &TO_BINARY, &text, size / 3 * 3);
+        let rate = Rate::Bytes(room);
+        races.push(Race::new(title, &TO_BINARY, EQUAL, text, room, rate));
     }
     for (name, size) in SIZES {
         let binary = random.bytes(size / 4 * 3);
         let title = format!("Binary to text, {name} of output");
-        time(&title, &TO_TEXT, &binary, size / 4 * 4);
+        let rate = Rate::Bytes(size);
+        races.push(Race::new(title, &TO_TEXT, EQUAL, binary, size, rate));
     }
-}
-
-fn time(title: &str, contenders: &[Contender; 4], input: &[u8], room: usize) {
-    assert_equal_answers(&contenders[..3], input, room);
-    let times = best_of(contenders, input, room);
-    print(title, contenders, &times, &Rate::Bytes(room));
+    races
 }

@@ -1,10 +1,12 @@
 //! Times the proved library against ordinary Rust, in one process, and prints
 //! the tables: `cargo run --release --offline -p bench`.
+//!
+//! The library is the archive that `rt staticlib exports` writes.
 
 mod conversion;
+mod race;
 mod reports;
 mod table;
-mod timing;
 
 /// Sizes that are timed, with their names.
 const SIZES: [(&str, usize); 4] = [
@@ -14,9 +16,18 @@ const SIZES: [(&str, usize); 4] = [
     ("3 MiB", 3 << 20),
 ];
 
+/// A sweep runs every race for a short time, so that a busy moment of the
+/// machine is not all that a race sees.
+const SWEEPS: usize = 6;
+
 fn main() {
-    println!("Best of many rounds. The rounds of a table's contenders are interleaved, and");
-    println!("the buffer is written with zeros before each. Ratios are of times, row to column.");
-    conversion::run();
-    reports::run();
+    let mut races = conversion::races();
+    races.extend(reports::races());
+    for _ in 0..SWEEPS {
+        races.iter_mut().for_each(race::Race::sweep);
+    }
+    println!("Best of many rounds in {SWEEPS} sweeps. The rounds of a table's contenders are");
+    println!("interleaved, and the buffer is written with zeros before each call. Ratios are of");
+    println!("times, row to column.");
+    races.iter().for_each(table::print);
 }

@@ -1,45 +1,31 @@
 //! One table: a line for each contender, with its time, its rate, and the ratio
 //! of its time to each contender's.
 
-use crate::timing::Contender;
-use std::time::Duration;
+use crate::race::{Race, Rate};
 
-/// What the rate of a line is counted in.
-pub enum Rate {
-    /// Bytes written or read: in GB/s.
-    Bytes(usize),
-    /// Items judged: in ns each.
-    Items(usize),
-}
-
-pub fn print(title: &str, contenders: &[Contender], times: &[Duration], rate: &Rate) {
-    println!("\n{title}");
-    let unit = match rate {
+pub fn print(race: &Race) {
+    let unit = match race.rate {
         Rate::Bytes(_) => "GB/s",
         Rate::Items(_) => "ns/item",
     };
+    println!("\n{}", race.title);
     print!("  {:<12} {:>9} {:>9}", "", "ms", unit);
-    contenders.iter().for_each(|c| print!(" {:>12}", c.name));
+    let names = race.contenders.iter().map(|contender| contender.name);
+    names.for_each(|name| print!(" {name:>12}"));
     println!();
-    for (contender, time) in contenders.iter().zip(times) {
-        print!("  {:<12} {:>9.4}", contender.name, 1e3 * seconds(time));
-        print!(" {:>9.2}", rate.of(time));
-        for mark in times {
-            print!(" {:>12.2}", seconds(time) / seconds(mark));
-        }
+    for (contender, time) in race.contenders.iter().zip(&race.best) {
+        let seconds = time.as_secs_f64();
+        let rate = match race.rate {
+            Rate::Bytes(bytes) => bytes as f64 / seconds / 1e9,
+            Rate::Items(items) => seconds * 1e9 / items as f64,
+        };
+        print!(
+            "  {:<12} {:>9.4} {rate:>9.2}",
+            contender.name,
+            1e3 * seconds
+        );
+        let ratios = race.best.iter().map(|mark| seconds / mark.as_secs_f64());
+        ratios.for_each(|ratio| print!(" {ratio:>12.2}"));
         println!();
     }
-}
-
-impl Rate {
-    fn of(&self, time: &Duration) -> f64 {
-        match self {
-            Rate::Bytes(bytes) => *bytes as f64 / seconds(time) / 1e9,
-            Rate::Items(items) => seconds(time) * 1e9 / *items as f64,
-        }
-    }
-}
-
-fn seconds(time: &Duration) -> f64 {
-    time.as_secs_f64()
 }

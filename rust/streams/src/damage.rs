@@ -1,5 +1,8 @@
 //! The ways in which a stream goes wrong.
 
+// All operators have one type, also those that leave the length as it is.
+#![allow(clippy::ptr_arg)]
+
 use crate::form::Form;
 use crate::item::group_header;
 use crate::random::Random;

@@ -83,7 +83,11 @@ fn make_simple(best: &mut Vec<u8>, form: Form, fails: &mut impl FnMut(&[u8]) -> 
     for offset in (0..best.len()).step_by(form.unit()) {
         let bits = form.bits(best, offset);
         let mut simple = best.clone();
-        form.put(&mut simple, offset, bits & 0xFF_F000 | (bits & 0xFFF) / 2);
+        form.put(
+            &mut simple,
+            offset,
+            (bits & 0xFF_F000) | ((bits & 0xFFF) / 2),
+        );
         keep(best, simple, fails);
     }
 }
