@@ -158,26 +158,41 @@ fn another_count(random: &mut Random, form: Form, stream: &mut Vec<u8>) {
     form.put(stream, offset, bits & 0xFF_F000 | count & 0xFFF);
 }
 
-/// A genus/version of some kind before any unit.
+/// A genus/version of some kind before any unit, often the first of a group.
 fn genus_code(random: &mut Random, form: Form, stream: &mut Vec<u8>) {
     let codes = ["-_AAACAA", "-_AAABAA", "-_BAACAA", "-_AAACAB", "-_ABACAA"];
     let code = form.of_text(random.pick(&codes).as_bytes());
-    let offset = unit_offset(random, form, stream);
+    let headers = group_headers(form, stream);
+    let offset = if headers.is_empty() || random.once_in(2) {
+        unit_offset(random, form, stream)
+    } else {
+        (*random.pick(&headers) + form.unit()).min(stream.len())
+    };
     insert(stream, offset, &code);
 }
 
-/// A group's header before any unit, counting some units of what follows.
+/// A group's header before any unit, counting some units of what follows; at
+/// times many of them, so that what follows stands too deep.
 fn wrap(random: &mut Random, form: Form, stream: &mut Vec<u8>) {
     let offset = unit_offset(random, form, stream);
     let left = (stream.len() - offset) / form.unit();
-    let units = if random.once_in(2) {
+    let mut units = if random.once_in(2) {
         left
     } else {
         random.below(left + 2)
     };
+    let times = if random.once_in(4) {
+        10 + random.below(9)
+    } else {
+        1
+    };
     let letter = *random.pick(GROUPS);
-    let header = group_header(letter, units > 4095 || random.once_in(4), units);
-    insert(stream, offset, &form.of_text(&header));
+    for _ in 0..times {
+        let large = units > 4095 || random.once_in(4);
+        let header = form.of_text(&group_header(letter, large, units));
+        insert(stream, offset, &header);
+        units += header.len() / form.unit();
+    }
 }
 
 #[cfg(test)]
