@@ -7,8 +7,15 @@ use streams::decks::{digests, mixed, nests};
 use streams::{Form, Random};
 
 /// A further program is one more line in each of the two lists.
-static TEXT: [Contender; 1] = [contender("baseline", text_report)];
-static BINARY: [Contender; 1] = [contender("baseline", binary_report)];
+#[rustfmt::skip]
+static TEXT: &[Contender] = &[
+    contender("baseline", text_report),
+];
+
+#[rustfmt::skip]
+static BINARY: &[Contender] = &[
+    contender("baseline", binary_report),
+];
 
 type Call = fn(&[u8], &mut [u8]) -> usize;
 
@@ -41,9 +48,9 @@ pub fn races() -> Vec<Race> {
             let text = make(&mut random, size);
             let binary = Form::Binary.of_text(&text);
             let title = format!("Text report, {deck}, {name} of text");
-            races.push(race(title, &TEXT, text));
+            races.push(race(title, TEXT, text));
             let title = format!("Binary report, {deck}, {name} of text as binary");
-            races.push(race(title, &BINARY, binary));
+            races.push(race(title, BINARY, binary));
         }
     }
     races
