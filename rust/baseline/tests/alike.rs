@@ -1,0 +1,159 @@
+//! The baseline answers as the oracle does: on 01's deck, on accepted streams
+//! of every code, selector and nesting, on damaged ones and on noise.
+
+mod common;
+
+use common::{assert_alike, assert_alike_in_both};
+use oracle::Form as Judge;
+use streams::damage::{damage, OPERATORS};
+use streams::form::FORMS;
+use streams::generate::{any_deck, every_code, nested};
+use streams::item::stream;
+use streams::noise::noise;
+use streams::table::{GROUPS, HEADS};
+use streams::{Form, Item, Random};
+
+/// 01, "The deck we check by" and "Errors we have seen shipped", and the
+/// streams of the open points.
+#[rustfmt::skip]
+const DECK: [&str; 62] = [
+    "", "MAAB", "MP__", "MQAA", "0HD_____", "0HEAAAAA", "VABh", "WGhp", "1AAM", "4BAA", "5BAA",
+    "5BABAGhp", "6BABAABh", "5BABAPAA", "5BABAQAA", "0J_A", "0JAA", "-0AA", "-AAA", "-AABMAAB",
+    "-AACMAAB", "-AAC-_AAABAA", "-JAC-_AAABAA", "-AAB0AAAMAAB", "--AAABAA",
+    "E8wYuBjhslETYaLZcxMkWrhVbMcA8RS1pKYl7nJ77ntA",
+    "-FABE_T2_p83_gRSuAYvGhqV3S0JzYEF2dIa-OCPLbIhBO7Y",
+    "MAABMA!!", "-AACMQAA_AAA", "MAAB\n", "MAAB\nMAAB", "MAA!", "0A?!", "b!!A", "_AA=", "7AAG",
+    "--0A", "7AAB", "--AA", "-_AA", "7AAB!__!", "--c_____", "-_AAACAA", "-_AAABAA", "-_BAACAA",
+    "-AADMAAB-_AAABAA", "-AAD-AAA-_AAABAA", "-AAD-CAC-_AAABAA", "-AAD-KAA-_AAABAA",
+    "--AAAAAC-_AAABAA", "0HEAA!AA", "VQAA", "VBAA", "VAEA", "X___", "-HAB_AAA", "-KAB_A!A",
+    "-LAB____", "8AABAAAA", "9AABAAABAAEA", "-AABMAABMAAB!", "--KAAAAB_AA!",
+];
+
+#[test]
+fn on_01s_deck_and_the_open_points() {
+    for text in DECK {
+        assert_alike(text.as_bytes(), Form::Text, "deck");
+        let whole = text.len() / 4 * 4;
+        assert_alike_in_both(&text.as_bytes()[..whole], "deck");
+    }
+}
+
+#[test]
+fn on_nested_groups_of_every_letter() {
+    for letter in GROUPS {
+        for depth in 0..19 {
+            for core in ["", "MAAB", "-_AAABAA", "-_AAACAA", "-KAA", "-AAA", "MQAA"] {
+                let core = vec![Item::Primitive(core.into())];
+                assert_alike_in_both(&stream(&nested(&[*letter], depth, core)), "nested");
+            }
+        }
+    }
+}
+
+#[test]
+fn on_every_pair_of_first_characters() {
+    // Every value of the first two sextets, with tails that fit most codes.
+    for bits in 0..4096 {
+        for tail in ["", "AAAA", "__AAAAAA", "AAAAAAAAAAAA"] {
+            let [_, _, a, b] = streams::form::characters(bits);
+            let mut text = vec![a, b, b'A', b'B'];
+            text.extend(tail.bytes());
+            assert_alike_in_both(&text, "pair");
+        }
+    }
+}
+
+#[test]
+fn on_every_head() {
+    for head in HEADS {
+        for tail in 0..4 {
+            let mut text = head.as_bytes().to_vec();
+            text.extend(b"AAAB".repeat(tail));
+            assert_alike_in_both(&text, "head");
+            assert_alike_in_both(&[b"-AAB", &text[..]].concat(), "head in a group");
+            assert_alike_in_both(&[b"--JAAAAE", &text[..]].concat(), "head in a group");
+        }
+    }
+}
+
+#[test]
+fn on_accepted_streams() {
+    let mut random = Random::new(0xACCE);
+    for round in 0..4000 {
+        let items = match round % 20 {
+            0 => every_code(&mut random),
+            _ => any_deck(&mut random, 8),
+        };
+        let text = stream(&items);
+        assert_alike_in_both(&text, "accepted");
+        let report = baseline::report(&text, baseline::Form::Text).unwrap();
+        assert_eq!(report[..4], (items.len() as u32).to_be_bytes());
+        // No refusal and no remainder: three counts and the items.
+        assert_eq!(report.len(), 12 + 9 * items.len());
+    }
+}
+
+#[test]
+fn on_damaged_streams() {
+    let mut random = Random::new(0xDA3A);
+    for _ in 0..24_000 {
+        for form in FORMS {
+            let mut stream = form.of_text(&stream(&any_deck(&mut random, 6)));
+            damage(&mut random, form, &mut stream);
+            assert_alike(&stream, form, "damaged");
+        }
+    }
+}
+
+#[test]
+fn on_every_kind_of_damage() {
+    let mut random = Random::new(0x0DD5);
+    for (name, operator) in OPERATORS {
+        for _ in 0..300 {
+            for form in FORMS {
+                let mut stream = form.of_text(&stream(&any_deck(&mut random, 4)));
+                operator(&mut random, form, &mut stream);
+                assert_alike(&stream, form, name);
+            }
+        }
+    }
+}
+
+#[test]
+fn on_noise() {
+    let mut random = Random::new(0x7015E);
+    for _ in 0..24_000 {
+        for form in FORMS {
+            let mut stream = noise(&mut random, form, 120);
+            if random.once_in(3) {
+                damage(&mut random, form, &mut stream);
+            }
+            assert_alike(&stream, form, "noise");
+        }
+    }
+}
+
+#[test]
+fn the_streams_meet_every_number() {
+    // P03: a verdict is 4 to 11, a remainder's number 4 to 7; 5 in text only.
+    let mut random = Random::new(0xA11);
+    for (form, judge) in [(Form::Text, Judge::Text), (Form::Binary, Judge::Binary)] {
+        let (mut verdicts, mut remainders) = ([0; 256], [0; 256]);
+        for _ in 0..8000 {
+            let mut stream = form.of_text(&stream(&any_deck(&mut random, 6)));
+            damage(&mut random, form, &mut stream);
+            let report = oracle::report::report(&stream, judge).unwrap();
+            let rows = report.items.iter().map(|row| row.verdict);
+            rows.for_each(|verdict| verdicts[usize::from(verdict)] += 1);
+            let rest = report.remainder.map(|rest| rest.number);
+            rest.into_iter()
+                .for_each(|n| remainders[usize::from(n)] += 1);
+        }
+        for number in 4..12 {
+            let possible = number != 5 || form == Form::Text;
+            assert_eq!(verdicts[number] > 0, possible, "{form:?} verdict {number}");
+            let possible = possible && number < 8;
+            assert_eq!(remainders[number] > 0, possible, "{form:?} rest {number}");
+        }
+    }
+}

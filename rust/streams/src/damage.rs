@@ -1,0 +1,229 @@
+//! The ways in which a stream goes wrong.
+
+// All operators have one type, also those that leave the length as it is.
+#![allow(clippy::ptr_arg)]
+
+use crate::form::Form;
+use crate::item::group_header;
+use crate::random::Random;
+use crate::table::{GROUPS, HEADS};
+
+/// One way of damage. It changes the stream in place.
+pub type Operator = fn(&mut Random, Form, &mut Vec<u8>);
+
+/// All of them, with a name for messages.
+pub const OPERATORS: [(&str, Operator); 14] = [
+    ("flip a bit", flip_bit),
+    ("any byte", any_byte),
+    ("wrong alphabet", wrong_alphabet),
+    ("truncate", truncate),
+    ("remove bytes", remove_bytes),
+    ("remove units", remove_units),
+    ("repeat units", repeat_units),
+    ("swap units", swap_units),
+    ("splice", splice),
+    ("another head", another_head),
+    ("another count", another_count),
+    ("genus code", genus_code),
+    ("wrap", wrap),
+    ("flip a header's bit", flip_header_bit),
+];
+
+/// One to three damages of any kind.
+pub fn damage(random: &mut Random, form: Form, stream: &mut Vec<u8>) {
+    for _ in 0..1 + random.below(3) {
+        let (_, operator) = *random.pick(&OPERATORS);
+        operator(random, form, stream);
+    }
+}
+
+/// The offset of any unit, the place behind the last one included.
+fn unit_offset(random: &mut Random, form: Form, stream: &[u8]) -> usize {
+    random.below(stream.len() / form.unit() + 1) * form.unit()
+}
+
+/// Offsets of units that look like a small group's header.
+fn group_headers(form: Form, stream: &[u8]) -> Vec<usize> {
+    let offsets = (0..stream.len()).step_by(form.unit());
+    // `-` is 62; the letters end with `c`, 28.
+    let is_group = |offset: &usize| {
+        let bits = form.bits(stream, *offset);
+        bits >> 18 == 62 && bits >> 12 & 63 <= 28
+    };
+    offsets.filter(is_group).collect()
+}
+
+fn insert(stream: &mut Vec<u8>, offset: usize, part: &[u8]) {
+    stream.splice(offset..offset, part.iter().copied());
+}
+
+fn flip_bit(random: &mut Random, _: Form, stream: &mut Vec<u8>) {
+    let place = random.below(stream.len());
+    if let Some(byte) = stream.get_mut(place) {
+        *byte ^= 1 << random.below(8);
+    }
+}
+
+/// A bit of a first unit, so of a code, a count or pad bits: the header that
+/// is hit is any unit's in a small stream and the first in a long one.
+fn flip_header_bit(random: &mut Random, form: Form, stream: &mut Vec<u8>) {
+    let offset = unit_offset(random, form, stream).min(8 * form.unit());
+    let bits = form.bits(stream, offset) ^ 1 << random.below(24);
+    form.put(stream, offset, bits);
+}
+
+fn any_byte(random: &mut Random, _: Form, stream: &mut Vec<u8>) {
+    let place = random.below(stream.len());
+    if let Some(byte) = stream.get_mut(place) {
+        *byte = random.byte();
+    }
+}
+
+/// Characters next to the alphabet's, and those of the ordinary one.
+fn wrong_alphabet(random: &mut Random, _: Form, stream: &mut Vec<u8>) {
+    let place = random.below(stream.len());
+    if let Some(byte) = stream.get_mut(place) {
+        *byte = *random.pick(b"+/=\n \t.,!@[^`{/:;\x00\x0D\x7F\x80\xC1\xFF");
+    }
+}
+
+fn truncate(random: &mut Random, _: Form, stream: &mut Vec<u8>) {
+    let few = random.once_in(2);
+    let lost = random.below(if few { 6 } else { stream.len() + 1 });
+    stream.truncate(stream.len().saturating_sub(lost));
+}
+
+fn remove_bytes(random: &mut Random, _: Form, stream: &mut Vec<u8>) {
+    let from = random.below(stream.len() + 1);
+    let to = (from + 1 + random.below(9)).min(stream.len());
+    stream.drain(from..to.max(from));
+}
+
+fn remove_units(random: &mut Random, form: Form, stream: &mut Vec<u8>) {
+    let from = unit_offset(random, form, stream);
+    let to = from + form.unit() * (1 + random.below(4));
+    stream.drain(from..to.min(stream.len()).max(from));
+}
+
+fn repeat_units(random: &mut Random, form: Form, stream: &mut Vec<u8>) {
+    let from = unit_offset(random, form, stream);
+    let to = from + form.unit() * (1 + random.below(4));
+    let part = stream[from..to.min(stream.len()).max(from)].to_vec();
+    insert(stream, from, &part);
+}
+
+fn swap_units(random: &mut Random, form: Form, stream: &mut Vec<u8>) {
+    let one = unit_offset(random, form, stream);
+    let other = unit_offset(random, form, stream);
+    let (first, second) = (form.bits(stream, one), form.bits(stream, other));
+    form.put(stream, one, second);
+    form.put(stream, other, first);
+}
+
+/// A part of the stream goes over another part of it.
+fn splice(random: &mut Random, _: Form, stream: &mut Vec<u8>) {
+    let mut cut = || random.below(stream.len() + 1);
+    let (a, b, c, d) = (cut(), cut(), cut(), cut());
+    let part = stream[a.min(b)..a.max(b)].to_vec();
+    stream.splice(c.min(d)..c.max(d), part);
+    stream.truncate(1 << 16);
+}
+
+/// A known, unknown or reserved head, over a unit or before it.
+fn another_head(random: &mut Random, form: Form, stream: &mut Vec<u8>) {
+    let offset = unit_offset(random, form, stream);
+    let head = form.of_text(random.pick(&HEADS).as_bytes());
+    if random.once_in(2) {
+        insert(stream, offset, &head);
+    } else {
+        let bits = form.bits(&head, 0);
+        form.put(stream, offset, bits);
+    }
+}
+
+/// A group's count by a little more or less, or to anything.
+fn another_count(random: &mut Random, form: Form, stream: &mut Vec<u8>) {
+    let headers = group_headers(form, stream);
+    if headers.is_empty() {
+        return;
+    }
+    let offset = *random.pick(&headers);
+    let bits = form.bits(stream, offset);
+    let count = match random.below(4) {
+        0 => bits.wrapping_add(1),
+        1 => bits.wrapping_sub(1),
+        2 => bits.wrapping_add(random.below(9) as u32),
+        _ => random.number() as u32,
+    };
+    form.put(stream, offset, bits & 0xFF_F000 | count & 0xFFF);
+}
+
+/// A genus/version of some kind before any unit, often the first of a group.
+fn genus_code(random: &mut Random, form: Form, stream: &mut Vec<u8>) {
+    let codes = ["-_AAACAA", "-_AAABAA", "-_BAACAA", "-_AAACAB", "-_ABACAA"];
+    let code = form.of_text(random.pick(&codes).as_bytes());
+    let headers = group_headers(form, stream);
+    let offset = if headers.is_empty() || random.once_in(2) {
+        unit_offset(random, form, stream)
+    } else {
+        (*random.pick(&headers) + form.unit()).min(stream.len())
+    };
+    insert(stream, offset, &code);
+}
+
+/// A group's header before any unit, counting some units of what follows; at
+/// times many of them, so that what follows stands too deep.
+fn wrap(random: &mut Random, form: Form, stream: &mut Vec<u8>) {
+    let offset = unit_offset(random, form, stream);
+    let left = (stream.len() - offset) / form.unit();
+    let mut units = if random.once_in(2) {
+        left
+    } else {
+        random.below(left + 2)
+    };
+    let times = if random.once_in(4) {
+        10 + random.below(9)
+    } else {
+        1
+    };
+    let letter = *random.pick(GROUPS);
+    for _ in 0..times {
+        let large = units > 4095 || random.once_in(4);
+        let header = form.of_text(&group_header(letter, large, units));
+        insert(stream, offset, &header);
+        units += header.len() / form.unit();
+    }
+}
+
+#[cfg(test)]
+mod tests {
+    use super::*;
+    use crate::form::FORMS;
+
+    #[test]
+    fn no_operator_fails_on_short_streams() {
+        let mut random = Random::new(4);
+        for (_, operator) in OPERATORS {
+            for length in (0..20).chain(0..20) {
+                for form in FORMS {
+                    let mut stream = random.bytes(length);
+                    operator(&mut random, form, &mut stream);
+                }
+            }
+        }
+    }
+
+    #[test]
+    fn every_operator_changes_something() {
+        let mut random = Random::new(5);
+        for (name, operator) in OPERATORS {
+            let changes = |_: &usize| {
+                let mut stream = b"-JAD-AABMAABEAAAMAAB4BAB____".to_vec();
+                let before = stream.clone();
+                operator(&mut random, Form::Text, &mut stream);
+                stream != before
+            };
+            assert!((0..100).filter(changes).count() > 30, "{name}");
+        }
+    }
+}

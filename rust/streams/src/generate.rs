@@ -1,0 +1,217 @@
+//! Items that 01 accepts, of every code, selector and nesting.
+
+use crate::form::characters;
+use crate::item::Item;
+use crate::random::Random;
+use crate::table::{
+    is_opaque, is_overrideable, Fixed, Kind, FIXED, GENUS_VERSION, GROUPS, SELECTORS, TYPES,
+};
+
+/// Groups that may stand within each other.
+pub const MOST_GROUPS: usize = 16;
+
+/// An accepted item of a fixed code with any value.
+pub fn fixed(random: &mut Random, (code, full, kind): Fixed) -> Item {
+    let mut text = code.as_bytes().to_vec();
+    match (kind, code.len()) {
+        (Kind::Label, _) => text.extend([b'A', b'A' + random.below(4) as u8]),
+        (Kind::Prepad, _) => text.push(b'_'),
+        (Kind::Raw, 1) => text.push(b'A' + random.below(16) as u8),
+        (Kind::Raw, 2) => text.push(b'A' + random.below(4) as u8),
+        _ => {}
+    }
+    text.extend(random.characters(full - text.len()));
+    Item::Primitive(text)
+}
+
+/// An accepted item of a variable code with `n` units of any value; one at
+/// least where lead bytes are asked for.
+pub fn variable(random: &mut Random, selector: u8, letter: u8, n: usize) -> Item {
+    let lead = usize::from((selector - b'4') % 3);
+    let n = n.max(usize::from(lead > 0));
+    let digits = characters(n as u32);
+    let mut text = if selector < b'7' {
+        vec![selector, letter, digits[2], digits[3]]
+    } else {
+        [&[selector, b'A', b'A', letter], &digits[..]].concat()
+    };
+    let header = text.len();
+    text.extend(random.characters(4 * n));
+    // One lead byte: `A` and 2 zero bits; two: `AA` and 4 zero bits.
+    let zeros: &[u8] = match lead {
+        1 => &[b'A', b'A' + random.below(16) as u8],
+        2 => &[b'A', b'A', b'A' + random.below(4) as u8],
+        _ => &[],
+    };
+    text[header..header + zeros.len()].copy_from_slice(zeros);
+    Item::Primitive(text)
+}
+
+/// A group of any letter: opaque ones with any units for `body`'s items.
+pub fn group(random: &mut Random, letter: u8, large: bool, body: Vec<Item>) -> Item {
+    if is_opaque(letter) {
+        let body = random.characters(4 * body.len());
+        return Item::Opaque {
+            letter,
+            large,
+            body,
+        };
+    }
+    Item::Group {
+        letter,
+        large,
+        body,
+    }
+}
+
+/// One item of every fixed code, of every variable type under every selector,
+/// of every group letter, small and large, empty and not, and genus/versions.
+pub fn every_code(random: &mut Random) -> Vec<Item> {
+    let mut items: Vec<Item> = FIXED.iter().map(|row| fixed(random, *row)).collect();
+    for letter in TYPES {
+        for selector in SELECTORS {
+            let n = random.below(5);
+            items.push(variable(random, *selector, *letter, n));
+        }
+    }
+    for letter in GROUPS {
+        for large in [false, true] {
+            items.push(group(random, *letter, large, Vec::new()));
+            let body = vec![any_primitive(random), any_primitive(random)];
+            items.push(group(random, *letter, large, body));
+        }
+    }
+    items.push(Item::Genus(GENUS_VERSION));
+    items
+}
+
+pub fn any_primitive(random: &mut Random) -> Item {
+    if random.once_in(3) {
+        let n = if random.once_in(50) {
+            random.below(200)
+        } else {
+            random.below(6)
+        };
+        let (selector, letter) = (*random.pick(SELECTORS), *random.pick(TYPES));
+        return variable(random, selector, letter, n);
+    }
+    let row = *random.pick(&FIXED);
+    fixed(random, row)
+}
+
+/// How an item stands: within how many groups, and first in an `-A` `-B` `-C`.
+#[derive(Clone, Copy)]
+pub struct Stand {
+    pub within: usize,
+    pub first: bool,
+}
+
+/// The place of a top-level item.
+pub const TOP: Stand = Stand {
+    within: 0,
+    first: false,
+};
+
+/// Any accepted item; groups in it stand within fewer than `deepest` groups.
+pub fn any_item(random: &mut Random, stand: Stand, deepest: usize) -> Item {
+    let may_open = stand.within < deepest.min(MOST_GROUPS);
+    match random.below(10) {
+        0..=3 if may_open => any_group(random, stand, deepest),
+        4 if random.once_in(4) => Item::Genus(any_genus(random, stand)),
+        _ => any_primitive(random),
+    }
+}
+
+/// The genus/version that is read, or any where none is asked for.
+fn any_genus(random: &mut Random, stand: Stand) -> [u8; 6] {
+    let free = stand.within > 0 && !stand.first;
+    match random.below(3) {
+        0 if free => *b"AAABAA",
+        1 if free => std::array::from_fn(|_| random.character()),
+        _ => GENUS_VERSION,
+    }
+}
+
+fn any_group(random: &mut Random, stand: Stand, deepest: usize) -> Item {
+    let letter = *random.pick(GROUPS);
+    let large = random.once_in(5);
+    let items = random.below(5);
+    if is_opaque(letter) {
+        let body = (0..items).map(|_| any_primitive(random)).collect();
+        return group(random, letter, large, body);
+    }
+    let inner = |first| Stand {
+        within: stand.within + 1,
+        first: first && is_overrideable(letter),
+    };
+    let body = (0..items).map(|i| any_item(random, inner(i == 0), deepest));
+    let body = body.collect();
+    group(random, letter, large, body)
+}
+
+/// `depth` groups, each just around the next, around one small primitive.
+/// `letters` are taken in turn.
+pub fn nested(letters: &[u8], depth: usize, core: Vec<Item>) -> Vec<Item> {
+    (0..depth).rev().fold(core, |body, place| {
+        vec![Item::Group {
+            letter: letters[place % letters.len()],
+            large: false,
+            body,
+        }]
+    })
+}
+
+/// A deck of up to `most` accepted top-level items, some nested deep.
+pub fn any_deck(random: &mut Random, most: usize) -> Vec<Item> {
+    let deepest = *random.pick(&[1, 3, 3, 5, MOST_GROUPS]);
+    let mut items = Vec::new();
+    for _ in 0..random.below(most + 1) {
+        if random.once_in(12) {
+            let depth = random.below(MOST_GROUPS + 1);
+            let letter = *random.pick(b"ACDJZac");
+            let core = vec![any_primitive(random)];
+            items.extend(nested(&[letter, b'J'], depth, core));
+        } else {
+            items.push(any_item(random, TOP, deepest));
+        }
+    }
+    items
+}
+
+#[cfg(test)]
+mod tests {
+    use super::*;
+    use crate::form::ALPHABET;
+    use crate::item::stream;
+
+    #[test]
+    fn everything_is_whole_units_in_the_alphabet() {
+        let mut random = Random::new(1);
+        for round in 0..500 {
+            let items = match round % 2 {
+                0 => every_code(&mut random),
+                _ => any_deck(&mut random, 12),
+            };
+            let text = stream(&items);
+            assert_eq!(text.len() % 4, 0);
+            assert!(text.iter().all(|c| ALPHABET.contains(c)));
+        }
+    }
+
+    #[test]
+    fn fixed_items_have_their_size() {
+        let mut random = Random::new(2);
+        for row in FIXED {
+            let text = stream(&[fixed(&mut random, row)]);
+            assert_eq!(text.len(), row.1);
+            assert!(text.starts_with(row.0.as_bytes()));
+        }
+    }
+
+    #[test]
+    fn nested_groups_count_what_is_within() {
+        let core = vec![Item::Primitive(b"MAAB".to_vec())];
+        let text = stream(&nested(b"AJ", 3, core));
+        assert_eq!(text, b"-AAD-JAC-AABMAAB".as_slice());
+    }
+}

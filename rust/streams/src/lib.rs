@@ -1,0 +1,27 @@
+//! Seeded CESR streams for tests and benchmarks.
+//!
+//! `generate` makes items that 01 accepts, of every code, selector and
+//! nesting; `decks` the long streams that are timed; `damage` changes a stream
+//! in the ways that streams go wrong; `noise` makes streams that were never
+//! right; `shrink` makes a failing stream small. The codes are typed in from
+//! 003 (`table`), so nothing here is shared with the programs it tries.
+//!
+//! All of it is made from a seed: the same seed gives the same streams.
+
+#![forbid(unsafe_code)]
+
+pub mod damage;
+pub mod decks;
+pub mod form;
+pub mod generate;
+pub mod item;
+pub mod noise;
+pub mod random;
+pub mod shrink;
+pub mod table;
+
+pub use damage::damage;
+pub use form::Form;
+pub use item::Item;
+pub use random::Random;
+pub use shrink::shrink;
