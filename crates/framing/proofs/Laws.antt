@@ -36,6 +36,10 @@ pub head-join : (s a b c r : List ℕ) → r ≡ a ++ (b ++ c) → a ≡ unitOf 
 unfolding headOf
 head-join s a b c r e p q t = rw (e, p, q, t)
 
+pub head-length : (s : List ℕ) → length (headOf s) ≡ 12
+unfolding headOf
+head-length s = refl
+
 pub head-at : (s : List ℕ) (i : ℕ) → i < 12 → getD (headOf s) i 0 ≡ getD s i 0
 unfolding headOf
 head-at s i h = getD-table (λ i. getD s i 0) 12 i h

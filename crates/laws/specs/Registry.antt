@@ -32,7 +32,7 @@ isRaw c = both (eqb ((6 * c .chars + zeroBitsOf c) % 8) 0) (leb (6 * c .chars + 
 
 -- tag characters fill the item behind the code, but for one prepad at most
 isTag : CodeRow → Bool
-isTag c = both (eqb (c .lead) 0) (both (eqb (c .chars + prepadOf c + c .tag) (c .size)) (both (leb (prepadOf c) 1) (leb (c .tag) 11)))
+isTag c = both (eqb (c .lead) 0) (both (eqb (c .chars + prepadOf c + c .tag) (c .size)) (both (leb (prepadOf c) 1) (both (leb (c .tag) 11) (leb (c .size) 12))))
 
 isFilled : CodeRow → Bool
 isFilled c = pick (eqb (c .tag) 0) (isRaw c) (isTag c)
@@ -59,6 +59,7 @@ pub record Tag (c : CodeRow) : Type 0 where
   pub filled : c .chars + prepadOf c + c .tag ≡ c .size
   pub prepad : prepadOf c ≤ 1
   pub short : c .tag ≤ 11
+  pub units : c .size ≤ 12
 
 -- the three lengths of a code, each with its pad
 pub data Code (c : CodeRow) : Type 0 where
@@ -87,11 +88,13 @@ unfolding isTag
 tag-of c t =
     let behind = both-right (eqb (c .lead) 0) _ t in
     let bounds = both-right (eqb (c .chars + prepadOf c + c .tag) (c .size)) _ behind in
+    let sizes = both-right (leb (prepadOf c) 1) _ bounds in
     record {
       bare = eqb→eq _ _ (both-left (eqb (c .lead) 0) _ t);
       filled = eqb→eq _ _ (both-left (eqb (c .chars + prepadOf c + c .tag) (c .size)) _ behind);
       prepad = leb→le _ _ (both-left (leb (prepadOf c) 1) _ bounds);
-      short = leb→le _ _ (both-right (leb (prepadOf c) 1) _ bounds);
+      short = leb→le _ _ (both-left (leb (c .tag) 11) _ sizes);
+      units = leb→le _ _ (both-right (leb (c .tag) 11) _ sizes);
     }
 
 -- a test that is a choice between two tests

@@ -1,0 +1,230 @@
+-- The answers of the reading calls, case by case, and what an accepted read says of the item. Assumes nothing.
+use mathlib.Core.Path.{_≡_, refl, sym, ap, _∙_, subst}
+use mathlib.Core.Bool.{Bool, true, false}
+use mathlib.Core.List.{List, [], _∷_, _++_, map}
+use mathlib.Core.Logic.{⊎-elim}
+use Prim.Native.Nat.{ℕ, zero, suc, _+_, _-_, _*_, _/_, _%_, _<_, _≤_}
+use native.Mathlib.Omega.{arith}
+use lib.Dec.{ltb, eqb}
+use lib.ListN.{length, getD, take, drop, replicate, length-drop, length-take, length-map, drop-of-length-le}
+use lib.Seq.{length-take-le, getD-take, getD-drop, ext-getD}
+use borrow.Author.Tests.{lt-ltb, le-ltb, ltb-true, eqb-true, eqb-false}
+use Rattle.base.specs.Pick.{pick, pick-by}
+use Rattle.base.specs.Cases.{whether, lt-or-ge}
+use Rattle.base.specs.Each.{each}
+use Rattle.format.specs.declared.CodeRow.{CodeRow}
+use Rattle.format.specs.declared.Kind.{Kind}
+use Rattle.format.specs.declared.Kind.the-variants.{Fixed, Variable, Group, Genus}
+use Rattle.format.specs.declared.Framed.{Framed}
+use Rattle.format.specs.declared.Framed.the-variants.{Item, Unframed}
+use Rattle.format.specs.declared.Verdict.{Verdict}
+use Rattle.format.specs.declared.Verdict.the-variants.{Accepted, Refused}
+use Rattle.format.specs.declared.Primitive.{Primitive}
+use Rattle.format.specs.declared.BinaryFound.{BinaryFound}
+use Rattle.format.specs.declared.BinaryFound.the-variants as B
+use Rattle.format.specs.declared.BinaryRead.{BinaryRead}
+use Rattle.format.specs.Alphabet.{charOf}
+use Rattle.format.specs.Units.{textSextets, binarySextets}
+use Rattle.format.specs.Offsets.{binaryOffset}
+use Rattle.format.specs.Registry.{opening, prepadOf}
+use Rattle.format.specs.Framing.{frameWith, frame, sextet}
+use Rattle.format.specs.Judging.{andThen, unless, behind, hasLead, judgeKind, ownCheck}
+use Rattle.format.specs.Values.{rawStart, tagOf}
+use Rattle.format.specs.Reading.{Reading, isPrimitive, primitiveOf, judged, readFramed, reading, from, placeFrom, padded, noTag}
+use Rattle.format.specs.Reading.{binaryAnswer, readBinary, partAt}
+use Rattle.format.specs.Reading.Reading.{refused, found}
+use Rattle.laws.specs.Framing.{Lawful, Good, Shaped, frame-good}
+use Rattle.laws.specs.Domains.{binary-reader}
+use Rattle.laws.specs.Values.{Led, raw-inside}
+use Rattle.framing.specs.Heads.{headOf}
+use Rattle.framing.proofs.Laws.{head-at, head-length}
+use Rattle.judging.proofs.Laws.{within-head}
+use Rattle.reading.specs.Outcome.{outcome, tagFrom, Taggable, noBinary}
+
+-- ---- what reading found
+
+pub is-refused : (r : Reading) (m p : ℕ) → outcome r ≡ Unframed m p → r ≡ refused m p
+unfolding outcome
+is-refused (refused m′ p′) m p e = cc
+is-refused (found k h n) m p e = let z : _≡_ {A = ℕ} 0 1 = cc in absurd (omega arith)
+
+pub is-found : (r : Reading) (k : Kind) (h n : ℕ) → outcome r ≡ Item k h n → r ≡ found k h n
+unfolding outcome
+is-found (refused m′ p′) k h n e = let z : _≡_ {A = ℕ} 0 1 = cc in absurd (omega arith)
+is-found (found k′ h′ n′) k h n e = cc
+
+-- a primitive, framed, and accepted
+pub record Accepts (s : List ℕ) (k : Kind) (h n : ℕ) : Type 0 where
+  pub framed : frame s ≡ Item k h n
+  pub primitive : isPrimitive k ≡ true
+  pub accepted : judgeKind k h (take (4 * n) s) (ownCheck 0) ≡ Accepted
+
+abbrev Accepted? : Framed → List ℕ → Kind → ℕ → ℕ → Type 0
+Accepted? f s k h n = (f ≡ Item k h n) × (isPrimitive k ≡ true) × (judgeKind k h (take (4 * n) s) (ownCheck 0) ≡ Accepted)
+
+by-verdict : (s : List ℕ) (k′ : Kind) (h′ n′ : ℕ) (v : Verdict) (k : Kind) (h n : ℕ) → isPrimitive k′ ≡ true
+    → judgeKind k′ h′ (take (4 * n′) s) (ownCheck 0) ≡ v → judged k′ h′ n′ v ≡ found k h n → Accepted? (Item k′ h′ n′) s k h n
+unfolding judged
+by-verdict s k′ h′ n′ Accepted k h n o w e =
+    let a : k′ ≡ k = cc in
+    let b : h′ ≡ h = cc in
+    let d : n′ ≡ n = cc in
+    (rw (a, b, d), rw a at o, rw (a, b, d) at w)
+by-verdict s k′ h′ n′ (Refused m p) k h n o w e = let z : _≡_ {A = ℕ} 0 1 = cc in absurd (omega arith)
+
+by-framed : (s : List ℕ) (f : Framed) (k : Kind) (h n : ℕ) → readFramed f s ≡ found k h n → Accepted? f s k h n
+unfolding readFramed
+by-framed s (Unframed m p) k h n e = let z : _≡_ {A = ℕ} 0 1 = cc in absurd (omega arith)
+by-framed s (Item k′ h′ n′) k h n e =
+    ⊎-elim (λ o. by-verdict s k′ h′ n′ _ k h n o refl (rw o at e))
+    (λ o. let q : refused 14 0 ≡ found k h n = rw o at e in let z : _≡_ {A = ℕ} 0 1 = cc in absurd (omega arith)) (whether (isPrimitive k′))
+
+pub accepts : (s : List ℕ) (k : Kind) (h n : ℕ) → reading s ≡ found k h n → Accepts s k h n
+unfolding reading
+accepts s k h n e = let a = by-framed s (frame s) k h n e in record { framed = a .0; primitive = a .1; accepted = a .2 }
+
+pub accepts-lawful : (s : List ℕ) (k : Kind) (h n : ℕ) → Accepts s k h n → Lawful (frameWith opening) (sextet s) (length s / 4) k h n
+accepts-lawful s k h n a = subst (Good (frameWith opening) (sextet s) (length s / 4)) (a .framed) (frame-good s)
+
+-- ---- its raw value lies within it
+
+first-accepts : (v w : Verdict) → andThen v w ≡ Accepted → (v ≡ Accepted) × (w ≡ Accepted)
+unfolding andThen
+first-accepts Accepted w e = (refl, e)
+first-accepts (Refused m p) w e = let z : _≡_ {A = ℕ} 0 1 = cc in absurd (omega arith)
+
+unless-true : (n : ℕ) (b : Bool) → unless n b ≡ Accepted → b ≡ true
+unfolding unless
+unless-true n true e = refl
+unless-true n false e = let z : _≡_ {A = ℕ} 0 1 = cc in absurd (omega arith)
+
+pub led : (k : Kind) (h : ℕ) (s : List ℕ) → judgeKind k h s (ownCheck 0) ≡ Accepted → Led k
+unfolding judgeKind hasLead
+led (Fixed c) h s e = tt
+led (Variable t l m) h s e =
+    let nine = unless-true 9 _ (first-accepts _ _ (first-accepts (behind h s) _ e .1) .0) in
+    λ p. ltb-true 0 m (rw (lt-ltb 0 l p) at nine)
+led (Group l) h s e = tt
+led Genus h s e = tt
+
+pub starts-inside : (s : List ℕ) (k : Kind) (h n : ℕ) → Accepts s k h n → rawStart k h ≤ 3 * n
+starts-inside s k h n a = let g = accepts-lawful s k h n a in raw-inside k h n (g .inside) (g .shape) (led k h _ (a .accepted))
+
+-- ---- its tag characters lie in the first sextets
+
+taggable-of : (k : Kind) (h n : ℕ) → Shaped k h n → Taggable k
+taggable-of (Fixed c) h n s = λ t. let g = s .0 .tag t in (g .filled, g .units, g .short)
+taggable-of (Variable t l m) h n s = tt
+taggable-of (Group l) h n s = tt
+taggable-of Genus h n s = tt
+
+pub taggable : (s : List ℕ) (k : Kind) (h n : ℕ) → Accepts s k h n → Taggable k
+taggable s k h n a = taggable-of k h n (accepts-lawful s k h n a .shape)
+
+pub tag-padded : (cs : List ℕ) (c : CodeRow) (start : ℕ) → length cs ≡ 12 → Taggable (Fixed c) → (c .tag ≡ 0 → ⊥) → start ≡ c .size - c .tag
+    → tagFrom cs start (c .tag) ≡ padded (tagOf (Fixed c) cs)
+unfolding tagFrom padded tagOf
+tag-padded cs c start l f t e =
+    let g = f t in
+    let z : start ≡ c .chars + prepadOf c = omega (arith, g .0) in
+    let m : length (map charOf (take (c .tag) (drop start cs))) ≡ c .tag =
+    length-map (take (c .tag) (drop start cs)) charOf ∙ length-take-le (c .tag) (drop start cs) (omega (arith, length-drop start cs, g .0, g .1)) in
+    rw (← z, m)
+
+pub no-tag-row : (cs : List ℕ) (c : CodeRow) → c .tag ≡ 0 → 0 ∷ 0 ∷ 0 ∷ 0 ∷ 0 ∷ 0 ∷ 0 ∷ 0 ∷ 0 ∷ 0 ∷ 0 ∷ [] ≡ padded (tagOf (Fixed c) cs)
+unfolding padded tagOf
+no-tag-row cs c e = rw e
+
+tag-there : (s : List ℕ) (start m : ℕ) → start + m ≤ 12 → start + m ≤ length s → take m (drop start (headOf s)) ≡ take m (drop start s)
+tag-there s start m a b =
+    let l = length-take-le m (drop start (headOf s)) (omega (arith, length-drop start (headOf s), head-length s)) in
+    ext-getD 0 (take m (drop start (headOf s))) (take m (drop start s))
+    (l ∙ sym (length-take-le m (drop start s) (omega (arith, length-drop start s))))
+    (λ i h. let j : i < m = omega (arith, l) in
+    getD-take m (drop start (headOf s)) i 0 j ∙ getD-drop start (headOf s) i 0 ∙ head-at s (start + i) (omega arith)
+    ∙ sym (getD-take m (drop start s) i 0 j ∙ getD-drop start s i 0))
+
+tag-row-head : (s : List ℕ) (c : CodeRow) → Taggable (Fixed c) → c .size ≤ length s → tagOf (Fixed c) (headOf s) ≡ tagOf (Fixed c) s
+unfolding tagOf
+tag-row-head s c f l =
+    ⊎-elim (λ z. rw (eqb-true (c .tag) 0 z)) (λ z. let g = f (eqb-false (c .tag) 0 z) in
+    ap (map charOf) (tag-there s (c .chars + prepadOf c) (c .tag) (omega (arith, g .0, g .1)) (omega (arith, g .0)))) (whether (eqb (c .tag) 0))
+
+tag-head : (k : Kind) (h n : ℕ) (s : List ℕ) → Shaped k h n → 4 * n ≤ length s → tagOf k (headOf s) ≡ tagOf k s
+unfolding tagOf
+tag-head (Fixed c) h n s shape l = tag-row-head s c (taggable-of (Fixed c) h n shape) (omega (arith, shape .2))
+tag-head (Variable t l m) h n s shape r = refl
+tag-head (Group l) h n s shape r = refl
+tag-head Genus h n s shape r = refl
+
+-- the tag characters of the item, by the first sextets of the part
+pub tag-own : (s cs own : List ℕ) (k : Kind) (h n : ℕ) → Accepts s k h n → cs ≡ headOf s → own ≡ headOf (take (4 * n) cs)
+    → padded (tagOf k own) ≡ padded (tagOf k (take (4 * n) s))
+tag-own s cs own k h n a e p =
+    let g = accepts-lawful s k h n a in
+    rw (p, e, within-head s n) (ap padded (tag-head k h n (take (4 * n) s) (g .shape) (omega (arith, g .room, length-take-le (4 * n) s (omega (arith, g .room))))))
+
+-- ---- binary
+
+module _ (s : List ℕ) (at : ℕ) where
+  pub binary-long : 3145728 < length s → noBinary 1 0 ≡ readBinary s at
+  unfolding readBinary
+  binary-long l = simp (lt-ltb _ _ l)
+
+  module _ (l : length s ≤ 3145728) where
+    pub binary-past : length s ≤ at → noBinary 4 at ≡ readBinary s at
+    unfolding readBinary from binarySextets each reading readFramed frame frameWith binaryAnswer placeFrom
+    binary-past p =
+        let z : at + 0 ≡ at = omega arith in
+        rw (le-ltb 3145728 (length s) l, drop-of-length-le s {i = at} p, z)
+
+    pub binary-refused : (m p : ℕ) → outcome (reading (binarySextets (drop at s))) ≡ Unframed m p
+        → noBinary m (at + (p / 4 * 3 + p % 4)) ≡ readBinary s at
+    unfolding readBinary from binaryAnswer placeFrom
+    binary-refused m p e = rw (le-ltb 3145728 (length s) l, is-refused (reading (binarySextets (drop at s))) m p e)
+
+    pub binary-found : (k : Kind) (h n : ℕ) → outcome (reading (binarySextets (drop at s))) ≡ Item k h n → (r : BinaryRead)
+        → r ≡ record { found = B.Found (primitiveOf k h n); tag = padded (tagOf k (take (4 * n) (binarySextets (drop at s)))) } → r ≡ readBinary s at
+    unfolding readBinary from binaryAnswer
+    binary-found k h n e r q = rw (le-ltb 3145728 (length s) l, is-found (reading (binarySextets (drop at s))) k h n e) q
+
+pub record Inside (s : List ℕ) (k : Kind) (h n : ℕ) : Type 0 where
+  pub few : h ≤ 2
+  pub room : n ≤ length s / 4
+  pub tags : Taggable k
+  pub start : rawStart k h ≤ 3 * n
+
+pub inside : (s : List ℕ) (k : Kind) (h n : ℕ) → outcome (reading s) ≡ Item k h n → Inside s k h n
+inside s k h n e =
+    let a = accepts s k h n (is-found (reading s) k h n e) in
+    let g = accepts-lawful s k h n a in
+    record { few = g .few; room = g .room; tags = taggable s k h n a; start = starts-inside s k h n a }
+
+pub part-units : (s : List ℕ) (at : ℕ) → length (binarySextets (drop at s)) / 4 ≡ (length s - at) / 3
+part-units s at = binary-reader .units (drop at s) ∙ ap (λ (n : ℕ). n / 3) (length-drop at s)
+
+out-found : (r : Reading) (k : Kind) (h n : ℕ) → r ≡ found k h n → outcome r ≡ Item k h n
+unfolding outcome
+out-found r k h n e = rw e
+
+found-in : (s : List ℕ) (at : ℕ) (r : Reading) (p : Primitive) → reading (binarySextets (drop at s)) ≡ r
+    → binaryAnswer at r (binarySextets (drop at s)) .found ≡ B.Found p → at ≤ length s → at + p .start + p .raw ≤ length s
+unfolding binaryAnswer primitiveOf
+found-in s at (refused m q) p e f l = let z : _≡_ {A = ℕ} 0 1 = cc in absurd (omega arith)
+found-in s at (found k h n) p e f l =
+    let i = inside (binarySextets (drop at s)) k h n (out-found _ k h n e) in
+    let q : p ≡ primitiveOf k h n = cc in
+    rw q (omega (arith, i .room, i .start, part-units s at))
+
+past-none : (s : List ℕ) (at : ℕ) (p : Primitive) → length s ≤ at → readBinary s at .found ≡ B.Found p → ⊥
+past-none s at p l e =
+    ⊎-elim (λ g. let z : _≡_ {A = ℕ} 0 1 = cc (binary-long s at g) in omega arith) (λ g. let z : _≡_ {A = ℕ} 0 1 = cc (binary-past s at g l) in omega arith)
+    (lt-or-ge 3145728 (length s))
+
+-- the part that is handed back lies in the stream
+pub found-inside : (s : List ℕ) (at : ℕ) (p : Primitive) → readBinary s at .found ≡ B.Found p → at + p .start + p .raw ≤ length s
+unfolding readBinary from
+found-inside s at p e =
+    ⊎-elim (λ g. let z : _≡_ {A = ℕ} 0 1 = cc (binary-long s at g) in absurd (omega arith))
+    (λ g. ⊎-elim (λ l. found-in s at _ p refl (rw (le-ltb 3145728 (length s) g) at e) (omega arith)) (λ l. absurd (past-none s at p l e)) (lt-or-ge at (length s)))
+    (lt-or-ge 3145728 (length s))

@@ -1,0 +1,14 @@
+use mathlib.Core.Path.{refl}
+use Rattle.format.specs.Reading.{noTag}
+use Rattle.reading.proofs.no_binary.Statement.{statement}
+use Rattle.reading.proofs.no_binary.Tie as tie
+use Rattle.reading.proofs.no_binary.Reads as reads
+use Rattle.reading.proofs.no_binary.Lts as lts
+
+-- src/lib.rt:256:1
+returns : tie.Need-returns
+unfolding noTag
+returns c = refl
+
+pub no-binary-spec : {M : Type 1} → statement M
+no-binary-spec = tie.close (tie.spec returns)

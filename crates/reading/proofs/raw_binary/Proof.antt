@@ -1,0 +1,81 @@
+use mathlib.Core.Path.{_≡_, ap, sym, _∙_}
+use Prim.Native.Nat.{_+_, _-_}
+use native.Mathlib.Omega.{arith}
+use Rattle.format.specs.declared.BinaryRead.{BinaryRead}
+use Rattle.format.specs.Reading.{partAt}
+use Rattle.reading.proofs.Answers.{found-inside}
+use borrow.Author.Needs.{needs}
+use Rattle.reading.proofs.raw_binary.Statement.{statement}
+use Rattle.reading.proofs.raw_binary.Tie as tie
+use Rattle.reading.proofs.raw_binary.Reads as reads
+use Rattle.reading.proofs.raw_binary.Lts as lts
+use Rattle.reading.proofs.read_binary.Reads as read-binary-reads
+
+-- src/lib.rt:298:9
+read-binary-requires : tie.Need-read-binary-requires
+read-binary-requires c κs = search needs
+
+-- src/lib.rt:301:39
+enum-told : tie.Need-enum-told
+enum-told c = search needs
+
+-- src/lib.rt:301:39
+slice-aggregate-result : tie.Need-slice-aggregate-result
+slice-aggregate-result c = search needs
+
+-- src/lib.rt:302:28
+enum-known-found : tie.Need-enum-known-found
+enum-known-found c = search needs
+
+-- src/lib.rt:303:25
+add-start : tie.Need-add-start
+add-start c =
+    let a = c .before .before .before .before .before .before .args in omega (arith, found-inside (a .s .now) (a .at .0) _ (ap (λ (r : BinaryRead). r .found) (sym (c .before .before .before .before .read-binary .ensures)) ∙ c .before .before .found .given .1))
+
+-- src/lib.rt:304:23
+add-end : tie.Need-add-end
+add-end c =
+    let a = c .before .before .before .before .before .before .before .args in omega (arith, found-inside (a .s .now) (a .at .0) _ (ap (λ (r : BinaryRead). r .found) (sym (c .before .before .before .before .before .read-binary .ensures)) ∙ c .before .before .before .found .given .1))
+
+-- src/lib.rt:305:13
+sub-result : tie.Need-sub-result
+sub-result c = search needs
+
+-- src/lib.rt:305:13
+part-result-start : tie.Need-part-result-start
+part-result-start c = search needs
+
+-- src/lib.rt:305:13
+part-result-end : tie.Need-part-result-end
+part-result-end c =
+    let a = c .before .before .before .before .before .before .before .args in omega (arith, found-inside (a .s .now) (a .at .0) _ (ap (λ (r : BinaryRead). r .found) (sym (c .before .before .before .before .before .read-binary .ensures)) ∙ c .before .before .before .found .given .1))
+
+-- src/lib.rt:294:1
+returns : tie.Need-returns
+unfolding partAt
+returns c = rw (ap (λ (r : BinaryRead). r .found) (sym (c .before .before .before .read-binary .ensures)) ∙ c .before .enum-told .given .1)
+
+-- src/lib.rt:294:1
+returns-2 : tie.Need-returns-2
+unfolding partAt
+returns-2 c =
+    let a = c .before .before .before .before .before .before .before .before .args in
+    let p = c .before .before .before .before .found .given .0 .0 in
+    let z : a .at .0 + p .start + p .raw - (a .at .0 + p .start) ≡ p .raw = omega arith in
+    rw (z, ap (λ (r : BinaryRead). r .found) (sym (c .before .before .before .before .before .before .read-binary .ensures)) ∙ c .before .before .before .before .found .given .1)
+
+pub raw-binary-spec : {M : Type 1} → statement M
+raw-binary-spec =
+    tie.close
+    (tie.spec
+    read-binary-requires
+    enum-told
+    slice-aggregate-result
+    enum-known-found
+    add-start
+    add-end
+    sub-result
+    part-result-start
+    part-result-end
+    returns
+    returns-2)

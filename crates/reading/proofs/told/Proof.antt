@@ -1,0 +1,27 @@
+use Rattle.reading.specs.Outcome.{toldBy}
+use borrow.Author.Needs.{needs}
+use Rattle.reading.proofs.told.Statement.{statement}
+use Rattle.reading.proofs.told.Tie as tie
+use Rattle.reading.proofs.told.Reads as reads
+use Rattle.reading.proofs.told.Lts as lts
+
+-- src/lib.rt:171:30
+enum-told : tie.Need-enum-told
+enum-told c = search needs
+
+-- src/lib.rt:172:28
+enum-known-v : tie.Need-enum-known-v
+enum-known-v c = search needs
+
+-- src/lib.rt:167:1
+returns : tie.Need-returns
+unfolding toldBy
+returns c = rw (c .enum-told .given .1)
+
+-- src/lib.rt:167:1
+returns-2 : tie.Need-returns-2
+unfolding toldBy
+returns-2 c = rw (c .before .v .given .1)
+
+pub told-spec : {M : Type 1} → statement M
+told-spec = tie.close (tie.spec enum-told enum-known-v returns returns-2)
