@@ -1,8 +1,9 @@
 -- Format's reading in the types of the code. Assumes nothing.
-use Prim.Native.Nat.{ℕ, _+_, _-_, _≤_}
+use Prim.Native.Nat.{ℕ, _+_, _-_, _*_, _/_, _%_, _≤_}
 use mathlib.Core.Path.{_≡_}
 use mathlib.Core.List.{List, map, _++_}
-use lib.ListN.{take, drop, replicate}
+use lib.ListN.{length, take, drop, replicate}
+use Rattle.base.specs.Digits.{Below}
 use Rattle.format.specs.declared.Framed.{Framed}
 use Rattle.format.specs.declared.Framed.the-variants.{Item, Unframed}
 use Rattle.format.specs.declared.Verdict.{Verdict}
@@ -15,6 +16,8 @@ use Rattle.format.specs.declared.TextFound.the-variants as T
 use Rattle.format.specs.declared.TextRead.{TextRead}
 use Rattle.format.specs.declared.BinaryFound.the-variants as B
 use Rattle.format.specs.declared.BinaryRead.{BinaryRead}
+use Rattle.format.specs.Units.{textSextets}
+use Rattle.format.specs.Conversion.{toBinary}
 use Rattle.format.specs.Offsets.{textOffset, binaryOffset}
 use Rattle.format.specs.Registry.{prepadOf}
 use Rattle.format.specs.Reading.{Reading, noTag}
@@ -47,3 +50,13 @@ noBinary m p = record { found = B.Refused m (binaryOffset p); tag = noTag }
 
 abbrev pub noText : ℕ → ℕ → TextRead
 noText m p = record { found = T.Refused m (textOffset p); tag = noTag }
+
+-- whole quadlets in the alphabet, within the limit
+pub record Fit (t : List ℕ) : Type 0 where
+  pub whole : length t % 4 ≡ 0
+  pub known : Below 64 (textSextets t)
+  pub short : length t ≤ 4194304
+
+-- the bytes of a text from a character on, in a buffer from a place on
+abbrev pub unitsInto : List ℕ → ℕ → List ℕ → ℕ → List ℕ
+unitsInto t from d to = take to d ++ (toBinary (drop from t) ++ drop (to + (length t - from) / 4 * 3) d)

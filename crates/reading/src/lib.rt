@@ -19,12 +19,12 @@ ghost use Prim.Native.Nat.{_+_, _-_, _*_, _<_, _≤_, _/_, _%_};
 ghost use lib.ListN.{length, take, drop};
 ghost use Rattle.base.specs.Digits.{Below};
 ghost use Rattle.format.specs.Alphabet.{charOf};
-ghost use Rattle.format.specs.Units.{textSextets, binarySextets};
+ghost use Rattle.format.specs.Units.{tripletOf, textSextets, binarySextets};
 ghost use Rattle.format.specs.Conversion.{toBinary};
 ghost use Rattle.format.specs.Registry.{zeroBitsOf, prepadOf};
 ghost use Rattle.format.specs.Values.{rawStart, tagOf};
 ghost use Rattle.format.specs.Reading.{codeOf, isPrimitive, tagsOf, primitiveOf, reading, padded, readText, rawLeft, readBinary, partAt};
-ghost use Rattle.reading.specs.Outcome.{outcome, toldBy, tagFrom, Taggable, noBinary, noText};
+ghost use Rattle.reading.specs.Outcome.{outcome, toldBy, tagFrom, Taggable, noBinary, noText, Fit, unitsInto};
 
 fn wide(x: u8) -> usize
     ensures { λ r. ⌜ (r ≡ x) × (r < 256) ⌝ }
@@ -303,6 +303,93 @@ pub fn raw_binary(s: &[u8], at: BinaryOffset) -> &[u8]
             let start = from + p.start;
             let end = start + p.raw;
             &s[start..end]
+        }
+    }
+}
+
+// ---- text: the raw value is copied out
+
+// The bytes of a text's units from a character on, into a buffer from a place on. All of it is known to be fit.
+fn copy_units(item: &[u8], from: usize, out: &mut [u8], to: usize)
+    requires { ⌜ Fit (now item) ⌝ }
+    requires { ⌜ (from % 4 ≡ 0) × (from ≤ length (now item)) × (to + (length (now item) - from) / 4 * 3 ≤ length (now out)) ⌝ }
+    ensures { λ _. ⌜ now (out .exit) ≡ unitsInto (now (item .entry)) from (now (out .entry)) to ⌝ }
+{
+    convert::text_to_binary(&item[from..], &mut out[to..]);
+}
+
+fn triplet_at(item: &[u8], at: usize) -> [u8; 3]
+    requires { ⌜ at + 4 ≤ length (now item) ⌝ }
+    ensures { λ r. ⌜ r ≡ tripletOf (take 4 (drop at (now (item .entry)))) ⌝ }
+{
+    let values = alphabet::sextets();
+    units::triplet(
+        &values,
+        [item[at], item[at + 1], item[at + 2], item[at + 3]],
+    )
+}
+
+// The bytes of an item from one of them on, which may stand within a unit.
+fn copy_raw(item: &[u8], start: usize, out: &mut [u8])
+    requires { ⌜ Fit (now item) ⌝ }
+    requires { ⌜ (start ≤ length (now item) / 4 * 3) × (length (now item) / 4 * 3 - start ≤ length (now out)) ⌝ }
+    ensures { λ _. ⌜ now (out .exit) ≡ drop start (toBinary (now (item .entry))) ++ drop (length (now (item .entry)) / 4 * 3 - start) (now (out .entry)) ⌝ }
+{
+    let unit = start / 3 * 4;
+    let skip = start % 3;
+    if skip == 0 {
+        copy_units(item, unit, out, 0);
+        return;
+    }
+    let t = triplet_at(item, unit);
+    if skip == 1 {
+        out[0] = t[1];
+        out[1] = t[2];
+        copy_units(item, unit + 4, out, 2);
+        return;
+    }
+    out[0] = t[2];
+    copy_units(item, unit + 4, out, 1);
+}
+
+fn no_text(number: u8, place: usize) -> TextRead
+    ensures { λ r. ⌜ r ≡ noText number place ⌝ }
+{
+    TextRead {
+        found: TextFound::Refused(number, TextOffset(place)),
+        tag: [0; 11],
+    }
+}
+
+// A primitive of a text at an offset; its raw value is copied to the buffer's start. A refused call writes nothing.
+pub fn read_text(s: &[u8], at: TextOffset, out: &mut [u8]) -> TextRead
+    ensures { λ r. ⌜ r ≡ readText (now (s .entry)) (at .0) (length (now (out .entry))) ⌝ }
+    ensures { λ r. ⌜ now (out .exit) ≡ rawLeft (r .found) (now (s .entry)) (at .0) (now (out .entry)) ⌝ }
+{
+    if 4194304 < s.len() {
+        return no_text(1, 0);
+    }
+    let from = at.0;
+    if s.len() <= from {
+        return no_text(4, from);
+    }
+    let part = &s[from..];
+    match read_text_part(part) {
+        Framed::Unframed { number, place } => no_text(number, from + place),
+        Framed::Item { kind, head, size } => {
+            let p = primitive_of(kind, head, size);
+            if out.len() < p.raw {
+                return no_text(3, 0);
+            }
+            let cs = framing::text_head(part);
+            let own = judging::within(cs, size);
+            let tag = tag_of(kind, own);
+            let end = 4 * size;
+            copy_raw(&part[..end], p.start, out);
+            TextRead {
+                found: TextFound::Found(p),
+                tag,
+            }
         }
     }
 }
