@@ -1,5 +1,5 @@
 -- Arrays of a stream's first sextets, and framing by them. Assumes nothing.
-use mathlib.Core.Path.{_≡_, refl, sym, ap, _∙_}
+use mathlib.Core.Path.{_≡_, refl, sym, ap, _∙_, subst}
 use mathlib.Core.List.{List, [], _∷_, _++_, map}
 use mathlib.Core.Bool.{Bool, true, false}
 use Prim.Native.Nat.{ℕ, _+_, _*_, _/_, _%_, _<_, _≤_}
@@ -19,6 +19,7 @@ use Rattle.format.specs.Units.{sextetsOf, textSextets, binarySextets}
 use Rattle.format.specs.Registry.{opening}
 use Rattle.format.specs.Framing.{frameWith, ruled, isOurs, digits4, frame, frameRuled, sextet}
 use Rattle.laws.specs.Registry.{opening-opens}
+use Rattle.laws.specs.Framing.{Lawful, Good, frame-good}
 use Rattle.laws.specs.Domains.{text-reader, binary-reader}
 use Rattle.laws.specs.Units.{sextets-size}
 use Rattle.laws.specs.Local.{frame-there, ruled-there, text-sextet, binary-sextet}
@@ -90,6 +91,22 @@ text-units s = text-reader .units s
 
 pub binary-units : (s : List ℕ) → length (binarySextets s) / 4 ≡ length s / 3
 binary-units s = binary-reader .units s
+
+-- ---- either form, and what holds of an item
+
+pub framed-text : (s cs : List ℕ) (f : Framed) → cs ≡ headOf (textSextets s) → f ≡ frameWith opening (λ i. getD cs i 0) (length s / 4)
+    → f ≡ frame (textSextets s)
+unfolding frame
+framed-text s cs f e p = rw (text-units s) (by-head (textSextets s) cs (length s / 4) f e p)
+
+pub framed-binary : (s cs : List ℕ) (f : Framed) → cs ≡ headOf (binarySextets s) → f ≡ frameWith opening (λ i. getD cs i 0) (length s / 3)
+    → f ≡ frame (binarySextets s)
+unfolding frame
+framed-binary s cs f e p = rw (binary-units s) (by-head (binarySextets s) cs (length s / 3) f e p)
+
+pub lawful : (s : List ℕ) (f : Framed) (k : Kind) (h n : ℕ) → f ≡ frame s → f ≡ Item k h n
+    → Lawful (frameWith opening) (sextet s) (length s / 4) k h n
+lawful s f k h n e p = subst (Good (frameWith opening) (sextet s) (length s / 4)) (sym e ∙ p) (frame-good s)
 
 -- ---- 7
 

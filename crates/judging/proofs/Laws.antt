@@ -13,7 +13,7 @@ use lib.Seq.{getD-take, take-all}
 use borrow.Author.Tests.{lt-ltb, le-ltb}
 use Rattle.base.specs.Pick.{pick}
 use Rattle.base.specs.Cases.{lt-or-ge, whether}
-use Rattle.base.specs.Lists.{map-drop, same-table}
+use Rattle.base.specs.Lists.{map-take, map-drop, same-table}
 use Rattle.base.specs.Digits.{Below, none, more, below-drop}
 use Rattle.format.specs.declared.CodeRow.{CodeRow}
 use Rattle.format.specs.declared.Kind.{Kind}
@@ -27,6 +27,7 @@ use Rattle.format.specs.Registry.{isOpaque, zeroBitsOf, prepadOf}
 use Rattle.format.specs.Judging.{shift, andThen, unless, scan, behind, hasLead, zeroBits, prepadRight, judgeKind, ownCheck}
 use Rattle.laws.specs.Registry.{Sound}
 use Rattle.laws.specs.Framing.{Shaped}
+use Rattle.laws.specs.Domains.{binary-reader}
 use Rattle.laws.specs.Conversion.{binary-below}
 use Rattle.framing.specs.Heads.{headOf}
 use Rattle.framing.proofs.Laws.{head-at}
@@ -142,3 +143,23 @@ own-judged (Fixed c) h n l s few shape =
 own-judged (Variable t lead count) h n l s few shape = rw (zero-head s (4 * h) (8 * lead) (omega arith))
 own-judged (Group letter) h n l s few shape = own-group letter h l s
 own-judged Genus h n l s few shape = refl
+
+-- ---- an item's own checks, from what the code has at hand
+
+own-cut : (s cs own : List ℕ) (n : ℕ) → cs ≡ headOf s → own ≡ headOf (take (4 * n) cs) → own ≡ headOf (take (4 * n) s)
+own-cut s cs own n e p = p ∙ rw e (within-head s n)
+
+pub own-text-judged : (part cs own : List ℕ) (k : Kind) (h n l : ℕ) (v : Verdict) → cs ≡ headOf (textSextets part) → own ≡ headOf (take (4 * n) cs)
+    → v ≡ ownBy k h own (behind h (textSextets (take (4 * n) part))) l → h ≤ 2 → Shaped k h n
+    → v ≡ judgeKind k h (take (4 * n) (textSextets part)) (ownCheck l)
+unfolding textSextets
+own-text-judged part cs own k h n l v e p w few shape =
+    w ∙ rw (own-cut (textSextets part) cs own n e p, map-take sextetOf (4 * n) part) (own-judged k h n l (take (4 * n) (textSextets part)) few shape)
+
+pub own-binary-judged : (part cs own : List ℕ) (k : Kind) (h n l : ℕ) (v : Verdict) → cs ≡ headOf (binarySextets part)
+    → own ≡ headOf (take (4 * n) cs) → v ≡ ownBy k h own Accepted l → h ≤ 2 → Shaped k h n → n * 3 ≤ length part
+    → v ≡ judgeKind k h (take (4 * n) (binarySextets part)) (ownCheck l)
+own-binary-judged part cs own k h n l v e p w few shape room =
+    let m : 4 * n ≡ n * 4 = omega arith in
+    let b : behind h (take (4 * n) (binarySextets part)) ≡ Accepted = rw m (rw (binary-reader .taken part n room) at (behind-binary (take (n * 3) part) h)) in
+    w ∙ rw (own-cut (binarySextets part) cs own n e p, ← b) (own-judged k h n l (take (4 * n) (binarySextets part)) few shape)

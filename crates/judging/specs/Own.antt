@@ -6,6 +6,8 @@ use Rattle.base.specs.Pick.{pick}
 use Rattle.format.specs.declared.CodeRow.{CodeRow}
 use Rattle.format.specs.declared.Kind.{Kind}
 use Rattle.format.specs.declared.Kind.the-variants.{Fixed, Variable, Group, Genus}
+use Rattle.format.specs.declared.Framed.{Framed}
+use Rattle.format.specs.declared.Framed.the-variants.{Item, Unframed}
 use Rattle.format.specs.declared.Verdict.{Verdict}
 use Rattle.format.specs.declared.Verdict.the-variants.{Accepted, Refused}
 use Rattle.format.specs.Registry.{isOpaque, zeroBitsOf, prepadOf}
@@ -29,3 +31,8 @@ ownBy (Fixed c) h cs b l = andThen b (fixedChecks c cs)
 ownBy (Variable t lead count) h cs b l = andThen b (variableChecks lead count h cs)
 ownBy (Group letter) h cs b l = groupOwn letter b l
 ownBy Genus h cs b l = Accepted
+
+-- an item after its verdict
+unfoldable pub toldBy : Framed → Verdict → Framed
+toldBy f Accepted = f
+toldBy f (Refused m p) = Unframed m p

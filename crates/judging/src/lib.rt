@@ -1,6 +1,7 @@
 // An item's own checks, which the walk and the single reader make: of a primitive 5 behind the header, 9, 8, 10; of a group 11 and,
 // if opaque, 5. A header's checks look at the item's first sextets, 0 past its end.
 use format::CodeRow;
+use format::Framed;
 use format::Kind;
 use format::Verdict;
 ghost use mathlib.Core.Path.{_≡_};
@@ -11,7 +12,7 @@ ghost use Rattle.format.specs.Units.{textSextets};
 ghost use Rattle.format.specs.Registry.{isOpaque, zeroBitsOf, prepadOf};
 ghost use Rattle.format.specs.Judging.{andThen, behind, hasLead, zeroBits, prepadRight};
 ghost use Rattle.framing.specs.Heads.{unitOf, headOf};
-ghost use Rattle.judging.specs.Own.{fixedChecks, variableChecks, groupOwn, ownBy};
+ghost use Rattle.judging.specs.Own.{fixedChecks, variableChecks, groupOwn, ownBy, toldBy};
 
 fn wide(x: u8) -> u32
     ensures { λ r. ⌜ (r ≡ x) × (r < 256) ⌝ }
@@ -275,5 +276,15 @@ pub fn own_binary(kind: Kind, h: usize, cs: [u8; 12], levels: usize) -> Verdict
             }
         }
         Kind::Genus => Verdict::Accepted,
+    }
+}
+
+// A framed item after its verdict: the item, or the refusal in its place.
+pub fn told(framed: Framed, v: Verdict) -> Framed
+    ensures { λ r. ⌜ r ≡ toldBy framed v ⌝ }
+{
+    match v {
+        Verdict::Accepted => framed,
+        Verdict::Refused { number, place } => Framed::Unframed { number, place },
     }
 }

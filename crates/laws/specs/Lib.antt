@@ -9,3 +9,4 @@ pub mod Judging
 pub mod Local
 pub mod Items
 pub mod Values
+pub mod Levels

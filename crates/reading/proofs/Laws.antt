@@ -27,23 +27,8 @@ use Rattle.framing.specs.Heads.{headOf}
 use Rattle.framing.proofs.Laws.{by-head, text-units, binary-units}
 use Rattle.judging.specs.Own.{ownBy}
 use Rattle.judging.proofs.Laws.{within-head, own-judged, behind-binary}
-use Rattle.reading.specs.Outcome.{outcome, toldBy, tagFrom}
-
--- ---- framing
-
-pub framed-text : (s cs : List ℕ) (f : Framed) → cs ≡ headOf (textSextets s) → f ≡ frameWith opening (λ i. getD cs i 0) (length s / 4)
-    → f ≡ frame (textSextets s)
-unfolding frame
-framed-text s cs f e p = rw (text-units s) (by-head (textSextets s) cs (length s / 4) f e p)
-
-pub framed-binary : (s cs : List ℕ) (f : Framed) → cs ≡ headOf (binarySextets s) → f ≡ frameWith opening (λ i. getD cs i 0) (length s / 3)
-    → f ≡ frame (binarySextets s)
-unfolding frame
-framed-binary s cs f e p = rw (binary-units s) (by-head (binarySextets s) cs (length s / 3) f e p)
-
-pub lawful : (s : List ℕ) (f : Framed) (k : Kind) (h n : ℕ) → f ≡ frame s → f ≡ Item k h n
-    → Lawful (frameWith opening) (sextet s) (length s / 4) k h n
-lawful s f k h n e p = subst (Good (frameWith opening) (sextet s) (length s / 4)) (sym e ∙ p) (frame-good s)
+use Rattle.judging.specs.Own.{toldBy}
+use Rattle.reading.specs.Outcome.{outcome, tagFrom}
 
 -- ---- 14, judging
 
@@ -66,26 +51,6 @@ module _ (s : List ℕ) (f : Framed) (e : f ≡ frame s) where
         → r ≡ outcome (reading s)
     unfolding reading readFramed
     read-judged o v w r t = rw (← e, q, o, ← w) (t ∙ told-out k h n v)
-
--- ---- an item's own checks, from what the code has at hand
-
-own-cut : (s cs own : List ℕ) (n : ℕ) → cs ≡ headOf s → own ≡ headOf (take (4 * n) cs) → own ≡ headOf (take (4 * n) s)
-own-cut s cs own n e p = p ∙ rw e (within-head s n)
-
-pub own-text-judged : (part cs own : List ℕ) (k : Kind) (h n : ℕ) (v : Verdict) → cs ≡ headOf (textSextets part) → own ≡ headOf (take (4 * n) cs)
-    → v ≡ ownBy k h own (behind h (textSextets (take (4 * n) part))) 0 → h ≤ 2 → Shaped k h n
-    → v ≡ judgeKind k h (take (4 * n) (textSextets part)) (ownCheck 0)
-unfolding textSextets
-own-text-judged part cs own k h n v e p w few shape =
-    w ∙ rw (own-cut (textSextets part) cs own n e p, map-take sextetOf (4 * n) part) (own-judged k h n 0 (take (4 * n) (textSextets part)) few shape)
-
-pub own-binary-judged : (part cs own : List ℕ) (k : Kind) (h n : ℕ) (v : Verdict) → cs ≡ headOf (binarySextets part)
-    → own ≡ headOf (take (4 * n) cs) → v ≡ ownBy k h own Accepted 0 → h ≤ 2 → Shaped k h n → n * 3 ≤ length part
-    → v ≡ judgeKind k h (take (4 * n) (binarySextets part)) (ownCheck 0)
-own-binary-judged part cs own k h n v e p w few shape room =
-    let m : 4 * n ≡ n * 4 = omega arith in
-    let b : behind h (take (4 * n) (binarySextets part)) ≡ Accepted = rw m (rw (binary-reader .taken part n room) at (behind-binary (take (n * 3) part) h)) in
-    w ∙ rw (own-cut (binarySextets part) cs own n e p, ← b) (own-judged k h n 0 (take (4 * n) (binarySextets part)) few shape)
 
 -- ---- tag characters, one behind the other
 

@@ -6,8 +6,6 @@ use lib.ListN.{length, take, drop, replicate}
 use Rattle.base.specs.Digits.{Below}
 use Rattle.format.specs.declared.Framed.{Framed}
 use Rattle.format.specs.declared.Framed.the-variants.{Item, Unframed}
-use Rattle.format.specs.declared.Verdict.{Verdict}
-use Rattle.format.specs.declared.Verdict.the-variants.{Accepted, Refused}
 use Rattle.format.specs.Alphabet.{charOf}
 use Rattle.format.specs.declared.CodeRow.{CodeRow}
 use Rattle.format.specs.declared.Kind.{Kind}
@@ -27,11 +25,6 @@ use Rattle.format.specs.Reading.Reading.{refused, found}
 unfoldable pub outcome : Reading → Framed
 outcome (refused m p) = Unframed m p
 outcome (found k h n) = Item k h n
-
--- an item after its verdict
-unfoldable pub toldBy : Framed → Verdict → Framed
-toldBy f Accepted = f
-toldBy f (Refused m p) = Unframed m p
 
 -- so many tag characters from a place on, in eleven places
 unfoldable pub tagFrom : List ℕ → ℕ → ℕ → List ℕ

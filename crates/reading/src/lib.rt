@@ -11,7 +11,6 @@ use format::TextFound;
 use format::TextOffset;
 use format::TextRead;
 use format::ToBinary;
-use format::Verdict;
 ghost use mathlib.Core.Path.{_≡_};
 ghost use Rattle.format.specs.declared.Kind.the-variants as Kind;
 ghost use mathlib.Core.List.{_++_, map};
@@ -24,7 +23,7 @@ ghost use Rattle.format.specs.Conversion.{toBinary};
 ghost use Rattle.format.specs.Registry.{zeroBitsOf, prepadOf};
 ghost use Rattle.format.specs.Values.{rawStart, tagOf};
 ghost use Rattle.format.specs.Reading.{codeOf, isPrimitive, tagsOf, primitiveOf, reading, padded, readText, rawLeft, readBinary, partAt};
-ghost use Rattle.reading.specs.Outcome.{outcome, toldBy, tagFrom, Taggable, noBinary, noText, Fit, unitsInto};
+ghost use Rattle.reading.specs.Outcome.{outcome, tagFrom, Taggable, noBinary, noText, Fit, unitsInto};
 
 fn wide(x: u8) -> usize
     ensures { λ r. ⌜ (r ≡ x) × (r < 256) ⌝ }
@@ -170,15 +169,6 @@ fn tag_from(cs: [u8; 12], start: usize, count: usize) -> [u8; 11]
 
 // ---- framing, 14, judging: one for each form, with the place in sextets
 
-fn told(framed: Framed, v: Verdict) -> Framed
-    ensures { λ r. ⌜ r ≡ toldBy framed v ⌝ }
-{
-    match v {
-        Verdict::Accepted => framed,
-        Verdict::Refused { number, place } => Framed::Unframed { number, place },
-    }
-}
-
 fn read_text_part(part: &[u8]) -> Framed
     ensures { λ r. ⌜ r ≡ outcome (reading (textSextets (now (part .entry)))) ⌝ }
 {
@@ -199,7 +189,7 @@ fn read_text_part(part: &[u8]) -> Framed
             let own = judging::within(cs, size);
             let end = 4 * size;
             let v = judging::own_text(kind, head, own, &part[..end], 0);
-            told(framed, v)
+            judging::told(framed, v)
         }
     }
 }
@@ -223,7 +213,7 @@ fn read_binary_part(part: &[u8]) -> Framed
             }
             let own = judging::within(cs, size);
             let v = judging::own_binary(kind, head, own, 0);
-            told(framed, v)
+            judging::told(framed, v)
         }
     }
 }

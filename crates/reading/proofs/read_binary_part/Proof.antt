@@ -1,7 +1,9 @@
 use mathlib.Core.Path.{sym, _∙_}
 use borrow.Author.Tests.{not-true, not-false}
 use Rattle.format.specs.Units.{binarySextets}
-use Rattle.reading.proofs.Laws.{framed-binary, lawful, read-unframed, read-other, read-judged, own-binary-judged}
+use Rattle.framing.proofs.Laws.{framed-binary, lawful}
+use Rattle.judging.proofs.Laws.{own-binary-judged}
+use Rattle.reading.proofs.Laws.{read-unframed, read-other, read-judged}
 use native.Mathlib.Omega.{arith}
 use Rattle.framing.proofs.Laws.{binary-units}
 use borrow.Author.Needs.{needs}
@@ -14,7 +16,7 @@ use Rattle.framing.proofs.frame_head.Reads as frame-head-reads
 use Rattle.judging.proofs.own_binary.Reads as own-binary-reads
 use Rattle.judging.proofs.within.Reads as within-reads
 use Rattle.reading.proofs.is_primitive.Reads as is-primitive-reads
-use Rattle.reading.proofs.told.Reads as told-reads
+use Rattle.judging.proofs.told.Reads as told-reads
 
 -- src/lib.rt:204:9
 binary-head-requires : tie.Need-binary-head-requires
@@ -65,7 +67,7 @@ returns-3 c =
     let e = framed-binary _ _ _ (f .before .before .before .binary-head .ensures) (f .before .before .frame-head .ensures) in
     let g = lawful (binarySextets (f .before .before .before .before .before .args .part .now)) _ _ _ _ e (f .framed .given .1) in
     read-judged _ _ e _ _ _ (f .framed .given .1) (sym (c .before .before .before .before .is-primitive .ensures) ∙ not-false _ (c .before .before .before .if1 .left)) _
-    (own-binary-judged _ _ _ _ _ _ _ (f .before .before .before .binary-head .ensures) (c .before .before .within .ensures) (c .before .own-binary .ensures) (g .few) (g .shape) (omega (arith, g .room, binary-units (f .before .before .before .before .before .args .part .now)))) _ (c .told .ensures)
+    (own-binary-judged _ _ _ _ _ _ 0 _ (f .before .before .before .binary-head .ensures) (c .before .before .within .ensures) (c .before .own-binary .ensures) (g .few) (g .shape) (omega (arith, g .room, binary-units (f .before .before .before .before .before .args .part .now)))) _ (c .told .ensures)
 
 pub read-binary-part-spec : {M : Type 1} → statement M
 read-binary-part-spec =

@@ -1,9 +1,9 @@
-use Rattle.reading.specs.Outcome.{toldBy}
+use Rattle.judging.specs.Own.{toldBy}
 use borrow.Author.Needs.{needs}
-use Rattle.reading.proofs.told.Statement.{statement}
-use Rattle.reading.proofs.told.Tie as tie
-use Rattle.reading.proofs.told.Reads as reads
-use Rattle.reading.proofs.told.Lts as lts
+use Rattle.judging.proofs.told.Statement.{statement}
+use Rattle.judging.proofs.told.Tie as tie
+use Rattle.judging.proofs.told.Reads as reads
+use Rattle.judging.proofs.told.Lts as lts
 
 -- src/lib.rt:171:30
 enum-told : tie.Need-enum-told
