@@ -16,8 +16,8 @@ use Rattle.claims.specs.Words.{WholeText, WholeBinary}
 use Rattle.walk.specs.declared.Walk.{Walk}
 use Rattle.walk.specs.declared.Found.the-variants as F
 use Rattle.walk.specs.Walking.{isFit, stepIn}
-use Rattle.walk_claims.specs.Words.{Fit, unitsIn, after, foundAt, Yields, Stops, outerItems}
-use Rattle.walk_claims.specs.Words.{spanOf, upToRefusal, foundOf, Last, SameStep}
+use Rattle.walk_claims.specs.Words.{Fit, unitsIn, after, foundAt, Yields, Stops, Behind, outerItems, spanOf, upToRefusal}
+use Rattle.walk_claims.specs.Words.{foundOf, firstRefusal, Last, SameStep}
 
 -- ---- of the test on a state
 
@@ -25,8 +25,8 @@ pub record ThirteenClaims : Type 0 where
   -- "13 is given exactly when: more than 16 open, an unused slot not 0, the position not before the innermost end, or past the
   -- stream, an inner end past its outer, the outermost past the stream, or the first-item mark set with none open": the test of
   -- a stream of n units passes exactly where none of these holds
-  pub fit : (w : Walk) (n : ℕ) → isFit w n ≡ true → Fit w n
-  pub unfit : (w : Walk) (n : ℕ) → Fit w n → isFit w n ≡ true
+  pub only-fit : (w : Walk) (n : ℕ) → isFit w n ≡ true → Fit w n
+  pub every-fit : (w : Walk) (n : ℕ) → Fit w n → isFit w n ≡ true
 
 -- ---- of a stream, text or binary
 
@@ -46,6 +46,9 @@ pub record StreamClaims (d : Domain) (xs : List ℕ) : Type 0 where
       → (isFit (stepIn d xs w .next) (unitsIn d xs) ≡ true) × (length (stepIn d xs w .next .ends) ≡ maxDepth)
   -- "At a refusal or the end the state stays as it was."
   pub stays : (w : Walk) → Stops (stepIn d xs w .found) → stepIn d xs w .next ≡ w
+  -- "each with offset, size, depth (the number of groups it stands within)": the item stands at the position, and the next
+  -- position and mark are those behind it
+  pub yields : (w : Walk) (o n e h : ℕ) (k : Kind) → stepIn d xs w .found ≡ F.Item o n e k h → Behind d w o n e k h (stepIn d xs w .next)
   -- the issue: "the position never falls", and an item moves it on by a unit at least
   pub never-back : (w : Walk) → w .at ≤ stepIn d xs w .next .at
   pub moves-on : (w : Walk) → Yields (stepIn d xs w .found) → w .at < stepIn d xs w .next .at
@@ -60,8 +63,10 @@ pub record StreamClaims (d : Domain) (xs : List ℕ) : Type 0 where
   -- they are the first of the report's, in order, and all of them where none is refused
   pub outer-front : upToRefusal d xs (rowsIn d xs) ≡ take (length (upToRefusal d xs (rowsIn d xs))) (map spanOf (rowsIn d xs))
   pub outer-all : refusalsIn d xs ≡ [] → upToRefusal d xs (rowsIn d xs) ≡ map spanOf (rowsIn d xs)
-  -- "or the first refusal, or the end": where the walk stops it has the number and place of the report's first refused item,
-  -- else the remainder's number; and it ends where there is neither
+  -- "or the first refusal, or the end": where the walk stops it has the number and place of the first refusal of the stream's
+  -- items one by one, or of what cannot be framed behind them
+  pub first : length xs ≤ d .limit → (k : ℕ) → Stops (foundAt d xs k) → foundAt d xs k ≡ foundOf (firstRefusal d xs)
+  -- in the report's rows: the first refused item's number and place, else the remainder's number, else it ends
   pub last : length xs ≤ d .limit → (k : ℕ) → Stops (foundAt d xs k) → Last (rowsIn d xs) (remainderIn d xs) (foundAt d xs k)
   -- the issue: "running the walk over a framed item's own bytes ends without refusal exactly when judging accepts it, and else
   -- gives judging's number and place"

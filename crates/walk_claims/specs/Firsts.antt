@@ -3,12 +3,11 @@
 use Prim.Native.Nat.{ℕ, zero, suc, _+_, _*_, _≤_, _<_}
 use mathlib.Core.Path.{_≡_, refl, sym, ap, _∙_}
 use mathlib.Core.List.{List}
-use mathlib.Core.Bool.{Bool, true, false}
+use mathlib.Core.Bool.{true, false}
 use native.Mathlib.Omega.{arith}
 use native.Mathlib.Nat.{add-mul}
 use lib.ListN.{length, drop}
 use lib.Seq.{take-length, drop-length, length-take-le}
-use Rattle.base.specs.Pick.{pick}
 use Rattle.format.specs.declared.Kind.{Kind}
 use Rattle.format.specs.declared.Framed.the-variants.{Item, Unframed}
 use Rattle.format.specs.declared.Verdict.{Verdict}
@@ -71,14 +70,17 @@ module _ (d : Domain) (R : Reader d) (xs : List ℕ) where
         ← add-mul,
       )
 
-  at-end : (t : Bool) → tailOf d xs ≡ t → base (unitsIn d xs) ≡ pick t (placed (d .unit) (Refused 4 (4 * unitsIn d xs))) Accepted
+  at-cut : tailOf d xs ≡ true → base (unitsIn d xs) ≡ placed (d .unit) (Refused 4 (4 * unitsIn d xs))
   unfolding firstOf shift
-  at-end true e =
+  at-cut e =
       let z : 4 * unitsIn d xs + 0 ≡ 4 * unitsIn d xs = omega arith in
       ap (firstOf d (unitsIn d xs * d .unit))
       (C.cut-refused (frameIn d) (frames d R) (from d xs (unitsIn d xs)) (tail-left d R xs e) (framed-end d R xs))
       ∙ sym (placed-shift (d .unit) (unitsIn d xs) (Refused 4 0)) ∙ ap (λ (p : ℕ). placed (d .unit) (Refused 4 p)) z
-  at-end false e =
+
+  at-end : tailOf d xs ≡ false → base (unitsIn d xs) ≡ Accepted
+  unfolding firstOf
+  at-end e =
       ap (λ (l : List ℕ). firstOf d (unitsIn d xs * d .unit) (cut (frameIn d) l)) (none-left d R xs e)
       ∙ ap (firstOf d (unitsIn d xs * d .unit)) (C.cut-nil (frameIn d) (frames d R))
 
@@ -88,7 +90,8 @@ module _ (d : Domain) (R : Reader d) (xs : List ℕ) where
     end = Accepted;
     emit = λ at m v. v;
     base = base;
-    at-end = at-end (tailOf d xs) refl;
+    at-cut = at-cut;
+    at-end = at-end;
     at-refused = at-refused;
     at-item = λ at k h m lt e.
         let own : List ℕ = part s at (at + m) in

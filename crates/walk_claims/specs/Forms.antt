@@ -7,7 +7,7 @@ use mathlib.Core.Bool.{Bool, true, false}
 use native.Mathlib.Omega.{arith}
 use lib.ListN.{length, take}
 use borrow.Author.Tests.{le-ltb}
-use Rattle.base.specs.Pick.{pick, pick-by}
+use Rattle.base.specs.Pick.{pick-by}
 use Rattle.base.specs.Digits.{Below, below-take, below-drop}
 use Rattle.format.specs.declared.Framed.the-variants.{Unframed}
 use Rattle.format.specs.Units.{text, binary, textSextets}
@@ -34,12 +34,6 @@ at-unit : (m p : ℕ) → p % 4 ≡ 0 → InRatio (F.Refused m p)
 unfolding foundIn
 at-unit m p e = (refl, omega arith)
 
--- at the stream's end
-end-ratio : (n : ℕ) (tail : Bool) → InRatio (pick tail (F.Refused 4 (4 * n)) F.End)
-unfolding foundIn
-end-ratio n true = (refl, omega arith)
-end-ratio n false = tt
-
 next-told : (first : Bool) (s : List ℕ) → Told (sextet s) (frameNext first s)
 next-told true s = frameRuled-told s
 next-told false s = frame-told s
@@ -51,7 +45,7 @@ module _ (s : List ℕ) (low : Below 64 s) (n : ℕ) (tail : Bool) (w : Walk) wh
   fit-ratio : InRatio (stepFit s n tail w .found)
   unfolding foundIn
   fit-ratio =
-      step-by s n tail w (λ r. InRatio (r .found)) (λ _. end-ratio n tail)
+      step-by s n tail w (λ r. InRatio (r .found)) (λ _ _. at-unit 4 (4 * n) (omega arith)) (λ _ _. tt)
       (λ m p _ e.
       let here : List ℕ = part s (w .at) (stopOf w n) in
       let t : Told (sextet here) (Unframed m p) = subst (Told (sextet here)) e (next-told (asked w) here) in

@@ -139,7 +139,7 @@ module _ (s : List ℕ) (n : ℕ) (tail : Bool) (w : Walk) (long : 4 * n ≤ len
 
   pub step-fits : Fits (stepFit s n tail w .next) n
   step-fits =
-      step-by s n tail w (λ r. Fits (r .next) n) (λ _. f) (λ m p _ _. f) (λ k h m q p _ _ _. f)
+      step-by s n tail w (λ r. Fits (r .next) n) (λ _ _. f) (λ _ _. f) (λ m p _ _. f) (λ k h m q p _ _ _. f)
       (λ k h m _ e a. let b = item-room s n tail w long f k h m e in
       next-by w h m (λ v. Fits v n) k (over-fits n w f h m (b .1) (b .2))
       (λ letter q o. into-fits n w f h m (b .1) (b .2) _ (group-few k h m letter a q)))

@@ -6,6 +6,7 @@ pub mod Steps
 pub mod Keeps
 pub mod Rest
 pub mod Runs
+pub mod Behind
 pub mod Streams
 pub mod Firsts
 pub mod Outer

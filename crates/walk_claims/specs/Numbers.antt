@@ -7,7 +7,7 @@ use native.Mathlib.Omega.{arith}
 use lib.ListN.{length}
 use lib.Dec.{ltb}
 use borrow.Author.Tests.{lt-ltb, le-ltb}
-use Rattle.base.specs.Pick.{pick, pick-by}
+use Rattle.base.specs.Pick.{pick-by}
 use Rattle.format.specs.declared.Kind.{Kind}
 use Rattle.format.specs.declared.Kind.the-variants.{Fixed, Variable, Group, Genus}
 use Rattle.format.specs.declared.Opening.{Opening}
@@ -125,18 +125,13 @@ module _ (d : Domain) (xs : List ℕ) (w : Walk) where
   own-numbered : (m : ℕ) → Own m → Numbered d xs w (F.Refused m 0)
   own-numbered m o = (λ e. absurd (omega arith), λ e. absurd (omega arith))
 
-  end-numbered : (tail : Bool) (n : ℕ) → Numbered d xs w (foundIn (d .unit) (pick tail (F.Refused 4 (4 * n)) F.End))
-  unfolding foundIn
-  end-numbered true n = own-numbered 4 (omega arith, omega arith)
-  end-numbered false n = tt
-
   pub numbered : Numbered d xs w (stepIn d xs w .found)
   unfolding foundIn
   numbered =
       in-by d xs w (λ r. Numbered d xs w (r .found)) (λ l. (λ _. l, λ e. absurd (omega arith)))
       (λ l u. (λ e. absurd (omega arith), λ _. (l, u)))
       (λ l _. step-by (d .sextets xs) (unitsIn d xs) (tailOf d xs) w (λ r. Numbered d xs w (foundIn (d .unit) (r .found)))
-      (λ _. end-numbered (tailOf d xs) (unitsIn d xs))
+      (λ _ _. own-numbered 4 (omega arith, omega arith)) (λ _ _. tt)
       (λ m p _ e. own-numbered m (subst Framing e (next-own (asked w) (part (d .sextets xs) (w .at) (stopOf w (unitsIn d xs))))))
       (λ k h m q p _ _ e. own-numbered q (subst Judging e (kind-own k h _ _)))
       (λ k h m _ _ _. tt))

@@ -2,11 +2,10 @@
 use Prim.Native.Nat.{ℕ, zero, suc, _+_, _*_, _≤_, _<_}
 use mathlib.Core.Path.{_≡_, refl, sym, ap, _∙_}
 use mathlib.Core.List.{List, [], _∷_, _++_, append-assoc, append-nil}
-use mathlib.Core.Bool.{Bool, true, false}
+use mathlib.Core.Bool.{true, false}
 use native.Mathlib.Omega.{arith}
 use native.Mathlib.Nat.{add-mul}
 use lib.ListN.{length, drop}
-use Rattle.base.specs.Pick.{pick}
 use Rattle.base.specs.Cases.{whether}
 use mathlib.Core.Logic.{⊎-elim}
 use Rattle.format.specs.declared.Kind.{Kind}
@@ -28,7 +27,8 @@ use Rattle.walk.specs.declared.Found.{Found}
 use Rattle.walk.specs.declared.Found.the-variants as F
 use Rattle.walk.specs.declared.Stepped.{Stepped}
 use Rattle.walk.specs.Walking.{start, foundIn, stepIn}
-use Rattle.walk_claims.specs.Words.{unitsIn, tailOf, after, foundAt, Stops, Span, outer, outerItems, isOpened, upTo, upToRefusal}
+use Rattle.walk_claims.specs.Words.{unitsIn, tailOf, after, foundAt, Stops, Span, outer}
+use Rattle.walk_claims.specs.Words.{outerItems, opens, isOpened, upTo, upToRefusal}
 use Rattle.walk_claims.specs.Levels.{part}
 use Rattle.walk_claims.specs.Rest.{opaque-same, orElse, Telling, rest, left, Tells}
 use Rattle.walk_claims.specs.Steps.{inElements}
@@ -63,7 +63,7 @@ open-passes (suc l) letter h ys lt e = rw e
 yielded : (o o′ u : ℕ) (k : Kind) (h h′ n′ : ℕ) (s : List ℕ) (r : Span) (rs : List Span)
     → upTo (shift o (placed u (judgeKind k h s (group maxDepth)))) (isOpened (Item k h′ n′)) r rs
     ≡ orElse none (shift o′ (judgeKind k h s (ownCheck maxDepth))) (r ∷ orElse none (shift o′ (judgeKind k h s (group maxDepth))) rs)
-unfolding judgeKind isOpened orElse shift
+unfolding judgeKind isOpened opens orElse shift
 yielded o o′ u (Fixed c) h h′ n′ s r rs = judged-first o o′ u _ r rs
 yielded o o′ u (Variable t l c) h h′ n′ s r rs = judged-first o o′ u _ r rs
 yielded o o′ u Genus h h′ n′ s r rs = judged-first o o′ u _ r rs
@@ -87,11 +87,14 @@ module _ (d : Domain) (R : Reader d) (xs : List ℕ) where
   abbrev emit : ℕ → ℕ → List Span → List Span
   emit at m rs = record { offset = at * d .unit; size = m * d .unit } ∷ rs
 
-  at-end : (t : Bool) → tailOf d xs ≡ t → base (unitsIn d xs) ≡ pick t [] []
+  at-cut : tailOf d xs ≡ true → base (unitsIn d xs) ≡ []
   unfolding upToRefusal
-  at-end true e =
+  at-cut e =
       ap (upToRefusal d xs) (rows-refused d R _ (from d xs (unitsIn d xs)) (tail-left d R xs e) (framed-end d R xs))
-  at-end false e = rw (none-left d R xs e, rows-nil d R (unitsIn d xs * d .unit))
+
+  at-end : tailOf d xs ≡ false → base (unitsIn d xs) ≡ []
+  unfolding upToRefusal
+  at-end e = rw (none-left d R xs e, rows-nil d R (unitsIn d xs * d .unit))
 
   at-refused : (at m p : ℕ) → at < unitsIn d xs → frameRuled (part s at (unitsIn d xs)) ≡ Unframed m p → base at ≡ []
   unfolding upToRefusal
@@ -122,7 +125,8 @@ module _ (d : Domain) (R : Reader d) (xs : List ℕ) where
     end = [];
     emit = emit;
     base = base;
-    at-end = at-end (tailOf d xs) refl;
+    at-cut = at-cut;
+    at-end = at-end;
     at-refused = at-refused;
     at-item = at-item;
   }

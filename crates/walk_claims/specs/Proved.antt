@@ -10,6 +10,7 @@ use Rattle.claims.specs.Demand2.{binary-whole, text-whole, text-same, binary-sa
 use Rattle.walk_claims.specs.Words.{foundOf, Last}
 use Rattle.walk_claims.specs.Fitting.{fit-facts, fit-made}
 use Rattle.walk_claims.specs.Runs.{stays, moves, after-fit, keeps-fit, after-stop, ends}
+use Rattle.walk_claims.specs.Behind.{behind}
 use Rattle.walk_claims.specs.Firsts.{stops-first, own-first}
 use Rattle.walk_claims.specs.Outer.{all-outer}
 use Rattle.walk_claims.specs.Reported.{last-answer, all-accepted, front}
@@ -26,6 +27,7 @@ of-stream d R xs = record {
   fit-on-the-way = after-fit d R xs;
   keeps-fit = keeps-fit d R xs;
   stays = stays d xs;
+  yields = λ w. behind d R w xs;
   never-back = λ w. moves d xs w .never-back;
   moves-on = λ w. moves d xs w .on;
   ends = ends d xs;
@@ -33,6 +35,7 @@ of-stream d R xs = record {
   outer = all-outer d R xs;
   outer-front = front d xs (rowsIn d xs);
   outer-all = all-accepted d xs;
+  first = stops-first d R xs;
   last = λ short k h. subst (Last (rowsIn d xs) (remainderIn d xs)) (sym (stops-first d R xs short k h)) (last-answer d xs);
   item = λ k h short e j s. stops-first d R xs short j s ∙ ap foundOf (own-first d R xs k h e);
 }
@@ -47,7 +50,7 @@ of-both = record {
 
 pub proved : WalkClaims
 proved = record {
-  tests = record { fit = fit-facts; unfit = fit-made };
+  tests = record { only-fit = fit-facts; every-fit = fit-made };
   of-text = of-stream text text-reader;
   of-binary = of-stream binary binary-reader;
   of-both = of-both;

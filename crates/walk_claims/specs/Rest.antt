@@ -88,7 +88,8 @@ pub record Telling (s : List ℕ) (n : ℕ) (tail : Bool) (X : Type 0) : Type 0 
   pub end : X
   pub emit : ℕ → ℕ → X → X  -- an item that is yielded, with its first unit and its size
   pub base : ℕ → X  -- from a unit on, where none is open
-  pub at-end : base n ≡ pick tail (stop 4 (4 * n)) end
+  pub at-cut : tail ≡ true → base n ≡ stop 4 (4 * n)
+  pub at-end : tail ≡ false → base n ≡ end
   pub at-refused : (at m p : ℕ) → at < n → frameRuled (part s at n) ≡ Unframed m p → base at ≡ stop m (4 * at + p)
   pub at-item : (at : ℕ) (k : Kind) (h m : ℕ) → at < n → frameRuled (part s at n) ≡ Item k h m
       → base at
@@ -253,14 +254,9 @@ module _ (s : List ℕ) (n : ℕ) (tail : Bool) (X : Type 0) (T : Telling s n ta
     none-open e =
         ⊎-elim (λ l. absurd (omega (arith, f .ahead l, stop-in w n (f .nest)))) (λ g. omega arith) (lt-or-ge 0 (w .depth))
 
-    at-stop : w .at ≡ n → left w ≡ pick tail (T .stop 4 (4 * n)) (T .end)
+    at-stop : w .at ≡ n → left w ≡ T .base n
     unfolding rest
-    at-stop q = rw (none-open q, q) (T .at-end)
-
-    end-tells : (t : Bool) → left w ≡ pick t (T .stop 4 (4 * n)) (T .end)
-        → Tells w (record { next = w; found = pick t (F.Refused 4 (4 * n)) F.End })
-    end-tells true e = e
-    end-tells false e = e
+    at-stop q = rw (none-open q, q)
 
     before-stop : (w .at ≡ n → ⊥) → w .at < stopAt n (w .depth) (w .ends)
     before-stop ne = ⊎-elim (f .ahead) (λ g. top (omega arith)) (lt-or-ge 0 (w .depth))
@@ -297,7 +293,7 @@ module _ (s : List ℕ) (n : ℕ) (tail : Bool) (X : Type 0) (T : Telling s n ta
 
     pub step-tells : Tells w (stepFit s n tail w)
     step-tells =
-        step-by s n tail w (Tells w) (λ q. end-tells tail (at-stop q))
+        step-by s n tail w (Tells w) (λ q t. at-stop q ∙ T .at-cut t) (λ q t. at-stop q ∙ T .at-end t)
         (λ m p ne e.
         rest-refused (w .ends) (w .first) (w .at) long (w .depth) m p (before-stop ne) (stop-in w n (f .nest)) (framed-by (Unframed m p) e))
         refused-tells item-tells

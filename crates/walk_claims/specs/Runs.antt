@@ -3,12 +3,12 @@
 use Prim.Native.Nat.{ℕ, zero, suc, _+_, _*_, _≤_, _<_}
 use mathlib.Core.Path.{_≡_, refl, sym, ap, _∙_, subst}
 use mathlib.Core.List.{List}
-use mathlib.Core.Bool.{Bool, true, false}
+use mathlib.Core.Bool.{true}
 use mathlib.Core.Logic.{_⊎_, inl, inr, ⊎-elim}
 use native.Mathlib.Omega.{arith}
-use lib.ListN.{length, getD, set}
+use lib.ListN.{length, getD}
 use lib.Dec.{eqb}
-use Rattle.base.specs.Pick.{pick}
+use Rattle.base.specs.Pick.{pick-by}
 use Rattle.format.specs.declared.Kind.{Kind}
 use Rattle.format.specs.declared.Framed.the-variants.{Item}
 use Rattle.format.specs.Units.{Domain}
@@ -28,32 +28,28 @@ use Rattle.walk_claims.specs.Rest.{Telling, Tells, step-tells}
 
 -- ---- a refusal and the end leave the state as it was
 
-end-stops : (u : ℕ) (tail : Bool) (n : ℕ) → Stops (foundIn u (pick tail (F.Refused 4 (4 * n)) F.End))
-unfolding foundIn
-end-stops u true n = tt
-end-stops u false n = tt
-
 pub stays : (d : Domain) (xs : List ℕ) (w : Walk) → Stops (stepIn d xs w .found) → stepIn d xs w .next ≡ w
 unfolding foundIn
 stays d xs w =
     in-by d xs w (λ r. Stops (r .found) → r .next ≡ w) (λ _ _. refl) (λ _ _ _. refl)
     (λ _ _. step-by (d .sextets xs) (unitsIn d xs) (tailOf d xs) w
-    (λ r. Stops (foundIn (d .unit) (r .found)) → r .next ≡ w) (λ _ _. refl) (λ m p _ _ _. refl) (λ k h m q p _ _ _ _. refl)
+    (λ r. Stops (foundIn (d .unit) (r .found)) → r .next ≡ w)
+    (λ _ _ _. refl) (λ _ _ _. refl) (λ m p _ _ _. refl) (λ k h m q p _ _ _ _. refl)
     (λ k h m _ _ _ z. absurd z))
 
 -- ---- the position
 
-closed-at : (k : ℕ) (w : Walk) → closed k w .at ≡ w .at
+-- what does not hang on the open groups
+pub closed-keeps {ℓ} : {X : Type ℓ} (g : Walk → X)
+    → ((w : Walk) (ends : List ℕ) (k : ℕ) → g (record { ends = ends; depth = k; at = w .at; first = w .first }) ≡ g w)
+    → (k : ℕ) (w : Walk) → g (closed k w) ≡ g w
 unfolding closed
-closed-at zero w = refl
-closed-at (suc k) w = go (eqb (getD (w .ends) k 0) (w .at)) (closed-at k outside)
-  where
-    outside : Walk
-    outside = record { ends = set (w .ends) k 0; depth = k; at = w .at; first = w .first }
+closed-keeps g same zero w = refl
+closed-keeps g same (suc k) w =
+    pick-by (λ v. g v ≡ g w) (eqb (getD (w .ends) k 0) (w .at)) _ _ (λ _. closed-keeps g same k _ ∙ same w _ k) (λ _. refl)
 
-    go : (b : Bool) → closed k outside .at ≡ w .at → pick b (closed k outside) w .at ≡ w .at
-    go true e = e
-    go false e = refl
+pub closed-at : (k : ℕ) (w : Walk) → closed k w .at ≡ w .at
+closed-at = closed-keeps (λ w. w .at) (λ w ends k. refl)
 
 -- an item moves it on by a unit at least: its header's
 next-at : (w : Walk) (k : Kind) (h m : ℕ) → 0 < h → h ≤ m → w .at < nextOf w k h m .at
@@ -66,21 +62,18 @@ pub record Moves (w : Walk) (r : Stepped) : Type 0 where
   pub never-back : w .at ≤ r .next .at
   pub on : Yields (r .found) → w .at < r .next .at
 
-end-moves : (u : ℕ) (tail : Bool) (n : ℕ) (w : Walk)
-    → Moves w (inElements u (record { next = w; found = pick tail (F.Refused 4 (4 * n)) F.End }))
-unfolding foundIn
-end-moves u true n w = record { never-back = omega arith; on = λ z. absurd z }
-end-moves u false n w = record { never-back = omega arith; on = λ z. absurd z }
-
 pub moves : (d : Domain) (xs : List ℕ) (w : Walk) → Moves w (stepIn d xs w)
 unfolding foundIn
 moves d xs w =
     in-by d xs w (Moves w) (λ _. none) (λ _ _. none)
     (λ _ _. step-by (d .sextets xs) (unitsIn d xs) (tailOf d xs) w (λ r. Moves w (inElements (d .unit) r))
-    (λ _. end-moves (d .unit) (tailOf d xs) (unitsIn d xs) w) (λ m p _ _. none) (λ k h m q p _ _ _. none) (λ k h m _ e _. item k h m e))
+    (λ _ _. none) (λ _ _. ended) (λ m p _ _. none) (λ k h m q p _ _ _. none) (λ k h m _ e _. item k h m e))
   where
     none : {m p : ℕ} → Moves w (record { next = w; found = F.Refused m p })
     none = record { never-back = omega arith; on = λ z. absurd z }
+
+    ended : Moves w (record { next = w; found = F.End })
+    ended = record { never-back = omega arith; on = λ z. absurd z }
 
     item : (k : Kind) (h m : ℕ) → framedHere (d .sextets xs) (unitsIn d xs) (tailOf d xs) w ≡ Item k h m
         → Moves w (inElements (d .unit) (record { next = nextOf w k h m; found = F.Item (w .at) m (w .depth) k h }))
@@ -124,7 +117,7 @@ at-end-stops d xs w h =
     in-by d xs w (λ r. Stops (r .found)) (λ _. tt) (λ _ _. tt)
     (λ _ f. let z : w .at ≡ unitsIn d xs = omega (arith, fit-facts w (unitsIn d xs) f .inside) in
     step-by (d .sextets xs) (unitsIn d xs) (tailOf d xs) w (λ r. Stops (foundIn (d .unit) (r .found)))
-    (λ _. end-stops (d .unit) (tailOf d xs) (unitsIn d xs)) (λ m p _ _. tt) (λ k h m q p _ _ _. tt)
+    (λ _ _. tt) (λ _ _. tt) (λ m p _ _. tt) (λ k h m q p _ _ _. tt)
     (λ k h m ne _ _. absurd (ne z)))
 
 one-of : (f : Found) → Yields f ⊎ Stops f

@@ -51,7 +51,8 @@ module _ (s : List ℕ) (n : ℕ) (tail : Bool) (w : Walk) where
   judgedHere k h m = judgeKind k h (part s (w .at) (w .at + m)) (ownCheck (maxDepth - w .depth))
 
   pub step-by {ℓ} : (P : Stepped → Type ℓ)
-      → (w .at ≡ n → P (record { next = w; found = pick tail (F.Refused 4 (4 * n)) F.End }))
+      → (w .at ≡ n → tail ≡ true → P (record { next = w; found = F.Refused 4 (4 * n) }))
+      → (w .at ≡ n → tail ≡ false → P (record { next = w; found = F.End }))
       → ((m p : ℕ) → (w .at ≡ n → ⊥) → framedHere ≡ Unframed m p → P (record { next = w; found = F.Refused m (4 * w .at + p) }))
       → ((k : Kind) (h m q p : ℕ) → (w .at ≡ n → ⊥) → framedHere ≡ Item k h m → judgedHere k h m ≡ Refused q p
       → P (record { next = w; found = F.Refused q (4 * w .at + p) }))
@@ -59,8 +60,9 @@ module _ (s : List ℕ) (n : ℕ) (tail : Bool) (w : Walk) where
       → P (record { next = nextOf w k h m; found = F.Item (w .at) m (w .depth) k h }))
       → P (stepFit s n tail w)
   unfolding stepFit framedBy judged
-  step-by P end unframed refused item =
-      pick-by P (eqb (w .at) n) _ _ (λ e. end (eqb-true (w .at) n e))
+  step-by P cut end unframed refused item =
+      pick-by P (eqb (w .at) n) _ _
+      (λ e. pick-by (λ f. P (record { next = w; found = f })) tail _ _ (cut (eqb-true (w .at) n e)) (end (eqb-true (w .at) n e)))
       (λ e. rw (frame-asked w (part s (w .at) (stopOf w n))) (framed (eqb-false (w .at) n e) framedHere refl))
     where
       judge : (w .at ≡ n → ⊥) → (k : Kind) (h m : ℕ) → framedHere ≡ Item k h m → (v : Verdict) → judgedHere k h m ≡ v → P (judged w k h m v)

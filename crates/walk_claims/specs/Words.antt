@@ -1,18 +1,19 @@
 -- What the claims on the walk speak of. No proofs. Assumes nothing.
-use Prim.Native.Nat.{ℕ, zero, suc, _+_, _-_, _/_, _%_, _≤_, _<_}
+use Prim.Native.Nat.{ℕ, zero, suc, _+_, _-_, _*_, _/_, _%_, _≤_, _<_}
 use mathlib.Core.Path.{_≡_}
 use mathlib.Core.List.{List, [], _∷_, _++_}
 use mathlib.Core.Bool.{Bool, false, not}
 use lib.ListN.{length, getD}
 use lib.Dec.{ltb}
 use Rattle.base.specs.Pick.{pick}
+use Rattle.format.specs.declared.Kind.{Kind}
 use Rattle.format.specs.declared.Kind.the-variants.{Fixed, Variable, Group, Genus}
 use Rattle.format.specs.declared.Framed.{Framed}
 use Rattle.format.specs.declared.Framed.the-variants.{Item, Unframed}
 use Rattle.format.specs.declared.Verdict.{Verdict}
 use Rattle.format.specs.declared.Verdict.the-variants.{Accepted, Refused}
 use Rattle.format.specs.Units.{Domain}
-use Rattle.format.specs.Registry.{isOpaque}
+use Rattle.format.specs.Registry.{isOpaque, isOverrideable}
 use Rattle.format.specs.Cutting.{Cut, cut}
 use Rattle.format.specs.Cutting.Cut.{done, stopped, item}
 use Rattle.format.specs.Judging.{shift, andThen, maxDepth}
@@ -74,6 +75,33 @@ Stops (F.Item o n d k h) = ⊥
 Stops (F.Refused m p) = Unit {0}
 Stops F.End = Unit {0}
 
+-- ---- a step that yields
+
+-- "An opaque group is yielded and stepped over whole. Any other group is opened."
+unfoldable pub opens : Kind → Bool
+opens (Fixed c) = false
+opens (Variable t l c) = false
+opens Genus = false
+opens (Group letter) = not (isOpaque letter)
+
+-- "an `-A` `-B` `-C` group that isn't empty"
+unfoldable pub marks : Kind → ℕ → ℕ → Bool
+marks (Fixed c) head size = false
+marks (Variable t l c) head size = false
+marks Genus head size = false
+marks (Group letter) head size = pick (ltb head size) (isOverrideable letter) false
+
+-- the state next behind an item at offset o, of n elements, within e groups, of kind k with a header of h units
+pub record Behind (d : Domain) (w : Walk) (o n e : ℕ) (k : Kind) (h : ℕ) (next : Walk) : Type 0 where
+  pub offset : o ≡ w .at * d .unit
+  -- "depth (the number of groups it stands within)"
+  pub depth : e ≡ w .depth
+  -- to the first item of a group that is opened, else behind the item
+  pub position : next .at * d .unit ≡ o + pick (opens k) (h * d .unit) n
+  -- "The first-item mark is set exactly by a step that opens an `-A` `-B` `-C` group that isn't empty; every other yielding
+  -- step clears it."
+  pub mark : next .first ≡ marks k (h * d .unit) n
+
 -- ---- the items at depth 0
 
 pub record Span : Type 0 where
@@ -96,10 +124,7 @@ spanOf r = record { offset = r .offset; size = r .size }
 
 -- "of a group it judges only 11 and, if opaque, 5": a group that is opened is yielded before its contents are judged
 unfoldable pub isOpened : Framed → Bool
-isOpened (Item (Group letter) h n) = not (isOpaque letter)
-isOpened (Item (Fixed c) h n) = false
-isOpened (Item (Variable t l c) h n) = false
-isOpened (Item Genus h n) = false
+isOpened (Item k h n) = opens k
 isOpened (Unframed n p) = false
 
 -- an item in front of those behind it
