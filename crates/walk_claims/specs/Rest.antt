@@ -188,7 +188,7 @@ module _ (s : List ℕ) (n : ℕ) (tail : Bool) (X : Type 0) (T : Telling s n ta
     unfolding orElse shift movedTo
     over-rest v e = rw e (sym (closed-rest (w .depth) (w .ends) (w .at + m)))
 
-    -- the group at this state: its contents, and its ends slot
+    -- the group at this state: its contents, and the ends with its own
     abbrev inner : List ℕ
     inner = part s (w .at + h) (w .at + m)
 
@@ -199,17 +199,16 @@ module _ (s : List ℕ) (n : ℕ) (tail : Bool) (X : Type 0) (T : Telling s n ta
       own-end : getD withEnd (w .depth) 0 ≡ w .at + m
       own-end = getD-set-same (w .ends) (w .depth) (w .at + m) 0 (omega (arith, f .nest .full))
 
+      -- its items one by one, then what is behind it
+      abbrev inside : Bool → X
+      inside c = onward w m (shift (4 * h) (inTurn (judge (maxDepth - suc (w .depth))) (contents c inner)))
+
       -- from its first item on, marked b
-      in-level : (b c : Bool) → contents b inner ≡ contents c inner
-          → rest (suc (w .depth)) withEnd b (w .at + h)
-          ≡ onward w m (shift (4 * h) (inTurn (judge (maxDepth - suc (w .depth))) (contents c inner)))
+      in-level : (b c : Bool) → contents b inner ≡ contents c inner → rest (suc (w .depth)) withEnd b (w .at + h) ≡ inside c
       unfolding rest level
       in-level b c e =
           let o : 4 * w .at + 4 * h ≡ 4 * (w .at + h) = omega arith in
           rw (own-end, rest-below (w .depth) (w .depth) (w .at + m) (w .ends) false (w .at + m) (omega arith), e, shift-shift, o)
-
-      abbrev inside : Bool → X
-      inside c = onward w m (shift (4 * h) (inTurn (judge (maxDepth - suc (w .depth))) (contents c inner)))
 
       nonempty-rest : (c : Bool) → h < m → inside c ≡ left (intoNext w h m c)
       unfolding closed
@@ -236,7 +235,7 @@ module _ (s : List ℕ) (n : ℕ) (tail : Bool) (X : Type 0) (T : Telling s n ta
         rw (opens-next w h m letter o, group-opens l letter h inner o e, q) (into-rest few (isOverrideable letter)))
         (whether (isOpaque letter))
 
-    pub next-rest : (k : Kind) → judgedHere s n tail w k h m ≡ Accepted
+    next-rest : (k : Kind) → judgedHere s n tail w k h m ≡ Accepted
         → onward w m (judgeKind k h (part s (w .at) (w .at + m)) (group (maxDepth - w .depth))) ≡ left (nextOf w k h m)
     unfolding judgeKind nextOf past movedTo
     next-rest (Fixed c) e = over-rest _ e

@@ -24,6 +24,7 @@ use Rattle.walk.specs.declared.Found.the-variants as F
 use Rattle.walk.specs.declared.Stepped.{Stepped}
 use Rattle.walk.specs.Walking.{isFit, closed, movedTo, opened, past, nextOf, stopOf, judged}
 use Rattle.walk.specs.Walking.{framedBy, frameAt, stepFit, step, foundIn, stepIn}
+use Rattle.walk_claims.specs.Words.{unitsIn, tailOf}
 use Rattle.walk_claims.specs.Levels.{part, frameNext}
 
 -- ---- framing at a state: 7 is asked at top level, and where the mark is set
@@ -122,24 +123,24 @@ inElements u r = record { next = r .next; found = foundIn u (r .found) }
 module _ (d : Domain) (xs : List ℕ) (w : Walk) where
   -- a step of a fit state in this stream
   abbrev pub fitStep : Stepped
-  fitStep = inElements (d .unit) (stepFit (d .sextets xs) (length xs / d .unit) (ltb 0 (length xs % d .unit)) w)
+  fitStep = inElements (d .unit) (stepFit (d .sextets xs) (unitsIn d xs) (tailOf d xs) w)
 
   pub in-by {ℓ} : (P : Stepped → Type ℓ)
       → (d .limit < length xs → P (record { next = w; found = F.Refused 1 0 }))
-      → (length xs ≤ d .limit → isFit w (length xs / d .unit) ≡ false → P (record { next = w; found = F.Refused 13 0 }))
-      → (length xs ≤ d .limit → isFit w (length xs / d .unit) ≡ true → P fitStep)
+      → (length xs ≤ d .limit → isFit w (unitsIn d xs) ≡ false → P (record { next = w; found = F.Refused 13 0 }))
+      → (length xs ≤ d .limit → isFit w (unitsIn d xs) ≡ true → P fitStep)
       → P (stepIn d xs w)
   unfolding stepIn step foundIn
   in-by P long unfit fit =
       pick-by P (ltb (d .limit) (length xs)) _ _ (λ e. long (ltb-true (d .limit) (length xs) e))
-      (λ e. go (ltb-false (d .limit) (length xs) e) (isFit w (length xs / d .unit)) refl)
+      (λ e. go (ltb-false (d .limit) (length xs) e) (isFit w (unitsIn d xs)) refl)
     where
-      go : length xs ≤ d .limit → (b : Bool) → isFit w (length xs / d .unit) ≡ b
-          → P (inElements (d .unit) (pick b (stepFit (d .sextets xs) (length xs / d .unit) (ltb 0 (length xs % d .unit)) w)
+      go : length xs ≤ d .limit → (b : Bool) → isFit w (unitsIn d xs) ≡ b
+          → P (inElements (d .unit) (pick b (stepFit (d .sextets xs) (unitsIn d xs) (tailOf d xs) w)
           (record { next = w; found = F.Refused 13 0 })))
       go l true e = fit l e
       go l false e = let z : 0 * d .unit + 0 ≡ 0 = omega arith in rw z (unfit l e)
 
-  pub fit-step : length xs ≤ d .limit → isFit w (length xs / d .unit) ≡ true → stepIn d xs w ≡ fitStep
+  pub fit-step : length xs ≤ d .limit → isFit w (unitsIn d xs) ≡ true → stepIn d xs w ≡ fitStep
   unfolding stepIn step
   fit-step l f = rw (le-ltb (d .limit) (length xs) l, f)
