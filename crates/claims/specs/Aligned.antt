@@ -15,7 +15,7 @@ abbrev pub Aligned : Verdict → Type 0
 Aligned Accepted = Unit {0}
 Aligned (Refused n p) = p % 4 ≡ 0
 
-below-anywhere : (s : List ℕ) → Below 64 s → (i : ℕ) → getD s i 0 < 64
+pub below-anywhere : (s : List ℕ) → Below 64 s → (i : ℕ) → getD s i 0 < 64
 below-anywhere [] h i = omega arith
 below-anywhere (x ∷ s) (more p r) zero = p
 below-anywhere (x ∷ s) (more p r) (suc i) = below-anywhere s r i
@@ -30,7 +30,7 @@ unfolding scan shift
 scan-accepts [] h = refl
 scan-accepts (x ∷ s) (more p r) = rw (lt-ltb x 64 p, scan-accepts s r)
 
-aligned : Reaches (Below 64) Aligned
+pub aligned : Reaches (Below 64) Aligned
 aligned = record {
   takes = below-take 64;
   drops = below-drop 64;

@@ -46,21 +46,21 @@ binary-converts b room w h =
 
 -- ---- what it writes is such a stream, with the same sextets
 
-binary-whole : (t : List ℕ) → WholeText t → WholeBinary (toBinary t)
+pub binary-whole : (t : List ℕ) → WholeText t → WholeBinary (toBinary t)
 binary-whole t w = record {
   triplets = omega (arith, length-to-binary t);
   bytes = to-binary-below t;
   short = let s = w .short in omega (arith, length-to-binary t);
 }
 
-text-whole : (b : List ℕ) → WholeBinary b → WholeText (toText b)
+pub text-whole : (b : List ℕ) → WholeBinary b → WholeText (toText b)
 text-whole b w = record {
   quadlets = omega (arith, length-to-text b);
   alphabet = text-below b;
   short = let s = w .short in omega (arith, length-to-text b);
 }
 
-text-same : (t : List ℕ) → WholeText t → Same t (toBinary t)
+pub text-same : (t : List ℕ) → WholeText t → Same t (toBinary t)
 text-same t w = record {
   sextets = text-to-binary-sextets t (w .quadlets) (w .alphabet);
   quadlets = w .quadlets;
@@ -68,7 +68,7 @@ text-same t w = record {
   alphabet = w .alphabet;
 }
 
-binary-same : (b : List ℕ) → WholeBinary b → Same (toText b) b
+pub binary-same : (b : List ℕ) → WholeBinary b → Same (toText b) b
 binary-same b w = record {
   sextets = binary-to-text-sextets b;
   quadlets = text-whole b w .quadlets;

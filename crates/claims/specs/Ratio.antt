@@ -27,7 +27,7 @@ pub record Same (t b : List ℕ) : Type 0 where
   pub triplets : length b % 3 ≡ 0
   pub alphabet : Below 64 (textSextets t)
 
-same-units : (t b : List ℕ) → Same t b → length t / 4 ≡ length b / 3
+pub same-units : (t b : List ℕ) → Same t b → length t / 4 ≡ length b / 3
 same-units t b s = sym (text-reader .units t) ∙ ap (λ (l : List ℕ). length l / 4) (s .sextets) ∙ binary-reader .units b
 
 same-drop : (t b : List ℕ) (n : ℕ) → n ≤ length t / 4 → Same t b → Same (drop (n * 4) t) (drop (n * 3) b)

@@ -19,7 +19,7 @@ use Rattle.format.specs.Report.{ItemRow, RemainderRow, rowsOf, remainderOf, row
 use Rattle.damage.specs.Words.{Frames, row, itemAt, headOf, Alike, In, Left, Behind, Damaged, ByItself, Partition}
 use Rattle.damage.specs.Cuts as C
 
-shift-zero : (v : Verdict) → shift 0 v ≡ v
+pub shift-zero : (v : Verdict) → shift 0 v ≡ v
 unfolding shift
 shift-zero Accepted = refl
 shift-zero (Refused n p) = ap (Refused n) (omega arith)

@@ -117,10 +117,10 @@ module _ (Q : List ℕ → Type 0) (P : Verdict → Type 0) (R : Reaches Q P) wh
   behind-by h s q = R .counts-on h (scan (drop (4 * h) s)) (R .scans (drop (4 * h) s) (R .drops (4 * h) s q))
 
   -- what judges a group's contents
-  abbrev Inner : (ℕ → ℕ → List ℕ → Verdict) → Type 0
+  abbrev pub Inner : (ℕ → ℕ → List ℕ → Verdict) → Type 0
   Inner go = (l h : ℕ) (ys : List ℕ) → Q ys → P (go l h ys)
 
-  kind-by : (k : Kind) (h : ℕ) (s : List ℕ) (go : ℕ → ℕ → List ℕ → Verdict) → Q s → Inner go → P (judgeKind k h s go)
+  pub kind-by : (k : Kind) (h : ℕ) (s : List ℕ) (go : ℕ → ℕ → List ℕ → Verdict) → Q s → Inner go → P (judgeKind k h s go)
   unfolding judgeKind
   kind-by (Fixed c) h s go q g =
       and-then _ _ (behind-by h s q) (and-then _ _ (unless-by 8 _ (omega arith)) (unless-by 10 _ (omega arith)))
@@ -134,7 +134,7 @@ module _ (Q : List ℕ → Type 0) (P : Verdict → Type 0) (R : Reaches Q P) wh
   judge-by (Item k h n) s go t q g = kind-by k h s go q g
   judge-by (Unframed n p) s go t q g = R .told s n p q t
 
-  check-by : (l : ℕ) → Inner (ownCheck l)
+  pub check-by : (l : ℕ) → Inner (ownCheck l)
   unfolding ownCheck
   check-by zero letter h ys q = R .refuses 11 (omega arith)
   check-by (suc l) letter h ys q = pick-by P (isOpaque letter) _ _ (λ _. R .counts-on h _ (R .scans ys q)) (λ _. R .accepts)

@@ -1,0 +1,164 @@
+-- A group's contents, framed and judged one by one: the verdict on those from a unit to the group's end. Assumes nothing.
+use Prim.Native.Nat.{ℕ, zero, suc, _+_, _-_, _*_, _/_, _≤_, _<_}
+use mathlib.Core.Path.{_≡_, refl, sym, ap, _∙_, subst}
+use mathlib.Core.List.{List, [], _∷_}
+use mathlib.Core.Bool.{Bool, true, false}
+use native.Mathlib.Omega.{arith}
+use lib.ListN.{length, take, drop}
+use lib.Seq.{slice, length-slice, slice-empty, length-take-le, getD-take, drop-drop, take-take, take-nil}
+use Rattle.base.specs.Pick.{pick, pick-by}
+use Rattle.format.specs.declared.Kind.{Kind}
+use Rattle.format.specs.declared.Kind.the-variants.{Fixed, Variable, Group, Genus}
+use Rattle.format.specs.declared.Framed.{Framed}
+use Rattle.format.specs.declared.Framed.the-variants.{Item, Unframed}
+use Rattle.format.specs.declared.Verdict.{Verdict}
+use Rattle.format.specs.declared.Verdict.the-variants.{Accepted, Refused}
+use Rattle.format.specs.Registry.{opening}
+use Rattle.format.specs.Framing.{sextet, frame, frameRuled, frameWith, ruled, isOurs, scale}
+use Rattle.format.specs.Cutting.{cutBy, cut}
+use Rattle.format.specs.Cutting.Cut.{stopped, item}
+use Rattle.format.specs.Judging.{shift, andThen, inTurn, frame4, frameRuled4, contents, judgeKind, judgeBy, group, judge}
+use Rattle.damage.specs.Cuts as C
+use Rattle.laws.specs.Framing.{Good, Lawful, frame-good}
+use Rattle.laws.specs.Frames.{frames-any4}
+
+-- ---- verdicts
+
+pub shift-shift : (a b : ℕ) (v : Verdict) → shift a (shift b v) ≡ shift (a + b) v
+unfolding shift
+shift-shift a b Accepted = refl
+shift-shift a b (Refused n p) = ap (Refused n) (omega arith)
+
+shift-then : (o : ℕ) (v w : Verdict) → shift o (andThen v w) ≡ andThen (shift o v) (shift o w)
+unfolding shift andThen
+shift-then o Accepted w = refl
+shift-then o (Refused n p) w = refl
+
+-- ---- parts
+
+-- the sextets of the units from at to stop
+abbrev pub part : List ℕ → ℕ → ℕ → List ℕ
+part s at stop = slice (4 * at) (4 * stop) s
+
+pub part-length : (s : List ℕ) (at stop : ℕ) → 4 * stop ≤ length s → length (part s at stop) ≡ 4 * stop - 4 * at
+part-length s at stop h = length-slice (4 * at) (4 * stop) s h
+
+pub part-drop : (s : List ℕ) (at n stop : ℕ) → drop (4 * n) (part s at stop) ≡ part s (at + n) stop
+part-drop s at n stop =
+    let e : 4 * at + 4 * n ≡ 4 * (at + n) = omega arith in
+    drop-drop (4 * n) (4 * at) (take (4 * stop) s) ∙ ap (λ (f : ℕ). slice f (4 * stop) s) e
+
+pub take-of-drop : (n f : ℕ) (l : List ℕ) → take n (drop f l) ≡ drop f (take (f + n) l)
+take-of-drop n zero l = let z : 0 + n ≡ n = omega arith in rw z
+take-of-drop n (suc f) [] = let z : suc f + n ≡ suc (f + n) = omega arith in rw z (take-nil n)
+take-of-drop n (suc f) (x ∷ l) = let z : suc f + n ≡ suc (f + n) = omega arith in rw z (take-of-drop n f l)
+
+pub part-take : (s : List ℕ) (at n stop : ℕ) → at + n ≤ stop → take (n * 4) (part s at stop) ≡ part s at (at + n)
+part-take s at n stop h =
+    let e : 4 * at + n * 4 ≡ 4 * (at + n) = omega arith in
+    take-of-drop (n * 4) (4 * at) (take (4 * stop) s) ∙ ap (drop (4 * at)) (take-take (4 * at + n * 4) (4 * stop) s (omega arith))
+    ∙ ap (λ (t : ℕ). slice (4 * at) t s) e
+
+-- ---- framing: 7 is asked of the first item of an overrideable group
+
+abbrev pub frameNext : Bool → List ℕ → Framed
+frameNext first xs = pick first (frameRuled xs) (frame xs)
+
+ruled-item : (at : ℕ → ℕ) (r : Framed) (k : Kind) (h n : ℕ) → ruled at r ≡ Item k h n → r ≡ Item k h n
+unfolding ruled
+ruled-item at (Item (Fixed c) h′ n′) k h n e = e
+ruled-item at (Item (Variable t l c) h′ n′) k h n e = e
+ruled-item at (Item (Group l) h′ n′) k h n e = e
+ruled-item at (Unframed m p) k h n e = e
+ruled-item at (Item Genus h′ n′) k h n e =
+    pick-by (λ (r : Framed). r ≡ Item k h n → Item Genus h′ n′ ≡ Item k h n) (isOurs at) (Item Genus h′ n′) (Unframed 7 0) (λ _ q. q)
+    (λ _ q. let z : _≡_ {A = ℕ} 0 1 = cc in absurd (omega arith)) e
+
+-- an item where 7 is asked is an item anywhere
+pub any-item : (first : Bool) (xs : List ℕ) (k : Kind) (h n : ℕ) → frameNext first xs ≡ Item k h n → frame xs ≡ Item k h n
+unfolding frameRuled
+any-item true xs k h n e = ruled-item (sextet xs) (frame xs) k h n e
+any-item false xs k h n e = e
+
+item-good : (xs : List ℕ) (k : Kind) (h n : ℕ) → frame xs ≡ Item k h n → Lawful (frameWith opening) (sextet xs) (length xs / 4) k h n
+item-good xs k h n e = subst (Good (frameWith opening) (sextet xs) (length xs / 4)) e (frame-good xs)
+
+pub item-sizes : (xs : List ℕ) (k : Kind) (h n : ℕ) → frame xs ≡ Item k h n → (0 < h) × (h ≤ n) × (n ≤ length xs / 4)
+item-sizes xs k h n e = let g = item-good xs k h n e in (g .some, g .inside, g .room)
+
+-- an item's own sextets
+frame-own : (xs : List ℕ) (k : Kind) (h n : ℕ) → frame xs ≡ Item k h n → frame (take (n * 4) xs) ≡ Item k h n
+unfolding frame
+frame-own xs k h n e =
+    let g = item-good xs k h n e in
+    let b = item-sizes xs k h n e in
+    g .alike (sextet (take (n * 4) xs)) (length (take (n * 4) xs) / 4) (λ i l. getD-take (n * 4) xs i 0 (omega arith))
+    (omega (arith, length-take-le (n * 4) xs (omega arith)))
+
+pub judge-own : (l : ℕ) (xs : List ℕ) (k : Kind) (h n : ℕ) → frame xs ≡ Item k h n
+    → judge l (take (n * 4) xs) ≡ judgeKind k h (take (n * 4) xs) (group l)
+unfolding judge judgeBy
+judge-own l xs k h n e = rw (frame-own xs k h n e)
+
+-- ---- contents, item by item
+
+next4 : (first : Bool) (xs : List ℕ) (r : Framed) → frameNext first xs ≡ r → pick first (frameRuled4 xs) (frame4 xs) ≡ scale 4 r
+unfolding frame4 frameRuled4
+next4 true xs r e = ap (scale 4) e
+next4 false xs r e = ap (scale 4) e
+
+contents-false : (xs : List ℕ) → contents false xs ≡ cut frame4 xs
+unfolding contents
+contents-false [] = sym (C.cut-nil frame4 frames-any4)
+contents-false (x ∷ xs) = sym (C.cut-step frame4 frames-any4 x xs)
+
+contents-item : (first : Bool) (xs : List ℕ) (k : Kind) (h n : ℕ) → frameNext first xs ≡ Item k h n
+    → contents first xs ≡ item (take (n * 4) xs) (contents false (drop (n * 4) xs))
+unfolding contents scale cutBy
+contents-item first [] k h n e = absurd (omega (arith, item-sizes [] k h n (any-item first [] k h n e)))
+contents-item first (x ∷ xs) k h n e = rw (next4 first (x ∷ xs) (Item k h n) e, contents-false (drop (n * 4) (x ∷ xs)))
+
+contents-refused : (first : Bool) (xs : List ℕ) (m p : ℕ) → 0 < length xs → frameNext first xs ≡ Unframed m p
+    → contents first xs ≡ stopped m p xs
+unfolding contents scale cutBy
+contents-refused first [] m p l e = absurd (omega arith)
+contents-refused first (x ∷ xs) m p l e = rw (next4 first (x ∷ xs) (Unframed m p) e)
+
+-- ---- the verdict on the items of a group from at to its end, where l more groups may be entered
+
+unfoldable pub level : List ℕ → ℕ → Bool → ℕ → ℕ → Verdict
+level s l first at stop = shift (4 * at) (inTurn (judge l) (contents first (part s at stop)))
+
+pub level-end : (s : List ℕ) (l : ℕ) (first : Bool) (at : ℕ) → level s l first at at ≡ Accepted
+unfolding level inTurn shift contents
+level-end s l first at = rw (slice-empty (4 * at) s)
+
+pub level-refused : (s : List ℕ) (l : ℕ) (first : Bool) (at stop m p : ℕ) → 4 * stop ≤ length s → at < stop
+    → frameNext first (part s at stop) ≡ Unframed m p → level s l first at stop ≡ Refused m (4 * at + p)
+unfolding level inTurn shift
+level-refused s l first at stop m p long lt e =
+    rw (contents-refused first (part s at stop) m p (omega (arith, part-length s at stop long)) e)
+
+pub level-item : (s : List ℕ) (l : ℕ) (first : Bool) (at stop : ℕ) (k : Kind) (h n : ℕ) → 4 * stop ≤ length s → at ≤ stop
+    → frameNext first (part s at stop) ≡ Item k h n
+    → level s l first at stop
+    ≡ andThen (shift (4 * at) (judgeKind k h (part s at (at + n)) (group l))) (level s l false (at + n) stop)
+unfolding level inTurn
+level-item s l first at stop k h n long le e =
+    let f : frame (part s at stop) ≡ Item k h n = any-item first (part s at stop) k h n e in
+    let b = item-sizes (part s at stop) k h n f in
+    let pl : length (part s at stop) ≡ 4 * stop - 4 * at = part-length s at stop long in
+    let tl : length (take (n * 4) (part s at stop)) ≡ n * 4 = length-take-le (n * 4) (part s at stop) (omega arith) in
+    let c : n * 4 ≡ 4 * n = omega arith in
+    let o : 4 * at + 4 * n ≡ 4 * (at + n) = omega arith in
+    rw (
+      contents-item first (part s at stop) k h n e,
+      judge-own l (part s at stop) k h n f,
+      tl,
+      shift-then,
+      shift-shift,
+      part-take s at n stop (omega arith),
+      c,
+      o,
+      part-drop s at n stop,
+    )

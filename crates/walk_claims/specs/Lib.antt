@@ -1,0 +1,16 @@
+pub mod Words
+pub mod Claims
+pub mod Levels
+pub mod Fitting
+pub mod Steps
+pub mod Keeps
+pub mod Rest
+pub mod Runs
+pub mod Behind
+pub mod Streams
+pub mod Firsts
+pub mod Outer
+pub mod Reported
+pub mod Forms
+pub mod Numbers
+pub mod Proved

@@ -1,0 +1,57 @@
+-- The claims on the walk hold. Assumes nothing.
+use Prim.Native.Nat.{ℕ}
+use mathlib.Core.Path.{sym, ap, _∙_, subst}
+use mathlib.Core.List.{List}
+use Rattle.format.specs.Units.{Domain, text, binary}
+use Rattle.format.specs.Conversion.{toBinary, toText}
+use Rattle.format.specs.Report.{rowsIn, remainderIn}
+use Rattle.laws.specs.Domains.{Reader, text-reader, binary-reader}
+use Rattle.claims.specs.Demand2.{binary-whole, text-whole, text-same, binary-same}
+use Rattle.walk_claims.specs.Words.{foundOf, Last}
+use Rattle.walk_claims.specs.Fitting.{fit-facts, fit-made}
+use Rattle.walk_claims.specs.Runs.{stays, moves, after-fit, keeps-fit, after-stop, ends}
+use Rattle.walk_claims.specs.Behind.{behind}
+use Rattle.walk_claims.specs.Firsts.{stops-first, own-first}
+use Rattle.walk_claims.specs.Outer.{all-outer}
+use Rattle.walk_claims.specs.Reported.{last-answer, all-accepted, front}
+use Rattle.walk_claims.specs.Forms.{same-step, same-after}
+use Rattle.walk_claims.specs.Numbers.{long-one, unfit-thirteen, only-long, only-unfit}
+use Rattle.walk_claims.specs.Claims.{StreamClaims, FormClaims, WalkClaims}
+
+of-stream : (d : Domain) → Reader d → (xs : List ℕ) → StreamClaims d xs
+of-stream d R xs = record {
+  one = long-one d xs;
+  only-one = only-long d xs;
+  thirteen = unfit-thirteen d xs;
+  only-thirteen = only-unfit d xs;
+  fit-on-the-way = after-fit d R xs;
+  keeps-fit = keeps-fit d R xs;
+  stays = stays d xs;
+  yields = λ w. behind d R w xs;
+  never-back = λ w. moves d xs w .never-back;
+  moves-on = λ w. moves d xs w .on;
+  ends = ends d xs;
+  ended = after-stop d xs;
+  outer = all-outer d R xs;
+  outer-front = front d xs (rowsIn d xs);
+  outer-all = all-accepted d xs;
+  first = stops-first d R xs;
+  last = λ short k h. subst (Last (rowsIn d xs) (remainderIn d xs)) (sym (stops-first d R xs short k h)) (last-answer d xs);
+  item = λ k h short e j s. stops-first d R xs short j s ∙ ap foundOf (own-first d R xs k h e);
+}
+
+of-both : FormClaims
+of-both = record {
+  text-step = λ t w. same-step t (toBinary t) (text-same t w) (w .short) (binary-whole t w .short);
+  binary-step = λ b w. same-step (toText b) b (binary-same b w) (text-whole b w .short) (w .short);
+  text-walk = λ t w. same-after t (toBinary t) (text-same t w) (w .short) (binary-whole t w .short);
+  binary-walk = λ b w. same-after (toText b) b (binary-same b w) (text-whole b w .short) (w .short);
+}
+
+pub proved : WalkClaims
+proved = record {
+  tests = record { only-fit = fit-facts; every-fit = fit-made };
+  of-text = of-stream text text-reader;
+  of-binary = of-stream binary binary-reader;
+  of-both = of-both;
+}

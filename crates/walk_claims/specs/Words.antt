@@ -1,0 +1,183 @@
+-- What the claims on the walk speak of. No proofs. Assumes nothing.
+use Prim.Native.Nat.{ℕ, zero, suc, _+_, _-_, _*_, _/_, _%_, _≤_, _<_}
+use mathlib.Core.Path.{_≡_}
+use mathlib.Core.List.{List, [], _∷_, _++_}
+use mathlib.Core.Bool.{Bool, false, not}
+use lib.ListN.{length, getD}
+use lib.Dec.{ltb}
+use Rattle.base.specs.Pick.{pick}
+use Rattle.format.specs.declared.Kind.{Kind}
+use Rattle.format.specs.declared.Kind.the-variants.{Fixed, Variable, Group, Genus}
+use Rattle.format.specs.declared.Framed.{Framed}
+use Rattle.format.specs.declared.Framed.the-variants.{Item, Unframed}
+use Rattle.format.specs.declared.Verdict.{Verdict}
+use Rattle.format.specs.declared.Verdict.the-variants.{Accepted, Refused}
+use Rattle.format.specs.Units.{Domain}
+use Rattle.format.specs.Registry.{isOpaque, isOverrideable}
+use Rattle.format.specs.Cutting.{Cut, cut}
+use Rattle.format.specs.Cutting.Cut.{done, stopped, item}
+use Rattle.format.specs.Judging.{shift, andThen, maxDepth}
+use Rattle.format.specs.Report.{ItemRow, RemainderRow, frameIn, judgeIn, placed}
+use Rattle.damage.specs.Words.{itemAt}
+use Rattle.claims.specs.Words.{Ratio}
+use Rattle.walk.specs.declared.Walk.{Walk}
+use Rattle.walk.specs.declared.Found.{Found}
+use Rattle.walk.specs.declared.Found.the-variants as F
+use Rattle.walk.specs.declared.Stepped.{Stepped}
+use Rattle.walk.specs.Walking.{start, stepIn}
+
+-- ---- 13
+
+-- a state fit for a stream of n whole units: none of 01's conditions for 13
+pub record Fit (w : Walk) (n : ℕ) : Type 0 where
+  -- "more than 16 open"
+  pub few : w .depth ≤ maxDepth
+  -- "an unused slot not 0"
+  pub unused : (i : ℕ) → w .depth ≤ i → i < maxDepth → getD (w .ends) i 0 ≡ 0
+  -- "the position not before the innermost end"
+  pub before : 0 < w .depth → w .at < getD (w .ends) (w .depth - 1) 0
+  -- "or past the stream"
+  pub inside : w .at ≤ n
+  -- "an inner end past its outer"
+  pub nested : (i : ℕ) → suc i < w .depth → getD (w .ends) (suc i) 0 ≤ getD (w .ends) i 0
+  -- "the outermost past the stream"
+  pub outermost : 0 < w .depth → getD (w .ends) 0 0 ≤ n
+  -- "or the first-item mark set with none open"
+  pub unmarked : w .depth ≡ 0 → w .first ≡ false
+
+-- ---- the walk from the start
+
+-- whole units of a stream
+abbrev pub unitsIn : Domain → List ℕ → ℕ
+unitsIn d xs = length xs / d .unit
+
+-- elements of a unit that is not whole stand behind them
+abbrev pub tailOf : Domain → List ℕ → Bool
+tailOf d xs = ltb 0 (length xs % d .unit)
+
+-- the state after k steps
+unfoldable pub after : Domain → List ℕ → ℕ → Walk
+after d xs zero = start
+after d xs (suc k) = stepIn d xs (after d xs k) .next
+
+-- what the step after those finds
+abbrev pub foundAt : Domain → List ℕ → ℕ → Found
+foundAt d xs k = stepIn d xs (after d xs k) .found
+
+-- an item, or else a refusal or the end
+abbrev pub Yields : Found → Type 0
+Yields (F.Item o n d k h) = Unit {0}
+Yields (F.Refused m p) = ⊥
+Yields F.End = ⊥
+
+abbrev pub Stops : Found → Type 0
+Stops (F.Item o n d k h) = ⊥
+Stops (F.Refused m p) = Unit {0}
+Stops F.End = Unit {0}
+
+-- ---- a step that yields
+
+-- "An opaque group is yielded and stepped over whole. Any other group is opened."
+unfoldable pub opens : Kind → Bool
+opens (Fixed c) = false
+opens (Variable t l c) = false
+opens Genus = false
+opens (Group letter) = not (isOpaque letter)
+
+-- "an `-A` `-B` `-C` group that isn't empty"
+unfoldable pub marks : Kind → ℕ → ℕ → Bool
+marks (Fixed c) head size = false
+marks (Variable t l c) head size = false
+marks Genus head size = false
+marks (Group letter) head size = pick (ltb head size) (isOverrideable letter) false
+
+-- the state next behind an item at offset o, of n elements, within e groups, of kind k with a header of h units
+pub record Behind (d : Domain) (w : Walk) (o n e : ℕ) (k : Kind) (h : ℕ) (next : Walk) : Type 0 where
+  pub offset : o ≡ w .at * d .unit
+  -- "depth (the number of groups it stands within)"
+  pub depth : e ≡ w .depth
+  -- to the first item of a group that is opened, else behind the item
+  pub position : next .at * d .unit ≡ o + pick (opens k) (h * d .unit) n
+  -- "The first-item mark is set exactly by a step that opens an `-A` `-B` `-C` group that isn't empty; every other yielding
+  -- step clears it."
+  pub mark : next .first ≡ marks k (h * d .unit) n
+
+-- ---- the items at depth 0
+
+pub record Span : Type 0 where
+  pub offset : ℕ
+  pub size : ℕ
+
+unfoldable pub outer : Found → List Span
+outer (F.Item o n zero k h) = record { offset = o; size = n } ∷ []
+outer (F.Item o n (suc d) k h) = []
+outer (F.Refused m p) = []
+outer F.End = []
+
+-- those that the first k steps yield, in order
+unfoldable pub outerItems : Domain → List ℕ → ℕ → List Span
+outerItems d xs zero = []
+outerItems d xs (suc k) = outerItems d xs k ++ outer (foundAt d xs k)
+
+abbrev pub spanOf : ItemRow → Span
+spanOf r = record { offset = r .offset; size = r .size }
+
+-- "of a group it judges only 11 and, if opaque, 5": a group that is opened is yielded before its contents are judged
+unfoldable pub isOpened : Framed → Bool
+isOpened (Item k h n) = opens k
+isOpened (Unframed n p) = false
+
+-- an item in front of those behind it
+unfoldable pub upTo : Verdict → Bool → Span → List Span → List Span
+upTo Accepted opened s behind = s ∷ behind
+upTo (Refused n p) opened s behind = pick opened (s ∷ []) []
+
+-- the report's items up to the first that is refused; that one too, if it is a group that is opened
+unfoldable pub upToRefusal : Domain → List ℕ → List ItemRow → List Span
+upToRefusal d xs [] = []
+upToRefusal d xs (r ∷ rs) = upTo (r .verdict) (isOpened (frameIn d (itemAt xs r))) (spanOf r) (upToRefusal d xs rs)
+
+-- ---- where the walk stops
+
+unfoldable pub foundOf : Verdict → Found
+foundOf Accepted = F.End
+foundOf (Refused n p) = F.Refused n p
+
+-- the first refusal of items one by one, from offset o on, or of what cannot be framed behind them
+unfoldable pub firstOf : Domain → ℕ → Cut → Verdict
+firstOf d o done = Accepted
+firstOf d o (stopped n p r) = shift o (placed (d .unit) (Refused n p))
+firstOf d o (item i c) = andThen (shift o (judgeIn d i)) (firstOf d (o + length i) c)
+
+abbrev pub firstRefusal : Domain → List ℕ → Verdict
+firstRefusal d xs = firstOf d 0 (cut (frameIn d) xs)
+
+-- a refused item's number and place, or what holds behind an accepted one
+abbrev pub LastBy : Verdict → Found → Type 0 → Type 0
+LastBy Accepted f behind = behind
+LastBy (Refused n p) f behind = f ≡ F.Refused n p
+
+-- by the report: the first refused item's number and place, else the remainder's number at or behind its offset, else the end
+abbrev pub Last : List ItemRow → List RemainderRow → Found → Type 0
+Last [] [] f = f ≡ F.End
+Last [] (t ∷ ts) f = (p : ℕ) × (f ≡ F.Refused (t .number) (t .offset + p))
+Last (r ∷ rs) ts f = LastBy (r .verdict) f (Last rs ts f)
+
+-- ---- text and binary
+
+-- the same depth, kind and header, or the same number; offsets, sizes and places in the ratio four to three
+abbrev pub FoundRatio : Found → Found → Type 0
+FoundRatio (F.Item o n d k h) (F.Item o′ n′ d′ k′ h′) = Ratio o o′ × Ratio n n′ × (d ≡ d′) × (k ≡ k′) × (h ≡ h′)
+FoundRatio (F.Refused m p) (F.Refused m′ p′) = (m ≡ m′) × Ratio p p′
+FoundRatio F.End F.End = Unit {0}
+FoundRatio (F.Item o n d k h) (F.Refused m p) = ⊥
+FoundRatio (F.Item o n d k h) F.End = ⊥
+FoundRatio (F.Refused m p) (F.Item o n d k h) = ⊥
+FoundRatio (F.Refused m p) F.End = ⊥
+FoundRatio F.End (F.Item o n d k h) = ⊥
+FoundRatio F.End (F.Refused m p) = ⊥
+
+-- a step of one state in a text and in a binary: the same next state
+pub record SameStep (t b : Stepped) : Type 0 where
+  pub next : t .next ≡ b .next
+  pub found : FoundRatio (t .found) (b .found)
