@@ -1,3 +1,5 @@
 pub mod Bytes
 pub mod Rows
 pub mod Prefix
+pub mod Own
+pub mod Reads
