@@ -11,7 +11,7 @@ use Rattle.base.specs.Digits.{Below, none, more, below-take, below-drop, below-
 use Rattle.base.specs.Each.{each, length-each, each-back, each-joins}
 use Rattle.format.specs.Units.{bytesOf, sextetsOf, binarySextets}
 use Rattle.format.specs.Values.{bytesIn}
-use Rattle.laws.specs.Units.{bytes-size, bytes-below, sextets-bytes}
+use Rattle.laws.specs.Units.{bytes-size, bytes-below, sextets-size, sextets-bytes}
 
 -- ---- lists of four and more
 
@@ -24,6 +24,10 @@ quad-of (a ∷ []) h = absurd (omega arith)
 quad-of (a ∷ b ∷ []) h = absurd (omega arith)
 quad-of (a ∷ b ∷ c ∷ []) h = absurd (omega arith)
 quad-of (a ∷ b ∷ c ∷ d ∷ r) h = quad
+
+pub no-length : (s : List ℕ) → length s ≡ 0 → s ≡ []
+no-length [] e = refl
+no-length (x ∷ s) e = absurd (omega arith)
 
 -- past a list's end stands 0, which is below every bound too
 pub below-any : (b : ℕ) (s : List ℕ) → 0 < b → Below b s → (i : ℕ) → getD s i 0 < b
@@ -69,6 +73,10 @@ sextets-back s w h =
     (each-back 4 3 bytesOf sextetsOf bytes-size (length s / 4) s
     (λ i p. sextets-bytes (take 4 (drop (4 * i) s)) (part-length 4 (4 * i) s (omega arith)) (below-take 64 4 _ (below-drop 64 (4 * i) _ h)))
     ∙ take-all (4 * (length s / 4)) s (omega arith))
+
+pub binary-length : (b : List ℕ) → length (binarySextets b) ≡ 4 * (length b / 3)
+unfolding binarySextets
+binary-length b = length-each 3 4 sextetsOf sextets-size (length b / 3) b
 
 -- one unit
 pub bytes-unit : (a b c d : ℕ) → bytesIn (a ∷ b ∷ c ∷ d ∷ []) ≡ bytesOf (a ∷ b ∷ c ∷ d ∷ [])

@@ -3,3 +3,6 @@ pub mod Rows
 pub mod Prefix
 pub mod Own
 pub mod Reads
+pub mod Words
+pub mod Raws
+pub mod Tags
