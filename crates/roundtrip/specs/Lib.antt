@@ -6,3 +6,4 @@ pub mod Reads
 pub mod Words
 pub mod Raws
 pub mod Tags
+pub mod Counts
