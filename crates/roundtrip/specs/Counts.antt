@@ -19,11 +19,12 @@ use Rattle.format.specs.Units.{bytesOf, textSextets, binarySextets}
 use Rattle.format.specs.Framing.{sextet, digits4}
 use Rattle.format.specs.Judging.{zeroBits, hasLead}
 use Rattle.format.specs.Values.{bytesIn, rawStart, rawOf, tagOf}
-use Rattle.format.specs.Reading.{tagsOf}
+use Rattle.format.specs.Reading.{codeOf, tagsOf}
 use Rattle.format.specs.Writing.{variable, rawLimit, fitsVariable, leadFor, countFor, variableHeader, variablePrefix, isNamed, isFit, itemBytes, unitsOf}
 use Rattle.laws.specs.Conversion.{binary-below}
 use Rattle.laws.specs.Values.{binary-bytes}
 use Rattle.roundtrip.specs.Bytes.{Quad, quad, quad-of, below-any, bytes-length, binary-length, bytes-front}
+use Rattle.roundtrip.specs.Rows.{type-low}
 use Rattle.roundtrip.specs.Prefix.{lead-fronts}
 use Rattle.roundtrip.specs.Own.{Headed, small, large, Counted, Own}
 use Rattle.roundtrip.specs.Words.{Writes, Made}
@@ -229,7 +230,7 @@ module _ (t : ℕ) (raw : List ℕ) (ty : isType t ≡ true) (low : Below 256 ra
     }
 
     made : Made (variable t h) [] 0 raw
-    unfolding tagOf tagsOf unitsOf itemBytes variablePrefix value
+    unfolding codeOf tagOf tagsOf unitsOf itemBytes variablePrefix value
     made = record {
       kind = Variable t lead count;
       head = h;
@@ -237,7 +238,7 @@ module _ (t : ℕ) (raw : List ℕ) (ty : isType t ≡ true) (low : Below 256 ra
       sextets = front ++ behind;
       own = own;
       units = refl;
-      named = refl;
+      code = refl;
       tagged = refl;
       count = refl;
       value = value-is t lead count h (h + count) (front ++ behind) own
@@ -249,21 +250,13 @@ module _ (t : ℕ) (raw : List ℕ) (ty : isType t ≡ true) (low : Below 256 ra
           ∙ sym (bytes-are t lead count h (h + count) (front ++ behind) own);
     }
 
-  type-low : t < 64
-  unfolding isType
-  type-low = by (lt-or-ge t 64)
-    where
-      by : (t < 64) ⊎ (64 ≤ t) → t < 64
-      by (inl p) = p
-      by (inr p) = let z : _≡_ {A = ℕ} 0 1 = cc (ty, le-ltb t 6 (omega arith), ne-eqb t 7 (λ e. omega arith)) in absurd (omega arith)
-
   small-made : length raw ≤ 12285 → Made (variable t 1) [] 0 raw
   small-made l =
       let m : count ≤ 4095 = omega (arith, lead-fills (length raw), lead-few (length raw)) in
       let k : 56 + lead < 64 = omega (arith, lead-few (length raw)) in
       let a : count / 64 < 64 = omega arith in
       let b : count % 64 < 64 = omega arith in
-      made 1 ((56 + lead) ∷ t ∷ (count / 64) ∷ (count % 64) ∷ []) refl (more k (more type-low (more a (more b none))))
+      made 1 ((56 + lead) ∷ t ∷ (count / 64) ∷ (count % 64) ∷ []) refl (more k (more (type-low t ty) (more a (more b none))))
       (small refl refl refl (omega arith))
 
   large-made : length raw ≤ 3145722 → Made (variable t 2) [] 0 raw
@@ -271,7 +264,7 @@ module _ (t : ℕ) (raw : List ℕ) (ty : isType t ≡ true) (low : Below 256 ra
       let m : count ≤ 1048574 = omega (arith, lead-fills (length raw), lead-few (length raw)) in
       let k : 59 + lead < 64 = omega (arith, lead-few (length raw)) in
       made 2 ((59 + lead) ∷ 0 ∷ 0 ∷ t ∷ digitsOf 64 4 count) refl
-      (more k (more (lit< tt) (more (lit< tt) (more type-low (digits-below 64 4 count (lit< tt))))))
+      (more k (more (lit< tt) (more (lit< tt) (more (type-low t ty) (digits-below 64 4 count (lit< tt))))))
       (large refl refl refl refl refl (omega (arith, number-digits 64 4 count (lit< tt))))
 
   pub counted-made : (h : ℕ) → (h ≡ 1) ⊎ (h ≡ 2) → length raw ≤ rawLimit h → Made (variable t h) [] 0 raw

@@ -7,3 +7,4 @@ pub mod Words
 pub mod Raws
 pub mod Tags
 pub mod Counts
+pub mod Writes

@@ -16,7 +16,7 @@ use Rattle.format.specs.Registry.{prepadOf}
 use Rattle.format.specs.Units.{textSextets, binarySextets}
 use Rattle.format.specs.Judging.{prepadRight}
 use Rattle.format.specs.Values.{bytesIn, rawStart, rawOf, tagOf}
-use Rattle.format.specs.Reading.{tagsOf}
+use Rattle.format.specs.Reading.{codeOf, tagsOf}
 use Rattle.format.specs.Writing.{row, rawSize, fitsRow, rawPrefix, rowPrefix, isNamed, isFit, itemBytes, unitsOf}
 use Rattle.laws.specs.Conversion.{binary-below}
 use Rattle.laws.specs.Domains.{binary-reader}
@@ -76,7 +76,7 @@ module _ (c : CodeRow) (n : ℕ) (r : Row c n) (t : c .tag ≡ 0) where
 
   pub raw-made : (tag raw : List ℕ) (tags : ℕ) → tags ≡ c .tag → length raw ≡ rawSize c → length tag ≡ tags → Below 256 raw
       → Made (row c) tag tags raw
-  unfolding tagsOf rawOf rawStart unitsOf itemBytes rawPrefix prepadRight
+  unfolding codeOf tagsOf rawOf rawStart unitsOf itemBytes rawPrefix prepadRight
   raw-made tag raw tags et er el low =
       let b : List ℕ = rawPrefix c ++ raw in
       let s : List ℕ = binarySextets b in
@@ -98,7 +98,7 @@ module _ (c : CodeRow) (n : ℕ) (r : Row c n) (t : c .tag ≡ 0) where
           form = record { head = refl; row = r; code = g .0; zeros = g .1; prepad = rw (eq-eqb (c .tag) 0 t) };
         };
         units = omega (arith, r .units);
-        named = refl;
+        code = refl;
         tagged = no-tag s ∙ sym (no-length tag (el ∙ et ∙ t));
         count = sym et;
         value = ap (drop m) bytes ∙ drop-at (rawPrefix c) raw m prefix-length;

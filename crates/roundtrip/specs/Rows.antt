@@ -6,7 +6,7 @@ use mathlib.Core.Bool.{Bool, true}
 use mathlib.Core.Logic.{⊎-elim}
 use native.Mathlib.Omega.{arith}
 use lib.Dec.{T, ltb, leb, eqb, ltb→lt, leb→le}
-use borrow.Author.Tests.{eq-eqb}
+use borrow.Author.Tests.{le-ltb, eq-eqb, ne-eqb}
 use Rattle.base.specs.Pick.{pick, pick-by}
 use Rattle.base.specs.Table.{both, both-left, both-right}
 use Rattle.base.specs.Cases.{lt-or-ge}
@@ -15,7 +15,7 @@ use Rattle.format.specs.declared.Kind.{Kind}
 use Rattle.format.specs.declared.Kind.the-variants.{Fixed, Variable, Group, Genus}
 use Rattle.format.specs.declared.Opening.{Opening}
 use Rattle.format.specs.declared.Opening.the-variants.{Unknown, Short, LargeVariable, LargeGroup, Version}
-use Rattle.format.specs.Registry.{codes, zeroBitsOf, fixedAmong, fixed}
+use Rattle.format.specs.Registry.{codes, zeroBitsOf, isType, fixedAmong, fixed}
 use Rattle.laws.specs.Registry.{Sound, Code, one, two, four, Finds, fixed-finds}
 
 -- ---- the test
@@ -101,3 +101,11 @@ row-found chars letter c n e =
       finds .2,
       finds .3,
     )
+
+-- a variable type is a letter too
+pub type-low : (t : ℕ) → isType t ≡ true → t < 64
+unfolding isType
+type-low t e =
+    ⊎-elim (λ p. p)
+    (λ p. let z : _≡_ {A = ℕ} 0 1 = cc (e, le-ltb t 6 (omega arith), ne-eqb t 7 (λ q. omega arith)) in absurd (omega arith))
+    (lt-or-ge t 64)

@@ -19,7 +19,7 @@ use Rattle.format.specs.Registry.{zeroBitsOf, prepadOf}
 use Rattle.format.specs.Units.{bytesOf, textSextets}
 use Rattle.format.specs.Judging.{zeroBits, prepadRight}
 use Rattle.format.specs.Values.{bytesIn, rawStart, rawOf, tagOf}
-use Rattle.format.specs.Reading.{tagsOf}
+use Rattle.format.specs.Reading.{codeOf, tagsOf}
 use Rattle.format.specs.Writing.{row, rawSize, fitsRow, codeSextets, tagPrefix, rowPrefix, isNamed, isFit, itemBytes, unitsOf}
 use Rattle.laws.specs.Alphabet.{sextet-char}
 use Rattle.laws.specs.Units.{chars-back}
@@ -140,7 +140,7 @@ module _ (c : CodeRow) (n : ℕ) (r : Row c n) (t : c .tag ≡ 0 → ⊥) where
 
   pub tag-made : (tag raw : List ℕ) (tags : ℕ) → tags ≡ c .tag → length raw ≡ rawSize c → length tag ≡ tags → Below 64 (textSextets tag)
       → Made (row c) tag tags raw
-  unfolding tagsOf unitsOf itemBytes
+  unfolding codeOf tagsOf unitsOf itemBytes
   tag-made tag raw tags et er el low =
       let l : length tag ≡ c .tag = el ∙ et in
       let o = spelled-own tag l low in
@@ -152,7 +152,7 @@ module _ (c : CodeRow) (n : ℕ) (r : Row c n) (t : c .tag ≡ 0 → ⊥) where
         sextets = spelled tag;
         own = o;
         units = omega (arith, r .units);
-        named = refl;
+        code = refl;
         tagged = spelled-tag tag l low;
         count = sym et;
         value = no-raw 1 (spelled tag) (o .size) ∙ sym nothing;

@@ -3,13 +3,18 @@ use Prim.Native.Nat.{ℕ}
 use mathlib.Core.Path.{_≡_}
 use mathlib.Core.List.{List}
 use mathlib.Core.Bool.{true}
+use lib.Dec.{eqb}
 use lib.ListN.{length}
+use Rattle.base.specs.Pick.{pick}
 use Rattle.base.specs.Digits.{Below}
 use Rattle.format.specs.declared.Kind.{Kind}
 use Rattle.format.specs.declared.Kind.the-variants.{Fixed, Variable, Group, Genus}
+use Rattle.format.specs.declared.Code.{Code}
+use Rattle.format.specs.declared.Code.the-variants as C
+use Rattle.format.specs.Alphabet.{charOf}
 use Rattle.format.specs.Units.{textSextets}
 use Rattle.format.specs.Values.{bytesIn, rawOf, tagOf}
-use Rattle.format.specs.Reading.{tagsOf}
+use Rattle.format.specs.Reading.{codeOf, tagsOf}
 use Rattle.format.specs.Writing.{Named, unknown, row, variable, isNamed, isFit, itemBytes, unitsOf}
 use Rattle.roundtrip.specs.Own.{Own}
 
@@ -19,6 +24,12 @@ nameOf (Fixed c) h = row c
 nameOf (Variable t l m) h = variable t h
 nameOf (Group l) h = unknown
 nameOf Genus h = unknown
+
+-- and what the reader calls it
+abbrev pub codeFor : Named → Code
+codeFor unknown = C.Fixed 0 0
+codeFor (row c) = C.Fixed (c .chars) (charOf (c .letter))
+codeFor (variable t h) = pick (eqb h 1) (C.Small (charOf t)) (C.Large (charOf t))
 
 -- the writer takes the tag characters and the raw value, and writes the item with these sextets
 pub record Writes (name : Named) (tag : List ℕ) (tags : ℕ) (raw : List ℕ) (n : ℕ) (s : List ℕ) : Type 0 where
@@ -37,7 +48,7 @@ pub record Made (name : Named) (tag : List ℕ) (tags : ℕ) (raw : List ℕ) : 
   pub sextets : List ℕ
   pub own : Own kind head size sextets
   pub units : unitsOf name (length raw) ≡ size
-  pub named : nameOf kind head ≡ name
+  pub code : codeOf kind head ≡ codeFor name
   pub tagged : tagOf kind sextets ≡ tag
   pub count : tagsOf kind ≡ tags
   pub value : rawOf kind head sextets ≡ raw
