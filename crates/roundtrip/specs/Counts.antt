@@ -203,7 +203,8 @@ module _ (t : ℕ) (raw : List ℕ) (ty : isType t ≡ true) (low : Below 256 ra
   led p = omega (arith, lead-fills (length raw))
 
   -- a header's sextets, and then the value's
-  module _ (h : ℕ) (front : List ℕ) (lf : length front ≡ 4 * h) (fl : Below 64 front) (head : Headed t lead count h (sextet (front ++ behind))) where
+  module _ (h : ℕ) (short : h + count ≤ 1048576) (front : List ℕ) (lf : length front ≡ 4 * h) (fl : Below 64 front)
+      (head : Headed t lead count h (sextet (front ++ behind))) where
     parts : drop (4 * h) (front ++ behind) ≡ behind
     parts = drop-at front behind (4 * h) lf
 
@@ -238,6 +239,7 @@ module _ (t : ℕ) (raw : List ℕ) (ty : isType t ≡ true) (low : Below 256 ra
       sextets = front ++ behind;
       own = own;
       units = refl;
+      short = short;
       code = refl;
       tagged = refl;
       count = refl;
@@ -256,14 +258,14 @@ module _ (t : ℕ) (raw : List ℕ) (ty : isType t ≡ true) (low : Below 256 ra
       let k : 56 + lead < 64 = omega (arith, lead-few (length raw)) in
       let a : count / 64 < 64 = omega arith in
       let b : count % 64 < 64 = omega arith in
-      made 1 ((56 + lead) ∷ t ∷ (count / 64) ∷ (count % 64) ∷ []) refl (more k (more (type-low t ty) (more a (more b none))))
+      made 1 (omega arith) ((56 + lead) ∷ t ∷ (count / 64) ∷ (count % 64) ∷ []) refl (more k (more (type-low t ty) (more a (more b none))))
       (small refl refl refl (omega arith))
 
   large-made : length raw ≤ 3145722 → Made (variable t 2) [] 0 raw
   large-made l =
       let m : count ≤ 1048574 = omega (arith, lead-fills (length raw), lead-few (length raw)) in
       let k : 59 + lead < 64 = omega (arith, lead-few (length raw)) in
-      made 2 ((59 + lead) ∷ 0 ∷ 0 ∷ t ∷ digitsOf 64 4 count) refl
+      made 2 (omega arith) ((59 + lead) ∷ 0 ∷ 0 ∷ t ∷ digitsOf 64 4 count) refl
       (more k (more (lit< tt) (more (lit< tt) (more (type-low t ty) (digits-below 64 4 count (lit< tt))))))
       (large refl refl refl refl refl (omega (arith, number-digits 64 4 count (lit< tt))))
 

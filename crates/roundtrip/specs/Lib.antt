@@ -1,3 +1,4 @@
+pub mod Claims
 pub mod Bytes
 pub mod Rows
 pub mod Prefix
@@ -8,3 +9,6 @@ pub mod Raws
 pub mod Tags
 pub mod Counts
 pub mod Writes
+pub mod Sextets
+pub mod Calls
+pub mod Proved

@@ -98,6 +98,7 @@ module _ (c : CodeRow) (n : ℕ) (r : Row c n) (t : c .tag ≡ 0) where
           form = record { head = refl; row = r; code = g .0; zeros = g .1; prepad = rw (eq-eqb (c .tag) 0 t) };
         };
         units = omega (arith, r .units);
+        short = omega (arith, r .units, r .sound .small);
         code = refl;
         tagged = no-tag s ∙ sym (no-length tag (el ∙ et ∙ t));
         count = sym et;

@@ -152,6 +152,7 @@ module _ (c : CodeRow) (n : ℕ) (r : Row c n) (t : c .tag ≡ 0 → ⊥) where
         sextets = spelled tag;
         own = o;
         units = omega (arith, r .units);
+        short = omega (arith, r .units, r .sound .small);
         code = refl;
         tagged = spelled-tag tag l low;
         count = sym et;

@@ -1,5 +1,5 @@
 -- What the proofs say of an item that is to be written and of the sextets that it then has. Assumes nothing.
-use Prim.Native.Nat.{ℕ}
+use Prim.Native.Nat.{ℕ, _≤_}
 use mathlib.Core.Path.{_≡_}
 use mathlib.Core.List.{List}
 use mathlib.Core.Bool.{true}
@@ -48,6 +48,8 @@ pub record Made (name : Named) (tag : List ℕ) (tags : ℕ) (raw : List ℕ) : 
   pub sextets : List ℕ
   pub own : Own kind head size sextets
   pub units : unitsOf name (length raw) ≡ size
+  -- a stream may be so long
+  pub short : size ≤ 1048576
   pub code : codeOf kind head ≡ codeFor name
   pub tagged : tagOf kind sextets ≡ tag
   pub count : tagsOf kind ≡ tags
