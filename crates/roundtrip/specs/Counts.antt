@@ -31,7 +31,7 @@ use Rattle.roundtrip.specs.Words.{Writes, Made}
 
 -- ---- lead bytes and count
 
-has-lead : (l m : ℕ) → hasLead l m ≡ true → 0 < l → 0 < m
+pub has-lead : (l m : ℕ) → hasLead l m ≡ true → 0 < l → 0 < m
 unfolding hasLead
 has-lead l m e p = ltb-true 0 m (rw (lt-ltb 0 l p) at e)
 

@@ -21,7 +21,7 @@ use Rattle.format.specs.Offsets.{textOffset, binaryOffset}
 use Rattle.format.specs.Conversion.{toBinary, toText, firstStranger, textToBinary, binaryToText}
 use Rattle.format.specs.Values.{bytesIn, rawOf, tagOf}
 use Rattle.format.specs.Reading.{codeOf, tagsOf, found, reading, padded}
-use Rattle.format.specs.Writing.{Named, named, Writing, written, writing, writtenBytes, isNamed, isFit, unitsOf}
+use Rattle.format.specs.Writing.{Named, named, Writing, refused, written, writing, writtenBytes, isNamed, isFit, unitsOf}
 use Rattle.laws.specs.Conversion.{length-to-text, binary-to-text-sextets, text-below, binary-back, no-stranger, all-known}
 use Rattle.roundtrip.specs.Bytes.{bytes-length, bytes-in-below, sextets-join, sextets-back}
 use Rattle.roundtrip.specs.Own.{Own}
@@ -32,23 +32,28 @@ use Rattle.roundtrip.specs.Claims.{Reads, WritesBack}
 
 -- ---- what an accepted write says
 
-record Accepted (name : Named) (tag : List ℕ) (tags raw n : ℕ) : Type 0 where
+record Accepted (u : ℕ) (name : Named) (tag : List ℕ) (tags raw room n : ℕ) : Type 0 where
   known : isNamed name ≡ true
   fits : isFit name tags raw ≡ true
   strangers : tags ≤ firstStranger (take tags tag)
   units : unitsOf name raw ≡ n
+  there : unitsOf name raw * u ≤ room
 
-accepted : (u : ℕ) (name : Named) (tag : List ℕ) (tags raw room n : ℕ) → writing u name tag tags raw room ≡ written n → Accepted name tag tags raw n
+unwritten {ℓ} : {A : Type ℓ} (m p n : ℕ) → refused m p ≡ written n → A
+unwritten m p n e = let z : _≡_ {A = ℕ} 0 1 = cc in absurd (omega arith)
+
+accepted : (u : ℕ) (name : Named) (tag : List ℕ) (tags raw room n : ℕ) → writing u name tag tags raw room ≡ written n
+    → Accepted u name tag tags raw room n
 unfolding writing
 accepted u name tag tags raw room n =
-    let P : Writing → Type 0 = λ w. w ≡ written n → Accepted name tag tags raw n in
+    let P : Writing → Type 0 = λ w. w ≡ written n → Accepted u name tag tags raw room n in
     pick-by P (isNamed name) _ _
     (λ a. pick-by P (isFit name tags raw) _ _
-    (λ b. pick-by P (ltb (firstStranger (take tags tag)) tags) _ _ (λ _ e. let z : _≡_ {A = ℕ} 0 1 = cc in absurd (omega arith))
-    (λ c. pick-by P (ltb room (unitsOf name raw * u)) _ _ (λ _ e. let z : _≡_ {A = ℕ} 0 1 = cc in absurd (omega arith))
-    (λ _ e. record { known = a; fits = b; strangers = ltb-false _ tags c; units = cc })))
-    (λ _ e. let z : _≡_ {A = ℕ} 0 1 = cc in absurd (omega arith)))
-    (λ _ e. let z : _≡_ {A = ℕ} 0 1 = cc in absurd (omega arith))
+    (λ b. pick-by P (ltb (firstStranger (take tags tag)) tags) _ _ (λ _. unwritten 5 _ n)
+    (λ c. pick-by P (ltb room (unitsOf name raw * u)) _ _ (λ _. unwritten 3 0 n)
+    (λ r e. record { known = a; fits = b; strangers = ltb-false _ tags c; units = cc; there = ltb-false room _ r })))
+    (λ _. unwritten 12 0 n))
+    (λ _. unwritten 6 0 n)
 
 stranger-inside : (s : List ℕ) → firstStranger s ≤ length s
 unfolding firstStranger
@@ -64,8 +69,11 @@ text-join x y = map-join sextetOf x y
 
 module _ (u room n : ℕ) (code : Code) (tag raw : List ℕ) (tags : ℕ) (low : Below 256 raw)
     (w : writing u (named code) tag tags (length raw) room ≡ written n) where
-  fits : Accepted (named code) tag tags (length raw) n
+  fits : Accepted u (named code) tag tags (length raw) room n
   fits = accepted u (named code) tag tags (length raw) room n w
+
+  pub room-there : n * u ≤ room
+  room-there = rw (fits .units) at (fits .there)
 
   -- as many tag characters as are said to be there
   pub tag-count : length (take tags tag) ≡ tags
