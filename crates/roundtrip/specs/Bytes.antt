@@ -1,5 +1,5 @@
 -- An item's bytes and its sextets, unit by unit: there and back, joined, and the first unit written out. Assumes nothing.
-use Prim.Native.Nat.{ℕ, zero, suc, _+_, _*_, _/_, _%_, _≤_, _<_}
+use Prim.Native.Nat.{ℕ, zero, suc, _*_, _/_, _%_, _≤_, _<_}
 use mathlib.Core.Path.{_≡_, refl, ap, _∙_}
 use mathlib.Core.List.{List, [], _∷_, _++_}
 use native.Mathlib.Omega.{arith}
@@ -68,7 +68,8 @@ bytes-in-below s = each-below (length s / 4) s
 pub sextets-back : (s : List ℕ) → length s % 4 ≡ 0 → Below 64 s → binarySextets (bytesIn s) ≡ s
 unfolding bytesIn binarySextets
 sextets-back s w h =
-    let l : length (each 4 bytesOf (length s / 4) s) / 3 ≡ length s / 4 = omega (arith, length-each 4 3 bytesOf bytes-size (length s / 4) s) in
+    let l : length (each 4 bytesOf (length s / 4) s) / 3 ≡ length s / 4 =
+    omega (arith, length-each 4 3 bytesOf bytes-size (length s / 4) s) in
     rw l
     (each-back 4 3 bytesOf sextetsOf bytes-size (length s / 4) s
     (λ i p. sextets-bytes (take 4 (drop (4 * i) s)) (part-length 4 (4 * i) s (omega arith)) (below-take 64 4 _ (below-drop 64 (4 * i) _ h)))

@@ -1,36 +1,33 @@
 -- There and back by the calls: what they answer where the sextets are those of a primitive. Assumes nothing.
-use Prim.Native.Nat.{ℕ, _+_, _-_, _*_, _/_, _%_, _≤_}
-use mathlib.Core.Path.{_≡_, refl, ap, _∙_, sym, subst}
-use mathlib.Core.List.{List, [], _++_}
-use mathlib.Core.Bool.{true, false}
+use Prim.Native.Nat.{ℕ, _+_, _-_, _*_, _≤_}
+use mathlib.Core.Path.{_≡_, refl, ap, _∙_, sym}
+use mathlib.Core.List.{List}
 use native.Mathlib.Omega.{arith}
 use lib.Dec.{ltb}
 use lib.ListN.{length, take, drop, length-drop, length-map}
-use lib.Seq.{drop-at, take-at, length-take-le, drop-drop, take-add, drop-append-seam}
+use lib.Seq.{drop-at, take-at, length-take-le, drop-drop, take-add}
 use borrow.Author.Tests.{le-ltb, ltb-false}
-use Rattle.base.specs.Pick.{pick, pick-by}
-use Rattle.base.specs.Lists.{map-take}
+use Rattle.base.specs.Pick.{pick-by}
 use Rattle.base.specs.Digits.{Below, below-take, below-drop}
 use Rattle.format.specs.declared.Kind.{Kind}
 use Rattle.format.specs.declared.Kind.the-variants.{Fixed, Variable, Group, Genus}
 use Rattle.format.specs.declared.Code.{Code}
 use Rattle.format.specs.declared.Primitive.{Primitive}
-use Rattle.format.specs.declared.TextFound.{TextFound}
 use Rattle.format.specs.declared.TextFound.the-variants as T
-use Rattle.format.specs.declared.BinaryFound.{BinaryFound}
 use Rattle.format.specs.declared.BinaryFound.the-variants as B
 use Rattle.format.specs.declared.BinaryRead.{BinaryRead}
 use Rattle.format.specs.declared.TextRead.{TextRead}
 use Rattle.format.specs.Alphabet.{sextetOf}
-use Rattle.format.specs.Units.{Domain, text, binary, textSextets, binarySextets}
+use Rattle.format.specs.Units.{text, binary, textSextets, binarySextets}
 use Rattle.format.specs.Conversion.{toBinary, toText}
 use Rattle.format.specs.Values.{bytesIn, rawStart, rawOf, tagOf}
-use Rattle.format.specs.Reading.{tagsOf, primitiveOf, Reading, refused, found, reading, from, padded, textAnswer, readText, textRaw, rawLeft, binaryAnswer, readBinary, partAt}
+use Rattle.format.specs.Reading.{primitiveOf, Reading, refused, found, reading, from, padded}
+use Rattle.format.specs.Reading.{textAnswer, readText, textRaw, rawLeft, binaryAnswer, readBinary, partAt}
 use Rattle.laws.specs.Conversion.{text-back as text-there}
 use Rattle.laws.specs.Domains.{text-reader, binary-reader}
 use Rattle.laws.specs.Values.{text-bytes, binary-bytes, raw-inside}
 use Rattle.roundtrip.specs.Bytes.{bytes-length, binary-length}
-use Rattle.roundtrip.specs.Own.{Headed, small, large, Own}
+use Rattle.roundtrip.specs.Own.{Own}
 use Rattle.roundtrip.specs.Reads.{read-own}
 use Rattle.roundtrip.specs.Counts.{has-lead}
 use Rattle.roundtrip.specs.Writes.{own-writes}
@@ -162,33 +159,39 @@ record From (s : List ℕ) (long limit : ℕ) (p : Primitive) : Type 0 where
   reads : reading s ≡ found kind head size
   item : p ≡ primitiveOf kind head size
 
+abbrev BinaryFrom : List ℕ → ℕ → Primitive → Type 0
+BinaryFrom xs at p = From (binarySextets (drop at xs)) (length xs) (binary .limit) p
+
+abbrev TextFrom : List ℕ → ℕ → Primitive → Type 0
+TextFrom xs at p = From (textSextets (drop at xs)) (length xs) (text .limit) p
+
 binary-from : (xs : List ℕ) (at : ℕ) (p : Primitive) → readBinary xs at .found ≡ B.Found p
-    → From (binarySextets (drop at xs)) (length xs) (binary .limit) p
+    → BinaryFrom xs at p
 unfolding readBinary binaryAnswer from
 binary-from xs at p =
-    pick-by (λ (x : BinaryRead). x .found ≡ B.Found p → From (binarySextets (drop at xs)) (length xs) (binary .limit) p)
+    pick-by (λ (x : BinaryRead). x .found ≡ B.Found p → BinaryFrom xs at p)
     (ltb (binary .limit) (length xs)) _ _ (λ _ e. let z : _≡_ {A = ℕ} 0 1 = cc in absurd (omega arith))
     (λ l e. by (ltb-false (binary .limit) (length xs) l) (reading (binarySextets (drop at xs))) refl e)
   where
     by : length xs ≤ binary .limit → (r : Reading) → reading (binarySextets (drop at xs)) ≡ r
-        → binaryAnswer at r (binarySextets (drop at xs)) .found ≡ B.Found p → From (binarySextets (drop at xs)) (length xs) (binary .limit) p
+        → binaryAnswer at r (binarySextets (drop at xs)) .found ≡ B.Found p → BinaryFrom xs at p
     by l (refused m q) f e = let z : _≡_ {A = ℕ} 0 1 = cc in absurd (omega arith)
     by l (found k h n) f e = record { kind = k; head = h; size = n; short = l; reads = f; item = cc }
 
 text-from : (xs : List ℕ) (at room : ℕ) (p : Primitive) → readText xs at room .found ≡ T.Found p
-    → From (textSextets (drop at xs)) (length xs) (text .limit) p × (p .raw ≤ room)
+    → TextFrom xs at p × (p .raw ≤ room)
 unfolding readText textAnswer from primitiveOf
 text-from xs at room p =
-    pick-by (λ (x : TextRead). x .found ≡ T.Found p → From (textSextets (drop at xs)) (length xs) (text .limit) p × (p .raw ≤ room))
+    pick-by (λ (x : TextRead). x .found ≡ T.Found p → TextFrom xs at p × (p .raw ≤ room))
     (ltb (text .limit) (length xs)) _ _ (λ _ e. let z : _≡_ {A = ℕ} 0 1 = cc in absurd (omega arith))
     (λ l e. by (ltb-false (text .limit) (length xs) l) (reading (textSextets (drop at xs))) refl e)
   where
     by : length xs ≤ text .limit → (r : Reading) → reading (textSextets (drop at xs)) ≡ r
         → textAnswer at r (textSextets (drop at xs)) room .found ≡ T.Found p
-        → From (textSextets (drop at xs)) (length xs) (text .limit) p × (p .raw ≤ room)
+        → TextFrom xs at p × (p .raw ≤ room)
     by l (refused m q) f = λ e. let z : _≡_ {A = ℕ} 0 1 = cc in absurd (omega arith)
     by l (found k h n) f =
-        pick-by (λ (x : TextRead). x .found ≡ T.Found p → From (textSextets (drop at xs)) (length xs) (text .limit) p × (p .raw ≤ room))
+        pick-by (λ (x : TextRead). x .found ≡ T.Found p → TextFrom xs at p × (p .raw ≤ room))
         (ltb room (3 * n - rawStart k h)) _ _ (λ _ e. let z : _≡_ {A = ℕ} 0 1 = cc in absurd (omega arith))
         (λ g e. let i : p ≡ primitiveOf k h n = cc in
         (record { kind = k; head = h; size = n; short = l; reads = f; item = i }, rw i (ltb-false room (3 * n - rawStart k h) g)))
@@ -232,7 +235,8 @@ text-back xs at room p d e =
     let inside : n * 4 ≤ length (drop at xs) = omega (arith, o .1) in
     let room-is : 3 * n - rawStart k h ≤ room = rw (g .item) at (f .1) in
     let a = ap (λ (x : TextRead). x .tag) (text-answer xs at room k h n short room-is (g .reads)) in
-    let raw = take-at (rawOf k h (take (4 * n) s)) (drop (3 * n - rawStart k h) d) (3 * n - rawStart k h) (raw-length k h n (take (4 * n) s) (o .0)) in
+    let size = raw-length k h n (take (4 * n) s) (o .0) in
+    let raw = take-at (rawOf k h (take (4 * n) s)) (drop (3 * n - rawStart k h) d) (3 * n - rawStart k h) size in
     rw (g .item, a, g .reads, raw, ← (text-own (drop at xs) n inside)) (reads-written s k h n (g .reads) (omega (arith, o .1)))
 
 -- an accepted item's own characters are whole units of the alphabet, so they are the text of its bytes

@@ -8,15 +8,13 @@ use Rattle.base.specs.Digits.{Below}
 use Rattle.format.specs.declared.Kind.{Kind}
 use Rattle.format.specs.declared.Code.{Code}
 use Rattle.format.specs.declared.Primitive.{Primitive}
-use Rattle.format.specs.declared.TextOffset.{TextOffset}
-use Rattle.format.specs.declared.BinaryOffset.{BinaryOffset}
 use Rattle.format.specs.declared.ToBinary.the-variants as ToBinary
 use Rattle.format.specs.declared.ToText.the-variants as ToText
 use Rattle.format.specs.declared.TextFound.the-variants as TextFound
 use Rattle.format.specs.declared.BinaryFound.the-variants as BinaryFound
 use Rattle.format.specs.declared.TextWritten.the-variants as TextWritten
 use Rattle.format.specs.declared.BinaryWritten.the-variants as BinaryWritten
-use Rattle.format.specs.Units.{Domain, text, binary, textSextets, binarySextets}
+use Rattle.format.specs.Units.{text, binary, textSextets, binarySextets}
 use Rattle.format.specs.Offsets.{textOffset, binaryOffset}
 use Rattle.format.specs.Conversion.{toBinary, toText, textToBinary, binaryToText}
 use Rattle.format.specs.Values.{bytesIn, rawOf, tagOf}
@@ -57,9 +55,10 @@ pub record TextReads (xs : List ℕ) (at room : ℕ) (code : Code) (tag raw : Li
   pub tag-back : readText xs at room .tag ≡ padded tag
   pub raw-back : (d : List ℕ) → rawLeft (readText xs at room .found) xs at d ≡ raw ++ drop (length raw) d
 
--- a write accepts in either form where there is room for n units, and its bytes are b
+-- a write accepts in either form where there is room for n units, and its bytes are b, the text's too
 pub record WritesBack (code : Code) (tag : List ℕ) (tags : ℕ) (raw : List ℕ) (n : ℕ) (b : List ℕ) : Type 0 where
-  pub accepts : (u room : ℕ) → n * u ≤ room → writing u (named code) tag tags (length raw) room ≡ written n
+  pub binary-accepts : (room : ℕ) → n * 3 ≤ room → writeBinary code tag tags raw room ≡ BinaryWritten.Written (binaryOffset (n * 3))
+  pub text-accepts : (room : ℕ) → n * 4 ≤ room → writeText code tag tags raw room ≡ TextWritten.Written (textOffset (n * 4))
   pub bytes : writtenBytes code tag tags raw ≡ b
 
 -- ---- "what the writer accepts, the reader reads back (code, tag characters, raw value) in the domain it was written in"

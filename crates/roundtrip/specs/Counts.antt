@@ -2,14 +2,14 @@
 use Prim.Native.Nat.{ℕ, zero, suc, _+_, _-_, _*_, _/_, _%_, _≤_, _<_}
 use mathlib.Core.Path.{_≡_, refl, ap, _∙_, sym, subst}
 use mathlib.Core.List.{List, [], _∷_, _++_, append-assoc}
-use mathlib.Core.Bool.{true, false}
+use mathlib.Core.Bool.{true}
 use mathlib.Core.Logic.{_⊎_, inl, inr, ⊎-elim}
 use native.Mathlib.Nat.{add-zero}
 use native.Mathlib.Omega.{arith}
 use lib.Dec.{lit<, ltb, eqb}
-use lib.ListN.{length, getD, take, drop, replicate, length-append, length-drop, length-replicate, take-append-drop}
+use lib.ListN.{length, take, drop, replicate, length-append, length-drop, length-replicate, take-append-drop}
 use lib.Seq.{take-at, drop-at, drop-drop, getD-drop}
-use borrow.Author.Tests.{eq-eqb, ne-eqb, le-leb, lt-ltb, le-ltb, ltb-true}
+use borrow.Author.Tests.{le-leb, lt-ltb, ltb-true}
 use Rattle.base.specs.Pick.{pick, pick-by}
 use Rattle.base.specs.Cases.{lt-or-ge}
 use Rattle.base.specs.Digits.{Below, none, more, below-append, below-drop, numberOf, digitsOf, digits-number, digits-below, number-digits}
@@ -20,13 +20,14 @@ use Rattle.format.specs.Framing.{sextet, digits4}
 use Rattle.format.specs.Judging.{zeroBits, hasLead}
 use Rattle.format.specs.Values.{bytesIn, rawStart, rawOf, tagOf}
 use Rattle.format.specs.Reading.{codeOf, tagsOf}
-use Rattle.format.specs.Writing.{variable, rawLimit, fitsVariable, leadFor, countFor, variableHeader, variablePrefix, isNamed, isFit, itemBytes, unitsOf}
+use Rattle.format.specs.Writing.{variable, rawLimit, fitsVariable, leadFor, countFor}
+use Rattle.format.specs.Writing.{variableHeader, variablePrefix, isNamed, isFit, itemBytes, unitsOf}
 use Rattle.laws.specs.Conversion.{binary-below}
 use Rattle.laws.specs.Values.{binary-bytes}
 use Rattle.roundtrip.specs.Bytes.{Quad, quad, quad-of, below-any, bytes-length, binary-length, bytes-front}
 use Rattle.roundtrip.specs.Rows.{type-low}
 use Rattle.roundtrip.specs.Prefix.{lead-fronts}
-use Rattle.roundtrip.specs.Own.{Headed, small, large, Counted, Own}
+use Rattle.roundtrip.specs.Own.{Headed, small, large, Own}
 use Rattle.roundtrip.specs.Words.{Writes, Made}
 
 -- ---- lead bytes and count
@@ -212,7 +213,8 @@ module _ (t : ℕ) (raw : List ℕ) (ty : isType t ≡ true) (low : Below 256 ra
     unfolding behind value
     zeros =
         bits-behind (front ++ behind) (4 * h) (8 * lead) ∙ ap (λ (x : List ℕ). zeroBits x 0 (8 * lead)) parts
-        ∙ lead-fronts lead behind (lead-few (length raw)) (λ p. quad-of behind (omega (arith, led p, behind-length))) (binary-below value) .0
+        ∙ lead-fronts lead behind (lead-few (length raw)) (λ p. quad-of behind (omega (arith, led p, behind-length)))
+        (binary-below value) .0
         (ap (take lead) behind-bytes ∙ take-at (replicate lead 0) raw lead zeros-length)
 
     own : Own (Variable t lead count) h (h + count) (front ++ behind)

@@ -48,7 +48,8 @@ module _ (x y u v : ℕ) (r : List ℕ) (px : x < 64) (py : y < 64) (pu : u < 64
   unfolding bytesOf
   front =
       bytes-front x y u v r
-      ∙ ap (λ (q : List ℕ). q ++ bytesIn r) (digits3 (numberOf 64 (x ∷ y ∷ u ∷ v ∷ [])) (x * 4 + y / 16) (y % 16 * 16 + u / 4) (u % 4 * 64 + v)
+      ∙ ap (λ (q : List ℕ). q ++ bytesIn r)
+      (digits3 (numberOf 64 (x ∷ y ∷ u ∷ v ∷ [])) (x * 4 + y / 16) (y % 16 * 16 + u / 4) (u % 4 * 64 + v)
       (omega arith) (omega arith) (omega arith) (omega arith))
 
   single-fronts : (l : ℕ) → l < 52 → Fronts (x ∷ y ∷ u ∷ v ∷ r) 1 2 1 (l ∷ [])

@@ -14,7 +14,8 @@ use Rattle.format.specs.declared.BinaryWritten.the-variants as B
 use Rattle.format.specs.Offsets.{textOffset, binaryOffset}
 use Rattle.format.specs.Units.{text, binary}
 use Rattle.format.specs.Conversion.{toText}
-use Rattle.format.specs.Writing.{named, Writing, refused, written, writing, writtenBytes, textOutcome, binaryOutcome, writeText, writeBinary, textItemLeft, binaryItemLeft}
+use Rattle.format.specs.Writing.{named, Writing, refused, written, writing, writtenBytes}
+use Rattle.format.specs.Writing.{textOutcome, binaryOutcome, writeText, writeBinary, textItemLeft, binaryItemLeft}
 use Rattle.laws.specs.Conversion.{length-to-text}
 use Rattle.roundtrip.specs.Sextets as S
 use Rattle.roundtrip.specs.Calls as C

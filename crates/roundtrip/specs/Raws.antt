@@ -1,30 +1,27 @@
 -- Fixed codes with a raw value: own sextets are written back, and what is written are own sextets. Assumes nothing.
-use Prim.Native.Nat.{ℕ, _+_, _-_, _*_, _/_, _%_, _≤_, _<_}
+use Prim.Native.Nat.{ℕ, _-_, _*_, _≤_, _<_}
 use mathlib.Core.Path.{_≡_, refl, ap, _∙_, sym}
-use mathlib.Core.List.{List, [], _∷_, _++_}
+use mathlib.Core.List.{List, [], _++_}
 use mathlib.Core.Bool.{true}
 use native.Mathlib.Omega.{arith}
-use lib.Dec.{lit<, eqb}
+use lib.Dec.{lit<}
 use lib.ListN.{length, take, drop, length-append, length-drop, take-append-drop}
 use lib.Seq.{take-at, drop-at}
-use borrow.Author.Tests.{eq-eqb, eqb-true}
+use borrow.Author.Tests.{eq-eqb}
 use Rattle.base.specs.Digits.{Below, none, below-append, length-digits, digits-below}
 use Rattle.format.specs.declared.CodeRow.{CodeRow}
-use Rattle.format.specs.declared.Kind.{Kind}
 use Rattle.format.specs.declared.Kind.the-variants.{Fixed}
-use Rattle.format.specs.Registry.{prepadOf}
 use Rattle.format.specs.Units.{textSextets, binarySextets}
 use Rattle.format.specs.Judging.{prepadRight}
 use Rattle.format.specs.Values.{bytesIn, rawStart, rawOf, tagOf}
 use Rattle.format.specs.Reading.{codeOf, tagsOf}
 use Rattle.format.specs.Writing.{row, rawSize, fitsRow, rawPrefix, rowPrefix, isNamed, isFit, itemBytes, unitsOf}
 use Rattle.laws.specs.Conversion.{binary-below}
-use Rattle.laws.specs.Domains.{binary-reader}
 use Rattle.laws.specs.Values.{binary-bytes, raw-inside}
 use Rattle.roundtrip.specs.Bytes.{quad-of, no-length, bytes-length, binary-length}
 use Rattle.roundtrip.specs.Rows.{Row}
 use Rattle.roundtrip.specs.Prefix.{code-fronts}
-use Rattle.roundtrip.specs.Own.{Coded, Own}
+use Rattle.roundtrip.specs.Own.{Own}
 use Rattle.roundtrip.specs.Words.{Writes, Made}
 
 module _ (c : CodeRow) (n : ℕ) (r : Row c n) (t : c .tag ≡ 0) where

@@ -1,15 +1,15 @@
 -- The reader finds a primitive exactly where its own sextets stand: whatever stands behind them. Assumes nothing.
-use Prim.Native.Nat.{ℕ, zero, suc, _+_, _-_, _*_, _/_, _≤_, _<_}
-use mathlib.Core.Path.{_≡_, refl, ap, _∙_, sym, subst}
+use Prim.Native.Nat.{ℕ, zero, suc, _+_, _*_, _/_, _≤_, _<_}
+use mathlib.Core.Path.{_≡_, refl, _∙_, subst}
 use mathlib.Core.List.{List, [], _∷_, _++_}
 use mathlib.Core.Bool.{Bool, true, false}
 use native.Mathlib.Omega.{arith}
 use lib.Dec.{lit<, ltb, eqb}
-use lib.ListN.{length, getD, take, drop, length-append, List·getD-append, take-append-drop}
+use lib.ListN.{length, take, drop, length-append, List·getD-append}
 use lib.Seq.{take-at, length-take-le, getD-take}
-use borrow.Author.Tests.{ltb-true, ltb-false, lt-ltb, le-ltb, eqb-true, eq-eqb}
+use borrow.Author.Tests.{ltb-true, ltb-false, lt-ltb, le-ltb, eqb-true}
 use Rattle.base.specs.Pick.{pick, pick-by}
-use Rattle.base.specs.Digits.{Below, none, more, below-drop, below-append}
+use Rattle.base.specs.Digits.{Below, none, more, below-drop}
 use Rattle.format.specs.declared.CodeRow.{CodeRow}
 use Rattle.format.specs.declared.Kind.{Kind}
 use Rattle.format.specs.declared.Kind.the-variants.{Fixed, Variable, Group, Genus}
@@ -20,15 +20,15 @@ use Rattle.format.specs.declared.Framed.the-variants.{Item, Unframed}
 use Rattle.format.specs.declared.Verdict.{Verdict}
 use Rattle.format.specs.declared.Verdict.the-variants.{Accepted, Refused}
 use Rattle.format.specs.Registry.{isType, isGroup, fixed, opening, extent}
-use Rattle.format.specs.Framing.{fit, known, second, digits4, headed, frameWith, sextet, frame}
+use Rattle.format.specs.Framing.{fit, second, digits4, headed, frameWith, sextet, frame}
 use Rattle.format.specs.Judging.{shift, andThen, unless, scan, behind, judgeKind, ownCheck}
-use Rattle.format.specs.Reading.{Reading, refused, found, isPrimitive, judged, readFramed, reading}
+use Rattle.format.specs.Reading.{refused, found, isPrimitive, judged, readFramed, reading}
 use Rattle.format.specs.Writing.{codeSextets}
 use Rattle.laws.specs.Registry.{Code, one, two, four, Finds, fixed-finds}
 use Rattle.laws.specs.Framing.{Known, known-by, known-next, Good, Lawful, frame-good}
 use Rattle.roundtrip.specs.Bytes.{Quad, quad, quad-of, below-any}
 use Rattle.roundtrip.specs.Rows.{Row, row-found}
-use Rattle.roundtrip.specs.Own.{Headed, small, large, Coded, Counted, Form, Own}
+use Rattle.roundtrip.specs.Own.{Headed, small, large, Coded, Own}
 
 -- ---- what a first unit opens
 
@@ -306,7 +306,8 @@ own-low s (suc (suc zero)) p q l k b = low-quads s (quad-of s (omega arith)) (om
 own-low s (suc (suc (suc h))) p q l k b = absurd (omega arith)
 
 -- an item's own sextets, framed and judged
-own-by : (k : Kind) (h n : ℕ) (s : List ℕ) → length s ≡ 4 * n → isPrimitive k ≡ true → Lawful (frameWith opening) (sextet s) (length s / 4) k h n
+own-by : (k : Kind) (h n : ℕ) (s : List ℕ) → length s ≡ 4 * n → isPrimitive k ≡ true
+    → Lawful (frameWith opening) (sextet s) (length s / 4) k h n
     → Starts s (Item k h n) → judgeKind k h s (ownCheck 0) ≡ Accepted → Own k h n s
 unfolding judgeKind behind isPrimitive
 own-by (Fixed c) h n s e p g f j =

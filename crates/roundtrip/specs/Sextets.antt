@@ -1,14 +1,14 @@
 -- There and back on the sextets of a stream, in either form. Assumes nothing.
-use Prim.Native.Nat.{ℕ, suc, _+_, _*_, _/_, _%_, _≤_}
-use mathlib.Core.Path.{_≡_, refl, ap, _∙_, sym}
+use Prim.Native.Nat.{ℕ, suc, _*_, _/_, _%_, _≤_}
+use mathlib.Core.Path.{_≡_, ap, _∙_, sym}
 use mathlib.Core.List.{List, [], _∷_, _++_}
-use mathlib.Core.Bool.{true, false}
+use mathlib.Core.Bool.{true}
 use native.Mathlib.Omega.{arith}
 use lib.Dec.{ltb}
-use lib.ListN.{length, take, length-take, replicate}
-use lib.Seq.{take-at, length-take-le}
+use lib.ListN.{length, take, length-take}
+use lib.Seq.{take-at}
 use borrow.Author.Tests.{le-ltb, ltb-false}
-use Rattle.base.specs.Pick.{pick, pick-by}
+use Rattle.base.specs.Pick.{pick-by}
 use Rattle.base.specs.Lists.{map-join}
 use Rattle.base.specs.Digits.{Below}
 use Rattle.format.specs.declared.Kind.{Kind}
@@ -22,11 +22,12 @@ use Rattle.format.specs.Conversion.{toBinary, toText, firstStranger, textToBina
 use Rattle.format.specs.Values.{bytesIn, rawOf, tagOf}
 use Rattle.format.specs.Reading.{codeOf, tagsOf, found, reading, padded}
 use Rattle.format.specs.Writing.{Named, named, Writing, refused, written, writing, writtenBytes, isNamed, isFit, unitsOf}
+use Rattle.format.specs.Writing.{textOutcome, binaryOutcome, writeText, writeBinary}
 use Rattle.laws.specs.Conversion.{length-to-text, binary-to-text-sextets, text-below, binary-back, no-stranger, all-known}
 use Rattle.roundtrip.specs.Bytes.{bytes-length, bytes-in-below, sextets-join, sextets-back}
 use Rattle.roundtrip.specs.Own.{Own}
 use Rattle.roundtrip.specs.Reads.{own-reads, read-own}
-use Rattle.roundtrip.specs.Words.{nameOf, Writes, Made}
+use Rattle.roundtrip.specs.Words.{nameOf, Made}
 use Rattle.roundtrip.specs.Writes.{own-named, own-writes, made, made-code}
 use Rattle.roundtrip.specs.Claims.{Reads, WritesBack}
 
@@ -167,23 +168,27 @@ module _ (u room n : ℕ) (code : Code) (tag raw : List ℕ) (tags : ℕ) (low :
 
 pub reads-written : (s : List ℕ) (k : Kind) (h n : ℕ) → reading s ≡ found k h n → n ≤ 1048576
     → let own = take (4 * n) s in WritesBack (codeOf k h) (padded (tagOf k own)) (tagsOf k) (rawOf k h own) n (bytesIn own)
-unfolding padded writing writtenBytes
+unfolding padded writing writtenBytes writeBinary writeText binaryOutcome textOutcome
 reads-written s k h n e few =
     let own = take (4 * n) s in
     let o = read-own s k h n e .0 in
     let w = own-writes k h n own o few in
     let name : named (codeOf k h) ≡ nameOf k h = own-named k h n own o in
     let tag : take (tagsOf k) (padded (tagOf k own)) ≡ tagOf k own = take-at (tagOf k own) _ (tagsOf k) (w .count) in
+    let accepts : (u room : ℕ) → n * u ≤ room
+    → writing u (named (codeOf k h)) (padded (tagOf k own)) (tagsOf k) (length (rawOf k h own)) room ≡ written n =
+    λ u room r.
+    rw (
+      name,
+      w .known,
+      w .fits,
+      tag,
+      le-ltb (firstStranger (tagOf k own)) (tagsOf k) (omega (arith, no-stranger (tagOf k own) (w .alphabet), w .count)),
+      w .units,
+      le-ltb room (n * u) r,
+    ) in
     record {
-      accepts = λ u room r.
-          rw (
-            name,
-            w .known,
-            w .fits,
-            tag,
-            le-ltb (firstStranger (tagOf k own)) (tagsOf k) (omega (arith, no-stranger (tagOf k own) (w .alphabet), w .count)),
-            w .units,
-            le-ltb room (n * u) r,
-          );
+      binary-accepts = λ room r. ap binaryOutcome (accepts 3 room r);
+      text-accepts = λ room r. ap textOutcome (accepts 4 room r);
       bytes = rw (name, tag) (w .bytes);
     }

@@ -1,13 +1,14 @@
 -- Tags: own sextets are the code's, a prepad and the tag characters', so they are written back, and what is written are own
 -- sextets. Assumes nothing.
 use Prim.Native.Nat.{ℕ, zero, suc, _+_, _*_, _/_, _≤_, _<_}
-use mathlib.Core.Path.{_≡_, refl, ap, _∙_, sym, subst}
-use mathlib.Core.List.{List, [], _∷_, _++_, map, append-assoc, append-nil}
+use mathlib.Core.Path.{_≡_, refl, ap, _∙_, sym}
+use mathlib.Core.List.{List, [], _++_, map, append-assoc, append-nil}
 use mathlib.Core.Bool.{true}
 use mathlib.Core.Logic.{_↔_}
 use native.Mathlib.Omega.{arith}
 use lib.Dec.{lit<}
-use lib.ListN.{length, getD, take, drop, replicate, length-append, length-drop, length-map, length-replicate, take-append-drop, drop-of-length-le}
+use lib.ListN.{length, getD, take, drop, replicate}
+use lib.ListN.{length-append, length-drop, length-map, length-replicate, take-append-drop, drop-of-length-le}
 use lib.Seq.{take-at, drop-at, take-all, drop-drop, drop-cons}
 use borrow.Author.Tests.{eq-eqb, ne-eqb, eqb-true}
 use Rattle.base.specs.Digits.{Below, none, more, below-append, below-drop, map-back}
@@ -17,7 +18,7 @@ use Rattle.format.specs.declared.Kind.the-variants.{Fixed}
 use Rattle.format.specs.Alphabet.{sextetOf, charOf}
 use Rattle.format.specs.Registry.{zeroBitsOf, prepadOf}
 use Rattle.format.specs.Units.{bytesOf, textSextets}
-use Rattle.format.specs.Judging.{zeroBits, prepadRight}
+use Rattle.format.specs.Judging.{prepadRight}
 use Rattle.format.specs.Values.{bytesIn, rawStart, rawOf, tagOf}
 use Rattle.format.specs.Reading.{codeOf, tagsOf}
 use Rattle.format.specs.Writing.{row, rawSize, fitsRow, codeSextets, tagPrefix, rowPrefix, isNamed, isFit, itemBytes, unitsOf}
@@ -27,7 +28,7 @@ use Rattle.laws.specs.Registry.{Code, one, two, four, Tag}
 use Rattle.roundtrip.specs.Bytes.{no-length, bytes-length}
 use Rattle.roundtrip.specs.Rows.{Row}
 use Rattle.roundtrip.specs.Prefix.{no-bits}
-use Rattle.roundtrip.specs.Own.{Coded, Own}
+use Rattle.roundtrip.specs.Own.{Own}
 use Rattle.roundtrip.specs.Words.{Writes, Made}
 
 code-length : (c : CodeRow) → Code c → length (codeSextets c) ≡ c .chars

@@ -1,13 +1,13 @@
 -- The writer writes own sextets back, and what it writes are own sextets, whatever the code. Assumes nothing.
-use Prim.Native.Nat.{ℕ, _*_, _≤_, _<_}
-use mathlib.Core.Path.{_≡_, refl, ap, _∙_, sym}
+use Prim.Native.Nat.{ℕ, _≤_, _<_}
+use mathlib.Core.Path.{_≡_, refl, ap, _∙_}
 use mathlib.Core.List.{List, []}
-use mathlib.Core.Bool.{Bool, true, false}
+use mathlib.Core.Bool.{true}
 use mathlib.Core.Logic.{_⊎_, inl, inr, ⊎-elim}
 use native.Mathlib.Omega.{arith}
-use lib.Dec.{lit<, eqb}
+use lib.Dec.{eqb}
 use lib.ListN.{length}
-use borrow.Author.Tests.{eq-eqb, eqb-true, eqb-false, leb-true}
+use borrow.Author.Tests.{eqb-true, eqb-false, leb-true}
 use Rattle.base.specs.Pick.{pick, pick-by}
 use Rattle.base.specs.Cases.{whether}
 use Rattle.base.specs.Digits.{Below}
@@ -26,7 +26,7 @@ use Rattle.format.specs.Values.{rawOf, tagOf}
 use Rattle.format.specs.Reading.{codeOf, tagsOf}
 use Rattle.format.specs.Writing.{Named, unknown, row, variable, namedFixed, named, rawSize, fitsRow, rawLimit, fitsVariable, isNamed, isFit}
 use Rattle.laws.specs.Alphabet.{sextet-char, char-sextet}
-use Rattle.roundtrip.specs.Bytes.{no-length, below-any}
+use Rattle.roundtrip.specs.Bytes.{no-length}
 use Rattle.roundtrip.specs.Rows.{Row, row-found, type-low}
 use Rattle.roundtrip.specs.Own.{Headed, small, large, Own}
 use Rattle.roundtrip.specs.Words.{nameOf, codeFor, Writes, Made}
@@ -87,7 +87,8 @@ own-named Genus h n s o = absurd (o .form)
 
 -- ---- written back
 
-pub own-writes : (k : Kind) (h n : ℕ) (s : List ℕ) → Own k h n s → n ≤ 1048576 → Writes (nameOf k h) (tagOf k s) (tagsOf k) (rawOf k h s) n s
+pub own-writes : (k : Kind) (h n : ℕ) (s : List ℕ) → Own k h n s → n ≤ 1048576
+    → Writes (nameOf k h) (tagOf k s) (tagsOf k) (rawOf k h s) n s
 own-writes (Fixed c) h n s o few =
     ⊎-elim (λ e. raw-writes c n (o .form .row) (eqb-true (c .tag) 0 e) h s o)
     (λ e. tag-writes c n (o .form .row) (eqb-false (c .tag) 0 e) h s o)
@@ -111,7 +112,8 @@ variable-fits h tags raw =
     (λ a b. (eqb-true tags 0 a, leb-true raw (rawLimit h) b)) (λ a b. let z : _≡_ {A = ℕ} 0 1 = cc in absurd (omega arith))
 
 module _ (tag raw : List ℕ) (tags : ℕ) (count : length tag ≡ tags) (alphabet : Below 64 (textSextets tag)) (bytes : Below 256 raw) where
-  variable-made : (t h : ℕ) → isType t ≡ true → (h ≡ 1) ⊎ (h ≡ 2) → fitsVariable h tags (length raw) ≡ true → Made (variable t h) tag tags raw
+  variable-made : (t h : ℕ) → isType t ≡ true → (h ≡ 1) ⊎ (h ≡ 2) → fitsVariable h tags (length raw) ≡ true
+      → Made (variable t h) tag tags raw
   variable-made t h ty small-or-large f =
       let v = variable-fits h tags (length raw) f in
       let none : tag ≡ [] = no-length tag (count ∙ v .0) in
