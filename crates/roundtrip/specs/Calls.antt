@@ -11,7 +11,6 @@ use Rattle.base.specs.Pick.{pick-by}
 use Rattle.base.specs.Digits.{Below, below-take, below-drop}
 use Rattle.format.specs.declared.Kind.{Kind}
 use Rattle.format.specs.declared.Kind.the-variants.{Fixed, Variable, Group, Genus}
-use Rattle.format.specs.declared.Code.{Code}
 use Rattle.format.specs.declared.Primitive.{Primitive}
 use Rattle.format.specs.declared.TextFound.the-variants as T
 use Rattle.format.specs.declared.BinaryFound.the-variants as B
@@ -32,7 +31,7 @@ use Rattle.roundtrip.specs.Reads.{read-own}
 use Rattle.roundtrip.specs.Counts.{has-lead}
 use Rattle.roundtrip.specs.Writes.{own-writes}
 use Rattle.roundtrip.specs.Sextets.{reads-written}
-use Rattle.roundtrip.specs.Claims.{Reads, Tells, BinaryReads, TextReads, WritesBack}
+use Rattle.roundtrip.specs.Claims.{Given, tagGiven, Reads, Tells, BinaryReads, TextReads, WritesBack}
 
 -- ---- the raw value lies at the item's end
 
@@ -99,23 +98,23 @@ unfolding readText textAnswer from
 text-answer xs at room k h n l r e = rw (le-ltb (text .limit) (length xs) l, e, le-ltb room (3 * n - rawStart k h) r)
 
 -- what it tells, s being the stream's sextets from the offset on
-tells : (s : List ℕ) (code : Code) (tag raw : List ℕ) (n : ℕ) (r : Reads s code tag raw n) → length s ≤ 4194304
-    → Tells (primitiveOf (r .kind) (r .head) n) code (length tag) (length raw) n
+tells : (s : List ℕ) (g : Given) (n : ℕ) (r : Reads s g n) → length (tagGiven g) ≡ g .tags → length s ≤ 4194304
+    → Tells (primitiveOf (r .kind) (r .head) n) g n
 unfolding primitiveOf
-tells s code tag raw n r l =
+tells s g n r c l =
     let o = read-own s (r .kind) (r .head) n (r .reads) in
     let w = own-writes (r .kind) (r .head) n (take (4 * n) s) (o .0) (omega (arith, o .1)) in
     record {
       code-back = r .code-back;
-      tags-back = sym (w .count) ∙ ap length (r .tag-back);
+      tags-back = sym (w .count) ∙ ap length (r .tag-back) ∙ c;
       raw-length = sym (raw-length (r .kind) (r .head) n (take (4 * n) s) (o .0)) ∙ ap length (r .raw-back);
       units = refl;
     }
 
-pub binary-by : (xs : List ℕ) (at : ℕ) (code : Code) (tag raw : List ℕ) (n : ℕ) → length xs ≤ binary .limit
-    → Below 256 (take (n * 3) (drop at xs)) → Reads (binarySextets (drop at xs)) code tag raw n → BinaryReads xs at code tag raw n
+pub binary-by : (xs : List ℕ) (at : ℕ) (g : Given) (n : ℕ) → length (tagGiven g) ≡ g .tags → length xs ≤ binary .limit
+    → Below 256 (take (n * 3) (drop at xs)) → Reads (binarySextets (drop at xs)) g n → BinaryReads xs at g n
 unfolding partAt primitiveOf
-binary-by xs at code tag raw n l low r =
+binary-by xs at g n c l low r =
     let s = binarySextets (drop at xs) in
     let a = binary-answer xs at (r .kind) (r .head) n l (r .reads) in
     let o = read-own s (r .kind) (r .head) n (r .reads) in
@@ -124,19 +123,20 @@ binary-by xs at code tag raw n l low r =
     record {
       item = primitiveOf (r .kind) (r .head) n;
       reads = ap (λ (x : BinaryRead). x .found) a;
-      tells = tells s code tag raw n r (omega arith);
+      tells = tells s g n r c (omega arith);
       tag-back = ap (λ (x : BinaryRead). x .tag) a ∙ ap padded (r .tag-back);
       raw-back = ap (λ (x : BinaryRead). partAt xs at (x .found)) a
           ∙ part-is xs at (r .kind) (r .head) n (o .0) (omega (arith, o .1)) low
           ∙ r .raw-back;
     }
 
-pub text-by : (xs : List ℕ) (at room : ℕ) (code : Code) (tag raw : List ℕ) (n : ℕ) → length xs ≤ text .limit → length raw ≤ room
-    → Reads (textSextets (drop at xs)) code tag raw n → TextReads xs at room code tag raw n
+pub text-by : (xs : List ℕ) (at room : ℕ) (g : Given) (n : ℕ) → length (tagGiven g) ≡ g .tags → length xs ≤ text .limit
+    → length (g .raw) ≤ room
+    → Reads (textSextets (drop at xs)) g n → TextReads xs at room g n
 unfolding rawLeft textRaw from
-text-by xs at room code tag raw n l f r =
+text-by xs at room g n c l f r =
     let s = textSextets (drop at xs) in
-    let t = tells s code tag raw n r (omega (arith, text-length (drop at xs), length-drop at xs)) in
+    let t = tells s g n r c (omega (arith, text-length (drop at xs), length-drop at xs)) in
     let o = read-own s (r .kind) (r .head) n (r .reads) in
     let a = text-answer xs at room (r .kind) (r .head) n l
     (omega (arith, raw-length (r .kind) (r .head) n (take (4 * n) s) (o .0), ap length (r .raw-back))) (r .reads) in

@@ -23,37 +23,71 @@ use Rattle.format.specs.Writing.{named, written, writing, writtenBytes, writeTe
 
 -- ---- words
 
--- a reading of sextets finds a primitive of n units with this code, these tag characters and this raw value
-pub record Reads (s : List ℕ) (code : Code) (tag raw : List ℕ) (n : ℕ) : Type 0 where
+-- what is given to a writer: a code, places with tag characters and how many of them count, and raw bytes
+pub record Given : Type 0 where
+  pub code : Code
+  pub tag : List ℕ
+  pub tags : ℕ
+  pub raw : List ℕ
+  pub bytes : Below 256 raw
+
+-- the tag characters that count
+abbrev pub tagGiven : Given → List ℕ
+tagGiven g = take (g .tags) (g .tag)
+
+-- the item's bytes
+abbrev pub itemOf : Given → List ℕ
+itemOf g = writtenBytes (g .code) (g .tag) (g .tags) (g .raw)
+
+-- the writer accepts it as n units of u elements
+abbrev pub Accepts : ℕ → Given → ℕ → ℕ → Type 0
+Accepts u g room n = writing u (named (g .code)) (g .tag) (g .tags) (length (g .raw)) room ≡ written n
+
+-- the calls do
+abbrev pub BinaryAccepts : Given → ℕ → ℕ → Type 0
+BinaryAccepts g room n = writeBinary (g .code) (g .tag) (g .tags) (g .raw) room ≡ BinaryWritten.Written (binaryOffset (n * 3))
+
+abbrev pub TextAccepts : Given → ℕ → ℕ → Type 0
+TextAccepts g room n = writeText (g .code) (g .tag) (g .tags) (g .raw) room ≡ TextWritten.Written (textOffset (n * 4))
+
+-- and a buffer that held d holds it from its start
+abbrev pub binaryBuffer : Given → List ℕ → List ℕ
+binaryBuffer g d = binaryItemLeft (writeBinary (g .code) (g .tag) (g .tags) (g .raw) (length d)) (g .code) (g .tag) (g .tags) (g .raw) d
+
+abbrev pub textBuffer : Given → List ℕ → List ℕ
+textBuffer g d = textItemLeft (writeText (g .code) (g .tag) (g .tags) (g .raw) (length d)) (g .code) (g .tag) (g .tags) (g .raw) d
+
+-- a reading of sextets finds it: "code, tag characters, raw value"
+pub record Reads (s : List ℕ) (g : Given) (n : ℕ) : Type 0 where
   pub kind : Kind
   pub head : ℕ
   pub reads : reading s ≡ found kind head n
-  pub code-back : codeOf kind head ≡ code
-  pub tag-back : tagOf kind (take (4 * n) s) ≡ tag
-  pub raw-back : rawOf kind head (take (4 * n) s) ≡ raw
+  pub code-back : codeOf kind head ≡ g .code
+  pub tag-back : tagOf kind (take (4 * n) s) ≡ tagGiven g
+  pub raw-back : rawOf kind head (take (4 * n) s) ≡ g .raw
 
--- an answer with this code, so many tag characters, a raw value so long, and n units
-pub record Tells (p : Primitive) (code : Code) (tags raw n : ℕ) : Type 0 where
-  pub code-back : p .code ≡ code
-  pub tags-back : p .tags ≡ tags
-  pub raw-length : p .raw ≡ raw
+-- an answer tells it
+pub record Tells (p : Primitive) (g : Given) (n : ℕ) : Type 0 where
+  pub code-back : p .code ≡ g .code
+  pub tags-back : p .tags ≡ g .tags
+  pub raw-length : p .raw ≡ length (g .raw)
   pub units : p .size ≡ n
 
--- a read of a binary at an offset finds them, and hands the raw value back as a part
-pub record BinaryReads (xs : List ℕ) (at : ℕ) (code : Code) (tag raw : List ℕ) (n : ℕ) : Type 0 where
+-- a read of a binary at an offset finds it, and hands the raw value back as a part
+pub record BinaryReads (xs : List ℕ) (at : ℕ) (g : Given) (n : ℕ) : Type 0 where
   pub item : Primitive
   pub reads : readBinary xs at .found ≡ BinaryFound.Found item
-  pub tells : Tells item code (length tag) (length raw) n
-  pub tag-back : readBinary xs at .tag ≡ padded tag
-  pub raw-back : partAt xs at (readBinary xs at .found) ≡ raw
+  pub tells : Tells item g n
+  pub tag-back : readBinary xs at .tag ≡ padded (tagGiven g)
+  pub raw-back : partAt xs at (readBinary xs at .found) ≡ g .raw
 
--- a read of a text at an offset with room finds them, and writes the raw value from the buffer's start
-pub record TextReads (xs : List ℕ) (at room : ℕ) (code : Code) (tag raw : List ℕ) (n : ℕ) : Type 0 where
+-- a read of a text at an offset with room finds it, and writes the raw value from the buffer's start
+pub record TextReads (xs : List ℕ) (at room : ℕ) (g : Given) (n : ℕ) : Type 0 where
   pub item : Primitive
   pub reads : readText xs at room .found ≡ TextFound.Found item
-  pub tells : Tells item code (length tag) (length raw) n
-  pub tag-back : readText xs at room .tag ≡ padded tag
-  pub raw-back : (d : List ℕ) → rawLeft (readText xs at room .found) xs at d ≡ raw ++ drop (length raw) d
+  pub tells : Tells item g n
+  pub tag-back : readText xs at room .tag ≡ padded (tagGiven g)
+  pub raw-back : (d : List ℕ) → rawLeft (readText xs at room .found) xs at d ≡ g .raw ++ drop (length (g .raw)) d
 
 -- a write accepts in either form where there is room for n units, and its bytes are b, the text's too
 pub record WritesBack (code : Code) (tag : List ℕ) (tags : ℕ) (raw : List ℕ) (n : ℕ) (b : List ℕ) : Type 0 where
@@ -65,47 +99,31 @@ pub record WritesBack (code : Code) (tag : List ℕ) (tags : ℕ) (raw : List �
 
 pub record WrittenReads : Type 0 where
   -- what is written is whole units of bytes
-  pub sizes : (u room n : ℕ) (code : Code) (tag raw : List ℕ) (tags : ℕ) → Below 256 raw
-      → writing u (named code) tag tags (length raw) room ≡ written n
-      → (length (writtenBytes code tag tags raw) ≡ n * 3) × Below 256 (writtenBytes code tag tags raw)
+  pub sizes : (u room n : ℕ) (g : Given) → Accepts u g room n → (length (itemOf g) ≡ n * 3) × Below 256 (itemOf g)
   -- on its sextets, whatever stands behind the item, whole units or not
-  pub binary-sextets : (room n : ℕ) (code : Code) (tag raw : List ℕ) (tags : ℕ) (rest : List ℕ) → Below 256 raw
-      → writing 3 (named code) tag tags (length raw) room ≡ written n
-      → Reads (binarySextets (writtenBytes code tag tags raw ++ rest)) code (take tags tag) raw n
-  pub text-sextets : (room n : ℕ) (code : Code) (tag raw : List ℕ) (tags : ℕ) (rest : List ℕ) → Below 256 raw
-      → writing 4 (named code) tag tags (length raw) room ≡ written n
-      → Reads (textSextets (toText (writtenBytes code tag tags raw) ++ rest)) code (take tags tag) raw n
+  pub binary-sextets : (room n : ℕ) (g : Given) (rest : List ℕ) → Accepts 3 g room n → Reads (binarySextets (itemOf g ++ rest)) g n
+  pub text-sextets : (room n : ℕ) (g : Given) (rest : List ℕ) → Accepts 4 g room n → Reads (textSextets (toText (itemOf g) ++ rest)) g n
   -- by the calls, at any offset of a stream within the limit, whatever stands before and behind the item
-  pub binary-calls : (room n : ℕ) (code : Code) (tag raw : List ℕ) (tags : ℕ) (front rest : List ℕ) → Below 256 raw
-      → writeBinary code tag tags raw room ≡ BinaryWritten.Written (binaryOffset (n * 3))
-      → length (front ++ (writtenBytes code tag tags raw ++ rest)) ≤ binary .limit
-      → BinaryReads (front ++ (writtenBytes code tag tags raw ++ rest)) (length front) code (take tags tag) raw n
-  pub text-calls : (room n : ℕ) (code : Code) (tag raw : List ℕ) (tags : ℕ) (front rest : List ℕ) (for-raw : ℕ) → Below 256 raw
-      → writeText code tag tags raw room ≡ TextWritten.Written (textOffset (n * 4))
-      → length (front ++ (toText (writtenBytes code tag tags raw) ++ rest)) ≤ text .limit → length raw ≤ for-raw
-      → TextReads (front ++ (toText (writtenBytes code tag tags raw) ++ rest)) (length front) for-raw code (take tags tag) raw n
+  pub binary-calls : (room n : ℕ) (g : Given) (front rest : List ℕ) → BinaryAccepts g room n
+      → length (front ++ (itemOf g ++ rest)) ≤ binary .limit → BinaryReads (front ++ (itemOf g ++ rest)) (length front) g n
+  pub text-calls : (room n for-raw : ℕ) (g : Given) (front rest : List ℕ) → TextAccepts g room n
+      → length (front ++ (toText (itemOf g) ++ rest)) ≤ text .limit → length (g .raw) ≤ for-raw
+      → TextReads (front ++ (toText (itemOf g) ++ rest)) (length front) for-raw g n
   -- and in the buffer that was written to, from its start
-  pub binary-buffer : (n : ℕ) (code : Code) (tag raw : List ℕ) (tags : ℕ) (d : List ℕ) → Below 256 raw → length d ≤ binary .limit
-      → writeBinary code tag tags raw (length d) ≡ BinaryWritten.Written (binaryOffset (n * 3))
-      → BinaryReads (binaryItemLeft (writeBinary code tag tags raw (length d)) code tag tags raw d) 0 code (take tags tag) raw n
-  pub text-buffer : (n : ℕ) (code : Code) (tag raw : List ℕ) (tags : ℕ) (d : List ℕ) (for-raw : ℕ) → Below 256 raw
-      → length d ≤ text .limit → length raw ≤ for-raw
-      → writeText code tag tags raw (length d) ≡ TextWritten.Written (textOffset (n * 4))
-      → TextReads (textItemLeft (writeText code tag tags raw (length d)) code tag tags raw d) 0 for-raw code (take tags tag) raw n
+  pub binary-buffer : (n : ℕ) (g : Given) (d : List ℕ) → BinaryAccepts g (length d) n → length d ≤ binary .limit
+      → BinaryReads (binaryBuffer g d) 0 g n
+  pub text-buffer : (n for-raw : ℕ) (g : Given) (d : List ℕ) → TextAccepts g (length d) n → length d ≤ text .limit
+      → length (g .raw) ≤ for-raw → TextReads (textBuffer g d) 0 for-raw g n
 
 -- ---- "written text converted as a stream is the written binary, and back"
 
 pub record WrittenConverts : Type 0 where
-  pub text-binary : (u room n : ℕ) (code : Code) (tag raw : List ℕ) (tags : ℕ) → Below 256 raw
-      → writing u (named code) tag tags (length raw) room ≡ written n
-      → toBinary (toText (writtenBytes code tag tags raw)) ≡ writtenBytes code tag tags raw
+  pub text-binary : (u room n : ℕ) (g : Given) → Accepts u g room n → toBinary (toText (itemOf g)) ≡ itemOf g
   -- neither conversion refuses it where there is room: an item is never longer than a stream may be
-  pub text-converts : (u room n : ℕ) (code : Code) (tag raw : List ℕ) (tags for-binary : ℕ) → Below 256 raw
-      → writing u (named code) tag tags (length raw) room ≡ written n → n * 3 ≤ for-binary
-      → textToBinary (toText (writtenBytes code tag tags raw)) for-binary ≡ ToBinary.Written (binaryOffset (n * 3))
-  pub binary-converts : (u room n : ℕ) (code : Code) (tag raw : List ℕ) (tags for-text : ℕ) → Below 256 raw
-      → writing u (named code) tag tags (length raw) room ≡ written n → n * 4 ≤ for-text
-      → binaryToText (writtenBytes code tag tags raw) for-text ≡ ToText.Written (textOffset (n * 4))
+  pub text-converts : (u room n for-binary : ℕ) (g : Given) → Accepts u g room n → n * 3 ≤ for-binary
+      → textToBinary (toText (itemOf g)) for-binary ≡ ToBinary.Written (binaryOffset (n * 3))
+  pub binary-converts : (u room n for-text : ℕ) (g : Given) → Accepts u g room n → n * 4 ≤ for-text
+      → binaryToText (itemOf g) for-text ≡ ToText.Written (textOffset (n * 4))
 
 -- ---- "what the reader accepts, the writer writes back byte for byte (the two agree on every accepted primitive, small or large
 -- as it stood)"

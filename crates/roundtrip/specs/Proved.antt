@@ -3,10 +3,8 @@ use Prim.Native.Nat.{ℕ, _*_, _≤_}
 use mathlib.Core.Path.{_≡_, ap, _∙_}
 use mathlib.Core.List.{List, [], _++_}
 use native.Mathlib.Omega.{arith}
-use lib.ListN.{length, take, drop, length-append, length-drop}
+use lib.ListN.{length, drop, length-append, length-drop}
 use lib.Seq.{drop-append-seam, take-at}
-use Rattle.base.specs.Digits.{Below}
-use Rattle.format.specs.declared.Code.{Code}
 use Rattle.format.specs.declared.TextOffset.{TextOffset}
 use Rattle.format.specs.declared.BinaryOffset.{BinaryOffset}
 use Rattle.format.specs.declared.TextWritten.the-variants as T
@@ -14,12 +12,14 @@ use Rattle.format.specs.declared.BinaryWritten.the-variants as B
 use Rattle.format.specs.Offsets.{textOffset, binaryOffset}
 use Rattle.format.specs.Units.{text, binary}
 use Rattle.format.specs.Conversion.{toText}
-use Rattle.format.specs.Writing.{named, Writing, refused, written, writing, writtenBytes}
+use Rattle.format.specs.Writing.{Writing, refused, written}
 use Rattle.format.specs.Writing.{textOutcome, binaryOutcome, writeText, writeBinary, textItemLeft, binaryItemLeft}
 use Rattle.laws.specs.Conversion.{length-to-text}
 use Rattle.roundtrip.specs.Sextets as S
 use Rattle.roundtrip.specs.Calls as C
-use Rattle.roundtrip.specs.Claims.{BinaryReads, TextReads, WrittenReads, WrittenConverts, ReadWrites, RoundTrip}
+use Rattle.roundtrip.specs.Claims.{Given, itemOf, Accepts, BinaryAccepts}
+use Rattle.roundtrip.specs.Claims.{TextAccepts, binaryBuffer, textBuffer, BinaryReads, TextReads}
+use Rattle.roundtrip.specs.Claims.{WrittenReads, WrittenConverts, ReadWrites, RoundTrip}
 
 -- ---- what a call wrote
 
@@ -41,84 +41,70 @@ text-written (written m) n e =
 
 -- ---- what the writer accepts, the reader reads back
 
-module _ (room n : ℕ) (code : Code) (tag raw : List ℕ) (tags : ℕ) (low : Below 256 raw) where
-  module _ (w : writeBinary code tag tags raw room ≡ B.Written (binaryOffset (n * 3))) where
-    binary-writing : writing 3 (named code) tag tags (length raw) room ≡ written n
+module _ (room n : ℕ) (g : Given) where
+  module _ (w : BinaryAccepts g room n) where
+    binary-writing : Accepts 3 g room n
     unfolding writeBinary
     binary-writing = binary-written _ n w
 
-    binary-calls : (front rest : List ℕ) → length (front ++ (writtenBytes code tag tags raw ++ rest)) ≤ binary .limit
-        → BinaryReads (front ++ (writtenBytes code tag tags raw ++ rest)) (length front) code (take tags tag) raw n
+    binary-calls : (front rest : List ℕ) → length (front ++ (itemOf g ++ rest)) ≤ binary .limit
+        → BinaryReads (front ++ (itemOf g ++ rest)) (length front) g n
     binary-calls front rest l =
-        let b = writtenBytes code tag tags raw in
-        let e = drop-append-seam front (b ++ rest) in
-        C.binary-by (front ++ (b ++ rest)) (length front) code (take tags tag) raw n l
-        (rw (e, take-at b rest (n * 3) (S.written-length 3 room n code tag raw tags low binary-writing))
-        (S.written-below 3 room n code tag raw tags low binary-writing))
-        (rw e (S.binary-reads 3 room n code tag raw tags low binary-writing rest))
+        let e = drop-append-seam front (itemOf g ++ rest) in
+        C.binary-by (front ++ (itemOf g ++ rest)) (length front) g n (S.tag-count 3 room n g binary-writing) l
+        (rw (e, take-at (itemOf g) rest (n * 3) (S.written-length 3 room n g binary-writing)) (S.written-below 3 room n g binary-writing))
+        (rw e (S.binary-reads 3 room n g binary-writing rest))
 
-  module _ (w : writeText code tag tags raw room ≡ T.Written (textOffset (n * 4))) where
-    text-writing : writing 4 (named code) tag tags (length raw) room ≡ written n
+  module _ (w : TextAccepts g room n) where
+    text-writing : Accepts 4 g room n
     unfolding writeText
     text-writing = text-written _ n w
 
-    text-calls : (front rest : List ℕ) (for-raw : ℕ) → length (front ++ (toText (writtenBytes code tag tags raw) ++ rest)) ≤ text .limit
-        → length raw ≤ for-raw
-        → TextReads (front ++ (toText (writtenBytes code tag tags raw) ++ rest)) (length front) for-raw code (take tags tag) raw n
-    text-calls front rest for-raw l f =
-        let t = toText (writtenBytes code tag tags raw) in
-        C.text-by (front ++ (t ++ rest)) (length front) for-raw code (take tags tag) raw n l f
-        (rw (drop-append-seam front (t ++ rest)) (S.text-reads 4 room n code tag raw tags low text-writing rest))
+    text-calls : (for-raw : ℕ) (front rest : List ℕ) → length (front ++ (toText (itemOf g) ++ rest)) ≤ text .limit
+        → length (g .raw) ≤ for-raw → TextReads (front ++ (toText (itemOf g) ++ rest)) (length front) for-raw g n
+    text-calls for-raw front rest l f =
+        C.text-by (front ++ (toText (itemOf g) ++ rest)) (length front) for-raw g n (S.tag-count 4 room n g text-writing) l f
+        (rw (drop-append-seam front (toText (itemOf g) ++ rest)) (S.text-reads 4 room n g text-writing rest))
 
 -- in the buffer that was written to, bytes behind staying
-module _ (n : ℕ) (code : Code) (tag raw : List ℕ) (tags : ℕ) (d : List ℕ) (low : Below 256 raw) where
-  binary-buffer : length d ≤ binary .limit → writeBinary code tag tags raw (length d) ≡ B.Written (binaryOffset (n * 3))
-      → BinaryReads (binaryItemLeft (writeBinary code tag tags raw (length d)) code tag tags raw d) 0 code (take tags tag) raw n
+module _ (n : ℕ) (g : Given) (d : List ℕ) where
+  binary-buffer : BinaryAccepts g (length d) n → length d ≤ binary .limit
+      → BinaryReads (binaryBuffer g d) 0 g n
   unfolding binaryItemLeft
-  binary-buffer l w =
-      let b = writtenBytes code tag tags raw in
-      let v = binary-writing (length d) n code tag raw tags low w in
-      let size : length (b ++ drop (n * 3) d) ≤ binary .limit =
-      rw (length-append, length-drop)
-      (omega (arith, S.written-length 3 (length d) n code tag raw tags low v, S.room-there 3 (length d) n code tag raw tags low v)) in
-      rw w (binary-calls (length d) n code tag raw tags low w [] (drop (n * 3) d) size)
+  binary-buffer w l =
+      let v = binary-writing (length d) n g w in
+      let size : length (itemOf g ++ drop (n * 3) d) ≤ binary .limit =
+      rw (length-append, length-drop) (omega (arith, S.written-length 3 (length d) n g v, S.room-there 3 (length d) n g v)) in
+      rw w (binary-calls (length d) n g w [] (drop (n * 3) d) size)
 
-  text-buffer : (for-raw : ℕ) → length d ≤ text .limit → length raw ≤ for-raw
-      → writeText code tag tags raw (length d) ≡ T.Written (textOffset (n * 4))
-      → TextReads (textItemLeft (writeText code tag tags raw (length d)) code tag tags raw d) 0 for-raw code (take tags tag) raw n
+  text-buffer : (for-raw : ℕ) → TextAccepts g (length d) n → length d ≤ text .limit → length (g .raw) ≤ for-raw
+      → TextReads (textBuffer g d) 0 for-raw g n
   unfolding textItemLeft
-  text-buffer for-raw l f w =
-      let t = toText (writtenBytes code tag tags raw) in
-      let v = text-writing (length d) n code tag raw tags low w in
-      let size : length (t ++ drop (n * 4) d) ≤ text .limit =
+  text-buffer for-raw w l f =
+      let v = text-writing (length d) n g w in
+      let size : length (toText (itemOf g) ++ drop (n * 4) d) ≤ text .limit =
       rw (length-append, length-drop)
-      (omega (
-        arith,
-        length-to-text (writtenBytes code tag tags raw),
-        S.written-length 4 (length d) n code tag raw tags low v,
-        S.room-there 4 (length d) n code tag raw tags low v,
-      )) in
-      rw w (text-calls (length d) n code tag raw tags low w [] (drop (n * 4) d) for-raw size f)
+      (omega (arith, length-to-text (itemOf g), S.written-length 4 (length d) n g v, S.room-there 4 (length d) n g v)) in
+      rw w (text-calls (length d) n g w for-raw [] (drop (n * 4) d) size f)
 
 -- ---- all of it
 
 written-reads : WrittenReads
 written-reads = record {
-  sizes = λ u room n code tag raw tags low w.
-      (S.written-length u room n code tag raw tags low w, S.written-below u room n code tag raw tags low w);
-  binary-sextets = λ room n code tag raw tags rest low w. S.binary-reads 3 room n code tag raw tags low w rest;
-  text-sextets = λ room n code tag raw tags rest low w. S.text-reads 4 room n code tag raw tags low w rest;
-  binary-calls = λ room n code tag raw tags front rest low w. binary-calls room n code tag raw tags low w front rest;
-  text-calls = λ room n code tag raw tags front rest for-raw low w. text-calls room n code tag raw tags low w front rest for-raw;
-  binary-buffer = λ n code tag raw tags d low. binary-buffer n code tag raw tags d low;
-  text-buffer = λ n code tag raw tags d for-raw low. text-buffer n code tag raw tags d low for-raw;
+  sizes = λ u room n g w. (S.written-length u room n g w, S.written-below u room n g w);
+  binary-sextets = λ room n g rest w. S.binary-reads 3 room n g w rest;
+  text-sextets = λ room n g rest w. S.text-reads 4 room n g w rest;
+  binary-calls = λ room n g front rest w. binary-calls room n g w front rest;
+  text-calls = λ room n for-raw g front rest w. text-calls room n g w for-raw front rest;
+  binary-buffer = binary-buffer;
+  text-buffer = λ n for-raw g d. text-buffer n g d for-raw;
 }
 
 written-converts : WrittenConverts
 written-converts = record {
-  text-binary = λ u room n code tag raw tags low w. S.text-back u room n code tag raw tags low w;
-  text-converts = λ u room n code tag raw tags for-binary low w. S.text-converts u room n code tag raw tags low w for-binary;
-  binary-converts = λ u room n code tag raw tags for-text low w. S.binary-converts u room n code tag raw tags low w for-text;
+  text-binary = S.text-back;
+  text-converts = λ u room n for-binary g w. S.text-converts u room n g w for-binary;
+  binary-converts = λ u room n for-text g w. S.binary-converts u room n g w for-text;
 }
 
 read-writes : ReadWrites

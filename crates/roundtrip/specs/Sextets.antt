@@ -12,7 +12,6 @@ use Rattle.base.specs.Pick.{pick-by}
 use Rattle.base.specs.Lists.{map-join}
 use Rattle.base.specs.Digits.{Below}
 use Rattle.format.specs.declared.Kind.{Kind}
-use Rattle.format.specs.declared.Code.{Code}
 use Rattle.format.specs.declared.ToBinary.the-variants as ToBinary
 use Rattle.format.specs.declared.ToText.the-variants as ToText
 use Rattle.format.specs.Alphabet.{sextetOf}
@@ -29,7 +28,7 @@ use Rattle.roundtrip.specs.Own.{Own}
 use Rattle.roundtrip.specs.Reads.{own-reads, read-own}
 use Rattle.roundtrip.specs.Words.{nameOf, Made}
 use Rattle.roundtrip.specs.Writes.{own-named, own-writes, made, made-code}
-use Rattle.roundtrip.specs.Claims.{Reads, WritesBack}
+use Rattle.roundtrip.specs.Claims.{Given, tagGiven, itemOf, Accepts, Reads, WritesBack}
 
 -- ---- what an accepted write says
 
@@ -68,21 +67,21 @@ text-join x y = map-join sextetOf x y
 
 -- ---- what is written, then read
 
-module _ (u room n : ℕ) (code : Code) (tag raw : List ℕ) (tags : ℕ) (low : Below 256 raw)
-    (w : writing u (named code) tag tags (length raw) room ≡ written n) where
-  fits : Accepted u (named code) tag tags (length raw) room n
-  fits = accepted u (named code) tag tags (length raw) room n w
+module _ (u room n : ℕ) (g : Given) (w : Accepts u g room n) where
+  fits : Accepted u (named (g .code)) (g .tag) (g .tags) (length (g .raw)) room n
+  fits = accepted u (named (g .code)) (g .tag) (g .tags) (length (g .raw)) room n w
 
   pub room-there : n * u ≤ room
   room-there = rw (fits .units) at (fits .there)
 
   -- as many tag characters as are said to be there
-  pub tag-count : length (take tags tag) ≡ tags
-  tag-count = omega (arith, fits .strangers, stranger-inside (take tags tag), length-take tags tag)
+  pub tag-count : length (tagGiven g) ≡ g .tags
+  tag-count = omega (arith, fits .strangers, stranger-inside (tagGiven g), length-take (g .tags) (g .tag))
 
-  item : Made (named code) (take tags tag) tags raw
+  item : Made (named (g .code)) (tagGiven g) (g .tags) (g .raw)
   item =
-      made (take tags tag) raw tags tag-count (all-known (take tags tag) (omega (arith, fits .strangers, tag-count))) low code (fits .fits)
+      made (tagGiven g) (g .raw) (g .tags) tag-count (all-known (tagGiven g) (omega (arith, fits .strangers, tag-count))) (g .bytes)
+      (g .code) (fits .fits)
 
   size-is : item .size ≡ n
   size-is = sym (item .units) ∙ fits .units
@@ -90,71 +89,71 @@ module _ (u room n : ℕ) (code : Code) (tag raw : List ℕ) (tags : ℕ) (low :
   own : Own (item .kind) (item .head) n (item .sextets)
   own = rw size-is at (item .own)
 
-  bytes-are : writtenBytes code tag tags raw ≡ bytesIn (item .sextets)
+  bytes-are : itemOf g ≡ bytesIn (item .sextets)
   unfolding writtenBytes
   bytes-are = item .bytes
 
-  pub written-length : length (writtenBytes code tag tags raw) ≡ n * 3
+  pub written-length : length (itemOf g) ≡ n * 3
   written-length = ap length bytes-are ∙ bytes-length (item .sextets) ∙ omega (arith, own .size)
 
-  pub written-below : Below 256 (writtenBytes code tag tags raw)
+  pub written-below : Below 256 (itemOf g)
   written-below = rw bytes-are (bytes-in-below (item .sextets))
 
-  sextets-are : binarySextets (writtenBytes code tag tags raw) ≡ item .sextets
+  sextets-are : binarySextets (itemOf g) ≡ item .sextets
   sextets-are = ap binarySextets bytes-are ∙ sextets-back (item .sextets) (omega (arith, own .size)) (own .low)
 
   -- in either form the item's sextets come first
-  reads : (s rest : List ℕ) → s ≡ item .sextets ++ rest → Reads s code (take tags tag) raw n
+  reads : (s rest : List ℕ) → s ≡ item .sextets ++ rest → Reads s g n
   reads s rest e =
       let front : take (4 * n) s ≡ item .sextets = ap (take (4 * n)) e ∙ take-at (item .sextets) rest (4 * n) (own .size) in
       record {
         kind = item .kind;
         head = item .head;
         reads = ap reading e ∙ own-reads (item .kind) (item .head) n (item .sextets) rest own;
-        code-back = item .code ∙ made-code code (fits .known);
+        code-back = item .code ∙ made-code (g .code) (fits .known);
         tag-back = ap (tagOf (item .kind)) front ∙ item .tagged;
         raw-back = ap (rawOf (item .kind) (item .head)) front ∙ item .value;
       }
 
-  pub binary-reads : (rest : List ℕ) → Reads (binarySextets (writtenBytes code tag tags raw ++ rest)) code (take tags tag) raw n
+  pub binary-reads : (rest : List ℕ) → Reads (binarySextets (itemOf g ++ rest)) g n
   binary-reads rest =
       reads _ (binarySextets rest)
-      (sextets-join n (writtenBytes code tag tags raw) rest written-length ∙ ap (λ (s : List ℕ). s ++ binarySextets rest) sextets-are)
+      (sextets-join n (itemOf g) rest written-length ∙ ap (λ (s : List ℕ). s ++ binarySextets rest) sextets-are)
 
-  pub text-reads : (rest : List ℕ) → Reads (textSextets (toText (writtenBytes code tag tags raw) ++ rest)) code (take tags tag) raw n
+  pub text-reads : (rest : List ℕ) → Reads (textSextets (toText (itemOf g) ++ rest)) g n
   text-reads rest =
       reads _ (textSextets rest)
-      (text-join (toText (writtenBytes code tag tags raw)) rest
-      ∙ ap (λ (s : List ℕ). s ++ textSextets rest) (binary-to-text-sextets (writtenBytes code tag tags raw) ∙ sextets-are))
+      (text-join (toText (itemOf g)) rest
+      ∙ ap (λ (s : List ℕ). s ++ textSextets rest) (binary-to-text-sextets (itemOf g) ∙ sextets-are))
 
   -- ---- conversion
 
   units-few : n ≤ 1048576
   units-few = omega (arith, item .short, size-is)
 
-  pub text-back : toBinary (toText (writtenBytes code tag tags raw)) ≡ writtenBytes code tag tags raw
-  text-back = binary-back (writtenBytes code tag tags raw) (omega (arith, written-length)) written-below
+  pub text-back : toBinary (toText (itemOf g)) ≡ itemOf g
+  text-back = binary-back (itemOf g) (omega (arith, written-length)) written-below
 
   pub text-converts : (for-binary : ℕ) → n * 3 ≤ for-binary
-      → textToBinary (toText (writtenBytes code tag tags raw)) for-binary ≡ ToBinary.Written (binaryOffset (n * 3))
+      → textToBinary (toText (itemOf g)) for-binary ≡ ToBinary.Written (binaryOffset (n * 3))
   unfolding textToBinary
   text-converts for-binary r =
-      let t = toText (writtenBytes code tag tags raw) in
-      let l : length t ≡ n * 4 = length-to-text (writtenBytes code tag tags raw) ∙ omega (arith, written-length) in
+      let t = toText (itemOf g) in
+      let l : length t ≡ n * 4 = length-to-text (itemOf g) ∙ omega (arith, written-length) in
       let q : length t / 4 ≡ n = omega arith in
       rw (
         le-ltb (text .limit) (length t) (omega (arith, units-few)),
         le-ltb 0 (length t % 4) (omega arith),
-        le-ltb (firstStranger t) (length t) (omega (arith, no-stranger t (text-below (writtenBytes code tag tags raw)))),
+        le-ltb (firstStranger t) (length t) (omega (arith, no-stranger t (text-below (itemOf g)))),
         q,
         le-ltb for-binary (n * 3) r,
       )
 
   pub binary-converts : (for-text : ℕ) → n * 4 ≤ for-text
-      → binaryToText (writtenBytes code tag tags raw) for-text ≡ ToText.Written (textOffset (n * 4))
+      → binaryToText (itemOf g) for-text ≡ ToText.Written (textOffset (n * 4))
   unfolding binaryToText
   binary-converts for-text r =
-      let b = writtenBytes code tag tags raw in
+      let b = itemOf g in
       let l : length b ≡ n * 3 = written-length in
       let q : length b / 3 ≡ n = omega arith in
       rw (
