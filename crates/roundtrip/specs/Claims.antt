@@ -1,5 +1,6 @@
--- Single primitives there and back, over the definitions of format. Statements only, a field a sentence, below the words of the
--- issue on reading and writing single primitives in quotes. `RoundTrip` is proved in Proved. Assumes nothing.
+-- Single primitives there and back, over the definitions of format. Statements only, a field a sentence, below the words in
+-- quotes of the issue on reading and writing single primitives (01's where they say so). `RoundTrip` is proved in Proved.
+-- Assumes nothing.
 use Prim.Native.Nat.{ℕ, _*_, _≤_}
 use mathlib.Core.Path.{_≡_}
 use mathlib.Core.List.{List, _++_}
@@ -31,7 +32,7 @@ pub record Given : Type 0 where
   pub raw : List ℕ
   pub bytes : Below 256 raw
 
--- the tag characters that count
+-- 01: "a writer ignores the places behind that number"
 abbrev pub tagGiven : Given → List ℕ
 tagGiven g = take (g .tags) (g .tag)
 
@@ -50,7 +51,7 @@ BinaryAccepts g room n = writeBinary (g .code) (g .tag) (g .tags) (g .raw) room 
 abbrev pub TextAccepts : Given → ℕ → ℕ → Type 0
 TextAccepts g room n = writeText (g .code) (g .tag) (g .tags) (g .raw) room ≡ TextWritten.Written (textOffset (n * 4))
 
--- and a buffer that held d holds it from its start
+-- what a buffer that held d then holds
 abbrev pub binaryBuffer : Given → List ℕ → List ℕ
 binaryBuffer g d = binaryItemLeft (writeBinary (g .code) (g .tag) (g .tags) (g .raw) (length d)) (g .code) (g .tag) (g .tags) (g .raw) d
 
@@ -73,7 +74,8 @@ pub record Tells (p : Primitive) (g : Given) (n : ℕ) : Type 0 where
   pub raw-length : p .raw ≡ length (g .raw)
   pub units : p .size ≡ n
 
--- a read of a binary at an offset finds it, and hands the raw value back as a part
+-- a read of a binary at an offset finds it. 01: "the raw value is handed back as the part of the binary stream where it lies",
+-- "tag characters come by value with their number, unused places 0"
 pub record BinaryReads (xs : List ℕ) (at : ℕ) (g : Given) (n : ℕ) : Type 0 where
   pub item : Primitive
   pub reads : readBinary xs at .found ≡ BinaryFound.Found item
@@ -81,7 +83,7 @@ pub record BinaryReads (xs : List ℕ) (at : ℕ) (g : Given) (n : ℕ) : Type 0
   pub tag-back : readBinary xs at .tag ≡ padded (tagGiven g)
   pub raw-back : partAt xs at (readBinary xs at .found) ≡ g .raw
 
--- a read of a text at an offset with room finds it, and writes the raw value from the buffer's start
+-- a read of a text at an offset with room finds it. 01: "3 for T, where raw is copied out", "bytes behind it stay"
 pub record TextReads (xs : List ℕ) (at room : ℕ) (g : Given) (n : ℕ) : Type 0 where
   pub item : Primitive
   pub reads : readText xs at room .found ≡ TextFound.Found item
@@ -103,13 +105,14 @@ pub record WrittenReads : Type 0 where
   -- on its sextets, whatever stands behind the item, whole units or not
   pub binary-sextets : (room n : ℕ) (g : Given) (rest : List ℕ) → Accepts 3 g room n → Reads (binarySextets (itemOf g ++ rest)) g n
   pub text-sextets : (room n : ℕ) (g : Given) (rest : List ℕ) → Accepts 4 g room n → Reads (textSextets (toText (itemOf g) ++ rest)) g n
-  -- by the calls, at any offset of a stream within the limit, whatever stands before and behind the item
+  -- by the calls, at any offset of a stream within the limit, whatever stands before and behind the item, as 01's "a second item
+  -- goes into the rest of the buffer behind the first"
   pub binary-calls : (room n : ℕ) (g : Given) (front rest : List ℕ) → BinaryAccepts g room n
       → length (front ++ (itemOf g ++ rest)) ≤ binary .limit → BinaryReads (front ++ (itemOf g ++ rest)) (length front) g n
   pub text-calls : (room n for-raw : ℕ) (g : Given) (front rest : List ℕ) → TextAccepts g room n
       → length (front ++ (toText (itemOf g) ++ rest)) ≤ text .limit → length (g .raw) ≤ for-raw
       → TextReads (front ++ (toText (itemOf g) ++ rest)) (length front) for-raw g n
-  -- and in the buffer that was written to, from its start
+  -- and in the buffer that was written to. 01: "An accepted call writes its answer from the buffer's start; bytes behind it stay"
   pub binary-buffer : (n : ℕ) (g : Given) (d : List ℕ) → BinaryAccepts g (length d) n → length d ≤ binary .limit
       → BinaryReads (binaryBuffer g d) 0 g n
   pub text-buffer : (n for-raw : ℕ) (g : Given) (d : List ℕ) → TextAccepts g (length d) n → length d ≤ text .limit
