@@ -1,0 +1,254 @@
+-- There and back by the calls: what they answer where the sextets are those of a primitive. Assumes nothing.
+use Prim.Native.Nat.{ℕ, _+_, _-_, _*_, _≤_}
+use mathlib.Core.Path.{_≡_, refl, ap, _∙_, sym}
+use mathlib.Core.List.{List}
+use native.Mathlib.Omega.{arith}
+use lib.Dec.{ltb}
+use lib.ListN.{length, take, drop, length-drop, length-map}
+use lib.Seq.{drop-at, take-at, length-take-le, drop-drop, take-add}
+use borrow.Author.Tests.{le-ltb, ltb-false}
+use Rattle.base.specs.Pick.{pick-by}
+use Rattle.base.specs.Digits.{Below, below-take, below-drop}
+use Rattle.format.specs.declared.Kind.{Kind}
+use Rattle.format.specs.declared.Kind.the-variants.{Fixed, Variable, Group, Genus}
+use Rattle.format.specs.declared.Primitive.{Primitive}
+use Rattle.format.specs.declared.TextFound.the-variants as T
+use Rattle.format.specs.declared.BinaryFound.the-variants as B
+use Rattle.format.specs.declared.BinaryRead.{BinaryRead}
+use Rattle.format.specs.declared.TextRead.{TextRead}
+use Rattle.format.specs.Alphabet.{sextetOf}
+use Rattle.format.specs.Units.{text, binary, textSextets, binarySextets}
+use Rattle.format.specs.Conversion.{toBinary, toText}
+use Rattle.format.specs.Values.{bytesIn, rawStart, rawOf, tagOf}
+use Rattle.format.specs.Reading.{primitiveOf, Reading, refused, found, reading, from, padded}
+use Rattle.format.specs.Reading.{textAnswer, readText, textRaw, rawLeft, binaryAnswer, readBinary, partAt}
+use Rattle.laws.specs.Conversion.{text-back as text-there}
+use Rattle.laws.specs.Domains.{text-reader, binary-reader}
+use Rattle.laws.specs.Values.{text-bytes, binary-bytes, raw-inside}
+use Rattle.roundtrip.specs.Bytes.{bytes-length, binary-length}
+use Rattle.roundtrip.specs.Own.{Own}
+use Rattle.roundtrip.specs.Reads.{read-own}
+use Rattle.roundtrip.specs.Counts.{has-lead}
+use Rattle.roundtrip.specs.Writes.{own-writes}
+use Rattle.roundtrip.specs.Sextets.{reads-written}
+use Rattle.roundtrip.specs.Claims.{Given, tagGiven, Reads, Tells, BinaryReads, TextReads, WritesBack}
+
+-- ---- the raw value lies at the item's end
+
+own-inside : (k : Kind) (h n : ℕ) (s : List ℕ) → Own k h n s → rawStart k h ≤ 3 * n
+own-inside (Fixed c) h n s o =
+    let f = o .form in
+    let r = f .row in
+    raw-inside (Fixed c) h n (omega (arith, f .head, r .units, r .sound .some)) (r .sound, f .head, r .units) tt
+own-inside (Variable t l m) h n s o =
+    let f = o .form in
+    raw-inside (Variable t l m) h n (omega (arith, f .units)) (f .few, f .units) (has-lead l m (f .led))
+own-inside (Group l) h n s o = absurd (o .form)
+own-inside Genus h n s o = absurd (o .form)
+
+raw-length : (k : Kind) (h n : ℕ) (s : List ℕ) → Own k h n s → length (rawOf k h s) ≡ 3 * n - rawStart k h
+unfolding rawOf
+raw-length k h n s o = length-drop (rawStart k h) (bytesIn s) ∙ omega (arith, bytes-length s, o .size)
+
+drop-take : (i j : ℕ) (s : List ℕ) → i ≤ length s → drop i (take (i + j) s) ≡ take j (drop i s)
+drop-take i j s h = rw (take-add i j s) (drop-at (take i s) (take j (drop i s)) i (length-take-le i s h))
+
+text-length : (s : List ℕ) → length (textSextets s) ≡ length s
+unfolding textSextets
+text-length s = length-map s sextetOf
+
+-- an item's own bytes in a binary, and in a text
+binary-own : (ys : List ℕ) (n : ℕ) → n * 3 ≤ length ys → Below 256 (take (n * 3) ys)
+    → bytesIn (take (4 * n) (binarySextets ys)) ≡ take (n * 3) ys
+binary-own ys n l low =
+    let e : 4 * n ≡ n * 4 = omega arith in
+    rw (e, ← (binary-reader .taken ys n l)) (binary-bytes (take (n * 3) ys) (omega (arith, length-take-le (n * 3) ys l)) low)
+
+text-own : (ys : List ℕ) (n : ℕ) → n * 4 ≤ length ys → bytesIn (take (4 * n) (textSextets ys)) ≡ toBinary (take (n * 4) ys)
+text-own ys n l =
+    let e : 4 * n ≡ n * 4 = omega arith in
+    rw (e, ← (text-reader .taken ys n l)) (text-bytes (take (n * 4) ys))
+
+part-is : (xs : List ℕ) (at : ℕ) (k : Kind) (h n : ℕ) → Own k h n (take (4 * n) (binarySextets (drop at xs)))
+    → n * 3 ≤ length (drop at xs) → Below 256 (take (n * 3) (drop at xs))
+    → take (3 * n - rawStart k h) (drop (at + rawStart k h) xs) ≡ rawOf k h (take (4 * n) (binarySextets (drop at xs)))
+unfolding rawOf
+part-is xs at k h n o l low =
+    let st = rawStart k h in
+    let i = own-inside k h n _ o in
+    let e : n * 3 ≡ st + (3 * n - st) = omega arith in
+    sym (
+    ap (drop st) (binary-own (drop at xs) n l low)
+    ∙ ap (λ (x : ℕ). drop st (take x (drop at xs))) e
+    ∙ drop-take st (3 * n - st) (drop at xs) (omega arith)
+    ∙ ap (take (3 * n - st)) (drop-drop st at xs)
+    )
+
+-- ---- what a call answers, from what reading its sextets finds
+
+binary-answer : (xs : List ℕ) (at : ℕ) (k : Kind) (h n : ℕ) → length xs ≤ binary .limit → reading (binarySextets (drop at xs)) ≡ found k h n
+    → readBinary xs at ≡ record { found = B.Found (primitiveOf k h n); tag = padded (tagOf k (take (4 * n) (binarySextets (drop at xs)))) }
+unfolding readBinary binaryAnswer from
+binary-answer xs at k h n l e = rw (le-ltb (binary .limit) (length xs) l, e)
+
+text-answer : (xs : List ℕ) (at room : ℕ) (k : Kind) (h n : ℕ) → length xs ≤ text .limit → 3 * n - rawStart k h ≤ room
+    → reading (textSextets (drop at xs)) ≡ found k h n
+    → readText xs at room ≡ record { found = T.Found (primitiveOf k h n); tag = padded (tagOf k (take (4 * n) (textSextets (drop at xs)))) }
+unfolding readText textAnswer from
+text-answer xs at room k h n l r e = rw (le-ltb (text .limit) (length xs) l, e, le-ltb room (3 * n - rawStart k h) r)
+
+-- what it tells, s being the stream's sextets from the offset on
+tells : (s : List ℕ) (g : Given) (n : ℕ) (r : Reads s g n) → length (tagGiven g) ≡ g .tags → length s ≤ 4194304
+    → Tells (primitiveOf (r .kind) (r .head) n) g n
+unfolding primitiveOf
+tells s g n r c l =
+    let o = read-own s (r .kind) (r .head) n (r .reads) in
+    let w = own-writes (r .kind) (r .head) n (take (4 * n) s) (o .0) (omega (arith, o .1)) in
+    record {
+      code-back = r .code-back;
+      tags-back = sym (w .count) ∙ ap length (r .tag-back) ∙ c;
+      raw-length = sym (raw-length (r .kind) (r .head) n (take (4 * n) s) (o .0)) ∙ ap length (r .raw-back);
+      units = refl;
+    }
+
+pub binary-by : (xs : List ℕ) (at : ℕ) (g : Given) (n : ℕ) → length (tagGiven g) ≡ g .tags → length xs ≤ binary .limit
+    → Below 256 (take (n * 3) (drop at xs)) → Reads (binarySextets (drop at xs)) g n → BinaryReads xs at g n
+unfolding partAt primitiveOf
+binary-by xs at g n c l low r =
+    let s = binarySextets (drop at xs) in
+    let a = binary-answer xs at (r .kind) (r .head) n l (r .reads) in
+    let o = read-own s (r .kind) (r .head) n (r .reads) in
+    let ls = binary-length (drop at xs) in
+    let ld = length-drop at xs in
+    record {
+      item = primitiveOf (r .kind) (r .head) n;
+      reads = ap (λ (x : BinaryRead). x .found) a;
+      tells = tells s g n r c (omega arith);
+      tag-back = ap (λ (x : BinaryRead). x .tag) a ∙ ap padded (r .tag-back);
+      raw-back = ap (λ (x : BinaryRead). partAt xs at (x .found)) a
+          ∙ part-is xs at (r .kind) (r .head) n (o .0) (omega (arith, o .1)) low
+          ∙ r .raw-back;
+    }
+
+pub text-by : (xs : List ℕ) (at room : ℕ) (g : Given) (n : ℕ) → length (tagGiven g) ≡ g .tags → length xs ≤ text .limit
+    → length (g .raw) ≤ room
+    → Reads (textSextets (drop at xs)) g n → TextReads xs at room g n
+unfolding rawLeft textRaw from
+text-by xs at room g n c l f r =
+    let s = textSextets (drop at xs) in
+    let t = tells s g n r c (omega (arith, text-length (drop at xs), length-drop at xs)) in
+    let o = read-own s (r .kind) (r .head) n (r .reads) in
+    let a = text-answer xs at room (r .kind) (r .head) n l
+    (omega (arith, raw-length (r .kind) (r .head) n (take (4 * n) s) (o .0), ap length (r .raw-back))) (r .reads) in
+    record {
+      item = primitiveOf (r .kind) (r .head) n;
+      reads = ap (λ (x : TextRead). x .found) a;
+      tells = t;
+      tag-back = ap (λ (x : TextRead). x .tag) a ∙ ap padded (r .tag-back);
+      raw-back = λ d. ap (λ (x : TextRead). rawLeft (x .found) xs at d) a ∙ rw (r .reads, r .raw-back, t .raw-length);
+    }
+
+-- ---- what an answer comes from
+
+-- the sextets of a stream that is not too long, and what is found there
+record From (s : List ℕ) (long limit : ℕ) (p : Primitive) : Type 0 where
+  kind : Kind
+  head : ℕ
+  size : ℕ
+  short : long ≤ limit
+  reads : reading s ≡ found kind head size
+  item : p ≡ primitiveOf kind head size
+
+abbrev BinaryFrom : List ℕ → ℕ → Primitive → Type 0
+BinaryFrom xs at p = From (binarySextets (drop at xs)) (length xs) (binary .limit) p
+
+abbrev TextFrom : List ℕ → ℕ → Primitive → Type 0
+TextFrom xs at p = From (textSextets (drop at xs)) (length xs) (text .limit) p
+
+binary-from : (xs : List ℕ) (at : ℕ) (p : Primitive) → readBinary xs at .found ≡ B.Found p
+    → BinaryFrom xs at p
+unfolding readBinary binaryAnswer from
+binary-from xs at p =
+    pick-by (λ (x : BinaryRead). x .found ≡ B.Found p → BinaryFrom xs at p)
+    (ltb (binary .limit) (length xs)) _ _ (λ _ e. let z : _≡_ {A = ℕ} 0 1 = cc in absurd (omega arith))
+    (λ l e. by (ltb-false (binary .limit) (length xs) l) (reading (binarySextets (drop at xs))) refl e)
+  where
+    by : length xs ≤ binary .limit → (r : Reading) → reading (binarySextets (drop at xs)) ≡ r
+        → binaryAnswer at r (binarySextets (drop at xs)) .found ≡ B.Found p → BinaryFrom xs at p
+    by l (refused m q) f e = let z : _≡_ {A = ℕ} 0 1 = cc in absurd (omega arith)
+    by l (found k h n) f e = record { kind = k; head = h; size = n; short = l; reads = f; item = cc }
+
+text-from : (xs : List ℕ) (at room : ℕ) (p : Primitive) → readText xs at room .found ≡ T.Found p
+    → TextFrom xs at p × (p .raw ≤ room)
+unfolding readText textAnswer from primitiveOf
+text-from xs at room p =
+    pick-by (λ (x : TextRead). x .found ≡ T.Found p → TextFrom xs at p × (p .raw ≤ room))
+    (ltb (text .limit) (length xs)) _ _ (λ _ e. let z : _≡_ {A = ℕ} 0 1 = cc in absurd (omega arith))
+    (λ l e. by (ltb-false (text .limit) (length xs) l) (reading (textSextets (drop at xs))) refl e)
+  where
+    by : length xs ≤ text .limit → (r : Reading) → reading (textSextets (drop at xs)) ≡ r
+        → textAnswer at r (textSextets (drop at xs)) room .found ≡ T.Found p
+        → TextFrom xs at p × (p .raw ≤ room)
+    by l (refused m q) f = λ e. let z : _≡_ {A = ℕ} 0 1 = cc in absurd (omega arith)
+    by l (found k h n) f =
+        pick-by (λ (x : TextRead). x .found ≡ T.Found p → TextFrom xs at p × (p .raw ≤ room))
+        (ltb room (3 * n - rawStart k h)) _ _ (λ _ e. let z : _≡_ {A = ℕ} 0 1 = cc in absurd (omega arith))
+        (λ g e. let i : p ≡ primitiveOf k h n = cc in
+        (record { kind = k; head = h; size = n; short = l; reads = f; item = i }, rw i (ltb-false room (3 * n - rawStart k h) g)))
+
+-- ---- written back
+
+pub binary-back : (xs : List ℕ) (at : ℕ) (p : Primitive) → Below 256 xs → readBinary xs at .found ≡ B.Found p
+    → WritesBack (p .code) (readBinary xs at .tag) (p .tags) (partAt xs at (B.Found p)) (p .size) (take (p .size * 3) (drop at xs))
+unfolding partAt primitiveOf
+binary-back xs at p low e =
+    let g = binary-from xs at p e in
+    let k = g .kind in
+    let h = g .head in
+    let n = g .size in
+    let s = binarySextets (drop at xs) in
+    let o = read-own s k h n (g .reads) in
+    let ls = binary-length (drop at xs) in
+    let ld = length-drop at xs in
+    let short = g .short in
+    let inside : n * 3 ≤ length (drop at xs) = omega (arith, o .1) in
+    let own : Below 256 (take (n * 3) (drop at xs)) = below-take 256 (n * 3) _ (below-drop 256 at xs low) in
+    let a = ap (λ (x : BinaryRead). x .tag) (binary-answer xs at k h n short (g .reads)) in
+    rw (g .item, a, part-is xs at k h n (o .0) inside own, ← (binary-own (drop at xs) n inside own))
+    (reads-written s k h n (g .reads) (omega (arith, o .1)))
+
+pub text-back : (xs : List ℕ) (at room : ℕ) (p : Primitive) (d : List ℕ) → readText xs at room .found ≡ T.Found p
+    → let raw = take (p .raw) (rawLeft (T.Found p) xs at d) in
+    WritesBack (p .code) (readText xs at room .tag) (p .tags) raw (p .size) (toBinary (take (p .size * 4) (drop at xs)))
+unfolding rawLeft textRaw from primitiveOf
+text-back xs at room p d e =
+    let f = text-from xs at room p e in
+    let g = f .0 in
+    let k = g .kind in
+    let h = g .head in
+    let n = g .size in
+    let s = textSextets (drop at xs) in
+    let o = read-own s k h n (g .reads) in
+    let ls = text-length (drop at xs) in
+    let ld = length-drop at xs in
+    let short = g .short in
+    let inside : n * 4 ≤ length (drop at xs) = omega (arith, o .1) in
+    let room-is : 3 * n - rawStart k h ≤ room = rw (g .item) at (f .1) in
+    let a = ap (λ (x : TextRead). x .tag) (text-answer xs at room k h n short room-is (g .reads)) in
+    let size = raw-length k h n (take (4 * n) s) (o .0) in
+    let raw = take-at (rawOf k h (take (4 * n) s)) (drop (3 * n - rawStart k h) d) (3 * n - rawStart k h) size in
+    rw (g .item, a, g .reads, raw, ← (text-own (drop at xs) n inside)) (reads-written s k h n (g .reads) (omega (arith, o .1)))
+
+-- an accepted item's own characters are whole units of the alphabet, so they are the text of its bytes
+pub text-whole : (xs : List ℕ) (at room : ℕ) (p : Primitive) → readText xs at room .found ≡ T.Found p
+    → toText (toBinary (take (p .size * 4) (drop at xs))) ≡ take (p .size * 4) (drop at xs)
+unfolding primitiveOf
+text-whole xs at room p e =
+    let g = text-from xs at room p e .0 in
+    let n = g .size in
+    let o = read-own (textSextets (drop at xs)) (g .kind) (g .head) n (g .reads) in
+    let inside : n * 4 ≤ length (drop at xs) = omega (arith, o .1, text-length (drop at xs)) in
+    let four : 4 * n ≡ n * 4 = omega arith in
+    rw (g .item)
+    (text-there (take (n * 4) (drop at xs)) (omega (arith, length-take-le (n * 4) (drop at xs) inside))
+    (rw (text-reader .taken (drop at xs) n inside, ← four) (o .0 .low)))

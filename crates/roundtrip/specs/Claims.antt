@@ -1,0 +1,151 @@
+-- Single primitives there and back, over the definitions of format. Statements only, a field a sentence, below the words in
+-- quotes of the issue on reading and writing single primitives (01's where they say so). `RoundTrip` is proved in Proved.
+-- Assumes nothing.
+use Prim.Native.Nat.{ℕ, _*_, _≤_}
+use mathlib.Core.Path.{_≡_}
+use mathlib.Core.List.{List, _++_}
+use lib.ListN.{length, take, drop}
+use Rattle.base.specs.Digits.{Below}
+use Rattle.format.specs.declared.Kind.{Kind}
+use Rattle.format.specs.declared.Code.{Code}
+use Rattle.format.specs.declared.Primitive.{Primitive}
+use Rattle.format.specs.declared.ToBinary.the-variants as ToBinary
+use Rattle.format.specs.declared.ToText.the-variants as ToText
+use Rattle.format.specs.declared.TextFound.the-variants as TextFound
+use Rattle.format.specs.declared.BinaryFound.the-variants as BinaryFound
+use Rattle.format.specs.declared.TextWritten.the-variants as TextWritten
+use Rattle.format.specs.declared.BinaryWritten.the-variants as BinaryWritten
+use Rattle.format.specs.Units.{text, binary, textSextets, binarySextets}
+use Rattle.format.specs.Offsets.{textOffset, binaryOffset}
+use Rattle.format.specs.Conversion.{toBinary, toText, textToBinary, binaryToText}
+use Rattle.format.specs.Values.{bytesIn, rawOf, tagOf}
+use Rattle.format.specs.Reading.{codeOf, tagsOf, found, reading, padded, readText, rawLeft, readBinary, partAt}
+use Rattle.format.specs.Writing.{named, written, writing, writtenBytes, writeText, writeBinary, textItemLeft, binaryItemLeft}
+
+-- ---- words
+
+-- what is given to a writer: a code, places with tag characters and how many of them count, and raw bytes
+pub record Given : Type 0 where
+  pub code : Code
+  pub tag : List ℕ
+  pub tags : ℕ
+  pub raw : List ℕ
+  pub bytes : Below 256 raw
+
+-- 01: "a writer ignores the places behind that number"
+abbrev pub tagGiven : Given → List ℕ
+tagGiven g = take (g .tags) (g .tag)
+
+-- the item's bytes
+abbrev pub itemOf : Given → List ℕ
+itemOf g = writtenBytes (g .code) (g .tag) (g .tags) (g .raw)
+
+-- the writer accepts it as n units of u elements
+abbrev pub Accepts : ℕ → Given → ℕ → ℕ → Type 0
+Accepts u g room n = writing u (named (g .code)) (g .tag) (g .tags) (length (g .raw)) room ≡ written n
+
+-- the calls do
+abbrev pub BinaryAccepts : Given → ℕ → ℕ → Type 0
+BinaryAccepts g room n = writeBinary (g .code) (g .tag) (g .tags) (g .raw) room ≡ BinaryWritten.Written (binaryOffset (n * 3))
+
+abbrev pub TextAccepts : Given → ℕ → ℕ → Type 0
+TextAccepts g room n = writeText (g .code) (g .tag) (g .tags) (g .raw) room ≡ TextWritten.Written (textOffset (n * 4))
+
+-- what a buffer that held d then holds
+abbrev pub binaryBuffer : Given → List ℕ → List ℕ
+binaryBuffer g d = binaryItemLeft (writeBinary (g .code) (g .tag) (g .tags) (g .raw) (length d)) (g .code) (g .tag) (g .tags) (g .raw) d
+
+abbrev pub textBuffer : Given → List ℕ → List ℕ
+textBuffer g d = textItemLeft (writeText (g .code) (g .tag) (g .tags) (g .raw) (length d)) (g .code) (g .tag) (g .tags) (g .raw) d
+
+-- a reading of sextets finds it: "code, tag characters, raw value"
+pub record Reads (s : List ℕ) (g : Given) (n : ℕ) : Type 0 where
+  pub kind : Kind
+  pub head : ℕ
+  pub reads : reading s ≡ found kind head n
+  pub code-back : codeOf kind head ≡ g .code
+  pub tag-back : tagOf kind (take (4 * n) s) ≡ tagGiven g
+  pub raw-back : rawOf kind head (take (4 * n) s) ≡ g .raw
+
+-- an answer tells it
+pub record Tells (p : Primitive) (g : Given) (n : ℕ) : Type 0 where
+  pub code-back : p .code ≡ g .code
+  pub tags-back : p .tags ≡ g .tags
+  pub raw-length : p .raw ≡ length (g .raw)
+  pub units : p .size ≡ n
+
+-- a read of a binary at an offset finds it. 01: "the raw value is handed back as the part of the binary stream where it lies",
+-- "tag characters come by value with their number, unused places 0"
+pub record BinaryReads (xs : List ℕ) (at : ℕ) (g : Given) (n : ℕ) : Type 0 where
+  pub item : Primitive
+  pub reads : readBinary xs at .found ≡ BinaryFound.Found item
+  pub tells : Tells item g n
+  pub tag-back : readBinary xs at .tag ≡ padded (tagGiven g)
+  pub raw-back : partAt xs at (readBinary xs at .found) ≡ g .raw
+
+-- a read of a text at an offset with room finds it. 01: "3 for T, where raw is copied out", "bytes behind it stay"
+pub record TextReads (xs : List ℕ) (at room : ℕ) (g : Given) (n : ℕ) : Type 0 where
+  pub item : Primitive
+  pub reads : readText xs at room .found ≡ TextFound.Found item
+  pub tells : Tells item g n
+  pub tag-back : readText xs at room .tag ≡ padded (tagGiven g)
+  pub raw-back : (d : List ℕ) → rawLeft (readText xs at room .found) xs at d ≡ g .raw ++ drop (length (g .raw)) d
+
+-- a write accepts in either form where there is room for n units, and its bytes are b, the text's too
+pub record WritesBack (code : Code) (tag : List ℕ) (tags : ℕ) (raw : List ℕ) (n : ℕ) (b : List ℕ) : Type 0 where
+  pub binary-accepts : (room : ℕ) → n * 3 ≤ room → writeBinary code tag tags raw room ≡ BinaryWritten.Written (binaryOffset (n * 3))
+  pub text-accepts : (room : ℕ) → n * 4 ≤ room → writeText code tag tags raw room ≡ TextWritten.Written (textOffset (n * 4))
+  pub bytes : writtenBytes code tag tags raw ≡ b
+
+-- ---- "what the writer accepts, the reader reads back (code, tag characters, raw value) in the domain it was written in"
+
+pub record WrittenReads : Type 0 where
+  -- what is written is whole units of bytes
+  pub sizes : (u room n : ℕ) (g : Given) → Accepts u g room n → (length (itemOf g) ≡ n * 3) × Below 256 (itemOf g)
+  -- on its sextets, whatever stands behind the item, whole units or not
+  pub binary-sextets : (room n : ℕ) (g : Given) (rest : List ℕ) → Accepts 3 g room n → Reads (binarySextets (itemOf g ++ rest)) g n
+  pub text-sextets : (room n : ℕ) (g : Given) (rest : List ℕ) → Accepts 4 g room n → Reads (textSextets (toText (itemOf g) ++ rest)) g n
+  -- by the calls, at any offset of a stream within the limit, whatever stands before and behind the item, as 01's "a second item
+  -- goes into the rest of the buffer behind the first"
+  pub binary-calls : (room n : ℕ) (g : Given) (front rest : List ℕ) → BinaryAccepts g room n
+      → length (front ++ (itemOf g ++ rest)) ≤ binary .limit → BinaryReads (front ++ (itemOf g ++ rest)) (length front) g n
+  pub text-calls : (room n for-raw : ℕ) (g : Given) (front rest : List ℕ) → TextAccepts g room n
+      → length (front ++ (toText (itemOf g) ++ rest)) ≤ text .limit → length (g .raw) ≤ for-raw
+      → TextReads (front ++ (toText (itemOf g) ++ rest)) (length front) for-raw g n
+  -- and in the buffer that was written to. 01: "An accepted call writes its answer from the buffer's start; bytes behind it stay"
+  pub binary-buffer : (n : ℕ) (g : Given) (d : List ℕ) → BinaryAccepts g (length d) n → length d ≤ binary .limit
+      → BinaryReads (binaryBuffer g d) 0 g n
+  pub text-buffer : (n for-raw : ℕ) (g : Given) (d : List ℕ) → TextAccepts g (length d) n → length d ≤ text .limit
+      → length (g .raw) ≤ for-raw → TextReads (textBuffer g d) 0 for-raw g n
+
+-- ---- "written text converted as a stream is the written binary, and back"
+
+pub record WrittenConverts : Type 0 where
+  pub text-binary : (u room n : ℕ) (g : Given) → Accepts u g room n → toBinary (toText (itemOf g)) ≡ itemOf g
+  -- neither conversion refuses it where there is room: an item is never longer than a stream may be
+  pub text-converts : (u room n for-binary : ℕ) (g : Given) → Accepts u g room n → n * 3 ≤ for-binary
+      → textToBinary (toText (itemOf g)) for-binary ≡ ToBinary.Written (binaryOffset (n * 3))
+  pub binary-converts : (u room n for-text : ℕ) (g : Given) → Accepts u g room n → n * 4 ≤ for-text
+      → binaryToText (itemOf g) for-text ≡ ToText.Written (textOffset (n * 4))
+
+-- ---- "what the reader accepts, the writer writes back byte for byte (the two agree on every accepted primitive, small or large
+-- as it stood)"
+
+pub record ReadWrites : Type 0 where
+  -- on the sextets of either form, of at most as many units as a stream may have
+  pub sextets : (s : List ℕ) (k : Kind) (h n : ℕ) → reading s ≡ found k h n → n * 4 ≤ text .limit
+      → let own = take (4 * n) s in WritesBack (codeOf k h) (padded (tagOf k own)) (tagsOf k) (rawOf k h own) n (bytesIn own)
+  -- by the calls: the item's own bytes
+  pub binary-calls : (xs : List ℕ) (at : ℕ) (p : Primitive) → Below 256 xs → readBinary xs at .found ≡ BinaryFound.Found p
+      → WritesBack (p .code) (readBinary xs at .tag) (p .tags) (partAt xs at (BinaryFound.Found p)) (p .size)
+      (take (p .size * 3) (drop at xs))
+  -- its own characters, d being the buffer that the raw value was written to
+  pub text-calls : (xs : List ℕ) (at room : ℕ) (p : Primitive) (d : List ℕ) → readText xs at room .found ≡ TextFound.Found p
+      → let raw = take (p .raw) (rawLeft (TextFound.Found p) xs at d) in
+      WritesBack (p .code) (readText xs at room .tag) (p .tags) raw (p .size) (toBinary (take (p .size * 4) (drop at xs)))
+      × (toText (writtenBytes (p .code) (readText xs at room .tag) (p .tags) raw) ≡ take (p .size * 4) (drop at xs))
+
+pub record RoundTrip : Type 0 where
+  pub written-reads : WrittenReads
+  pub written-converts : WrittenConverts
+  pub read-writes : ReadWrites

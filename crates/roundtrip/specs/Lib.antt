@@ -1,0 +1,14 @@
+pub mod Claims
+pub mod Bytes
+pub mod Rows
+pub mod Prefix
+pub mod Own
+pub mod Reads
+pub mod Words
+pub mod Raws
+pub mod Tags
+pub mod Counts
+pub mod Writes
+pub mod Sextets
+pub mod Calls
+pub mod Proved

@@ -1,0 +1,57 @@
+-- What the proofs say of an item that is to be written and of the sextets that it then has. Assumes nothing.
+use Prim.Native.Nat.{ℕ, _≤_}
+use mathlib.Core.Path.{_≡_}
+use mathlib.Core.List.{List}
+use mathlib.Core.Bool.{true}
+use lib.Dec.{eqb}
+use lib.ListN.{length}
+use Rattle.base.specs.Pick.{pick}
+use Rattle.base.specs.Digits.{Below}
+use Rattle.format.specs.declared.Kind.{Kind}
+use Rattle.format.specs.declared.Kind.the-variants.{Fixed, Variable, Group, Genus}
+use Rattle.format.specs.declared.Code.{Code}
+use Rattle.format.specs.declared.Code.the-variants as C
+use Rattle.format.specs.Alphabet.{charOf}
+use Rattle.format.specs.Units.{textSextets}
+use Rattle.format.specs.Values.{bytesIn, rawOf, tagOf}
+use Rattle.format.specs.Reading.{codeOf, tagsOf}
+use Rattle.format.specs.Writing.{Named, unknown, row, variable, isNamed, isFit, itemBytes, unitsOf}
+use Rattle.roundtrip.specs.Own.{Own}
+
+-- what a framed primitive is to the writer
+abbrev pub nameOf : Kind → ℕ → Named
+nameOf (Fixed c) h = row c
+nameOf (Variable t l m) h = variable t h
+nameOf (Group l) h = unknown
+nameOf Genus h = unknown
+
+-- and what the reader calls it
+abbrev pub codeFor : Named → Code
+codeFor unknown = C.Fixed 0 0
+codeFor (row c) = C.Fixed (c .chars) (charOf (c .letter))
+codeFor (variable t h) = pick (eqb h 1) (C.Small (charOf t)) (C.Large (charOf t))
+
+-- the writer takes the tag characters and the raw value, and writes the item with these sextets
+pub record Writes (name : Named) (tag : List ℕ) (tags : ℕ) (raw : List ℕ) (n : ℕ) (s : List ℕ) : Type 0 where
+  pub known : isNamed name ≡ true
+  pub fits : isFit name tags (length raw) ≡ true
+  pub count : length tag ≡ tags
+  pub alphabet : Below 64 (textSextets tag)
+  pub units : unitsOf name (length raw) ≡ n
+  pub bytes : itemBytes name tag raw ≡ bytesIn s
+
+-- the own sextets of what the writer writes, with what the reader finds in them
+pub record Made (name : Named) (tag : List ℕ) (tags : ℕ) (raw : List ℕ) : Type 0 where
+  pub kind : Kind
+  pub head : ℕ
+  pub size : ℕ
+  pub sextets : List ℕ
+  pub own : Own kind head size sextets
+  pub units : unitsOf name (length raw) ≡ size
+  -- a stream may be so long
+  pub short : size ≤ 1048576
+  pub code : codeOf kind head ≡ codeFor name
+  pub tagged : tagOf kind sextets ≡ tag
+  pub count : tagsOf kind ≡ tags
+  pub value : rawOf kind head sextets ≡ raw
+  pub bytes : itemBytes name tag raw ≡ bytesIn sextets
