@@ -27,7 +27,7 @@ use Rattle.walk.specs.declared.Found.the-variants as F
 use Rattle.walk.specs.declared.Stepped.{Stepped}
 use Rattle.walk.specs.Walking.{start, foundIn, stepIn}
 use Rattle.walk_claims.specs.Words.{unitsIn, tailOf, after, foundAt, Stops, foundOf, firstOf, firstRefusal}
-use Rattle.walk_claims.specs.Levels.{part}
+use Rattle.laws.specs.Levels.{part}
 use Rattle.walk_claims.specs.Rest.{then-accepted, orElse, or-again, whole-refused, Telling, rest, left, Tells}
 use Rattle.walk_claims.specs.Steps.{inElements}
 use Rattle.walk_claims.specs.Runs.{tells-after}

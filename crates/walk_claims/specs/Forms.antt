@@ -23,7 +23,7 @@ use Rattle.walk.specs.declared.Found.the-variants as F
 use Rattle.walk.specs.declared.Stepped.{Stepped}
 use Rattle.walk.specs.Walking.{isFit, stopOf, foundIn, stepFit, step, stepIn}
 use Rattle.walk_claims.specs.Words.{after, FoundRatio, SameStep}
-use Rattle.walk_claims.specs.Levels.{part, frameNext}
+use Rattle.laws.specs.Levels.{part, frameNext}
 use Rattle.walk_claims.specs.Steps.{asked, step-by}
 
 -- a step's answer in both forms

@@ -1,6 +1,5 @@
 pub mod Words
 pub mod Claims
-pub mod Levels
 pub mod Fitting
 pub mod Steps
 pub mod Keeps

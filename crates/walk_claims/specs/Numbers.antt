@@ -26,7 +26,7 @@ use Rattle.walk.specs.declared.Found.{Found}
 use Rattle.walk.specs.declared.Found.the-variants as F
 use Rattle.walk.specs.Walking.{isFit, stopOf, foundIn, step, stepIn}
 use Rattle.walk_claims.specs.Words.{unitsIn, tailOf}
-use Rattle.walk_claims.specs.Levels.{part, frameNext}
+use Rattle.laws.specs.Levels.{part, frameNext}
 use Rattle.walk_claims.specs.Steps.{asked, step-by, in-by}
 
 abbrev Own : ℕ → Type 0

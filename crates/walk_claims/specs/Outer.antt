@@ -29,7 +29,7 @@ use Rattle.walk.specs.declared.Stepped.{Stepped}
 use Rattle.walk.specs.Walking.{start, foundIn, stepIn}
 use Rattle.walk_claims.specs.Words.{unitsIn, tailOf, after, foundAt, Stops, Span, outer}
 use Rattle.walk_claims.specs.Words.{outerItems, opens, isOpened, upTo, upToRefusal}
-use Rattle.walk_claims.specs.Levels.{part}
+use Rattle.laws.specs.Levels.{part}
 use Rattle.walk_claims.specs.Rest.{opaque-same, orElse, Telling, rest, left, Tells}
 use Rattle.walk_claims.specs.Steps.{inElements}
 use Rattle.walk_claims.specs.Runs.{tells-after}

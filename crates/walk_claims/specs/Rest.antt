@@ -26,7 +26,7 @@ use Rattle.walk.specs.declared.Found.{Found}
 use Rattle.walk.specs.declared.Found.the-variants as F
 use Rattle.walk.specs.declared.Stepped.{Stepped}
 use Rattle.walk.specs.Walking.{closed, movedTo, past, nextOf, stepFit}
-use Rattle.walk_claims.specs.Levels.{shift-shift, part, part-drop, frameNext, level, level-end, level-refused, level-item}
+use Rattle.laws.specs.Levels.{shift-shift, part, part-drop, frameNext, level, level-end, level-refused, level-item}
 use Rattle.walk_claims.specs.Fitting.{stopAt, stop-outer, stop-in, Fits}
 use Rattle.walk_claims.specs.Steps.{asked, framedHere, judgedHere, step-by, intoNext, overNext, opens-next, opaque-next}
 use Rattle.walk_claims.specs.Keeps.{few-open, stop-level, item-room}

@@ -20,7 +20,7 @@ use Rattle.walk.specs.declared.Found.the-variants as F
 use Rattle.walk.specs.declared.Stepped.{Stepped}
 use Rattle.walk.specs.Walking.{isFit, closed, movedTo, nextOf, stopOf, foundIn, stepFit, stepIn}
 use Rattle.walk_claims.specs.Words.{unitsIn, tailOf, after, foundAt, Yields, Stops}
-use Rattle.walk_claims.specs.Levels.{part, any-item, item-sizes}
+use Rattle.laws.specs.Levels.{part, any-item, item-sizes}
 use Rattle.walk_claims.specs.Fitting.{fit-facts, fit-made, Fits, plain, by-depth}
 use Rattle.walk_claims.specs.Steps.{asked, framedHere, step-by, next-by, inElements, in-by, fit-step}
 use Rattle.walk_claims.specs.Keeps.{step-fits, start-fits}

@@ -25,7 +25,7 @@ use Rattle.walk.specs.declared.Stepped.{Stepped}
 use Rattle.walk.specs.Walking.{isFit, closed, movedTo, opened, past, nextOf, stopOf, judged}
 use Rattle.walk.specs.Walking.{framedBy, frameAt, stepFit, step, foundIn, stepIn}
 use Rattle.walk_claims.specs.Words.{unitsIn, tailOf}
-use Rattle.walk_claims.specs.Levels.{part, frameNext}
+use Rattle.laws.specs.Levels.{part, frameNext}
 
 -- ---- framing at a state: 7 is asked at top level, and where the mark is set
 

@@ -21,7 +21,7 @@ use Rattle.laws.specs.Registry.{opening-opens}
 use Rattle.laws.specs.Local.{ruled-there}
 use Rattle.laws.specs.Domains.{Reader}
 use Rattle.walk_claims.specs.Words.{unitsIn, tailOf}
-use Rattle.walk_claims.specs.Levels.{part, part-length, take-of-drop, any-item, judge-own}
+use Rattle.laws.specs.Levels.{part, part-length, take-of-drop, any-item, judge-own}
 
 -- elements of a unit that is not whole are never looked at
 whole-units : (s : List ℕ) (at n : ℕ) → n ≡ length s / 4 → frameRuled (part s at n) ≡ frameRuled (drop (4 * at) s)
