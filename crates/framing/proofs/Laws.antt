@@ -22,8 +22,9 @@ use Rattle.laws.specs.Registry.{opening-opens}
 use Rattle.laws.specs.Framing.{Lawful, Good, frame-good}
 use Rattle.laws.specs.Domains.{text-reader, binary-reader}
 use Rattle.laws.specs.Units.{sextets-size}
+use Rattle.laws.specs.Levels.{frameNext}
 use Rattle.laws.specs.Local.{frame-there, ruled-there, text-sextet, binary-sextet}
-use Rattle.framing.specs.Heads.{unitOf, headOf}
+use Rattle.framing.specs.Heads.{unitOf, headOf, nextBy}
 
 -- ---- arrays
 
@@ -103,6 +104,26 @@ pub framed-binary : (s cs : List ℕ) (f : Framed) → cs ≡ headOf (binarySext
     → f ≡ frame (binarySextets s)
 unfolding frame
 framed-binary s cs f e p = rw (binary-units s) (by-head (binarySextets s) cs (length s / 3) f e p)
+
+-- where 7 is asked or not
+module _ (first : Bool) (s cs : List ℕ) (f : Framed) where
+  pub next-text : cs ≡ headOf (textSextets s) → f ≡ nextBy first (λ i. getD cs i 0) (length s / 4) → f ≡ frameNext first (textSextets s)
+  unfolding nextBy frameRuled frame
+  next-text e p = go first p
+    where
+      go : (b : Bool) → f ≡ pick b (ruled (λ i. getD cs i 0) (frameWith opening (λ i. getD cs i 0) (length s / 4))) (frameWith opening (λ i. getD cs i 0) (length s / 4))
+          → f ≡ frameNext b (textSextets s)
+      go true q = rw (text-units s) (by-ruled-head (textSextets s) cs (length s / 4) f e q)
+      go false q = rw (text-units s) (by-head (textSextets s) cs (length s / 4) f e q)
+
+  pub next-binary : cs ≡ headOf (binarySextets s) → f ≡ nextBy first (λ i. getD cs i 0) (length s / 3) → f ≡ frameNext first (binarySextets s)
+  unfolding nextBy frameRuled frame
+  next-binary e p = go first p
+    where
+      go : (b : Bool) → f ≡ pick b (ruled (λ i. getD cs i 0) (frameWith opening (λ i. getD cs i 0) (length s / 3))) (frameWith opening (λ i. getD cs i 0) (length s / 3))
+          → f ≡ frameNext b (binarySextets s)
+      go true q = rw (binary-units s) (by-ruled-head (binarySextets s) cs (length s / 3) f e q)
+      go false q = rw (binary-units s) (by-head (binarySextets s) cs (length s / 3) f e q)
 
 pub lawful : (s : List ℕ) (f : Framed) (k : Kind) (h n : ℕ) → f ≡ frame s → f ≡ Item k h n
     → Lawful (frameWith opening) (sextet s) (length s / 4) k h n

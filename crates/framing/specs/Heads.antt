@@ -2,7 +2,12 @@
 use Prim.Native.Nat.{ℕ, _+_}
 use mathlib.Core.List.{List, [], _∷_, map}
 use lib.ListN.{getD}
+use mathlib.Core.Bool.{Bool, true, false}
+use Rattle.base.specs.Pick.{pick}
 use Rattle.base.specs.Lists.{upTo}
+use Rattle.format.specs.declared.Framed.{Framed}
+use Rattle.format.specs.Registry.{opening}
+use Rattle.format.specs.Framing.{frameWith, ruled}
 
 -- four from a place on
 abbrev pub unitOf : List ℕ → ℕ → List ℕ
@@ -11,3 +16,7 @@ unitOf s at = getD s at 0 ∷ getD s (at + 1) 0 ∷ getD s (at + 2) 0 ∷ getD s
 -- those of three units: no check of a header looks further
 unfoldable pub headOf : List ℕ → List ℕ
 headOf s = map (λ i. getD s i 0) (upTo 12)
+
+-- framing where 7 is asked or not
+unfoldable pub nextBy : Bool → (ℕ → ℕ) → ℕ → Framed
+nextBy first at len = pick first (ruled at (frameWith opening at len)) (frameWith opening at len)

@@ -11,7 +11,7 @@ ghost use Rattle.format.specs.Alphabet.{sextetTable};
 ghost use Rattle.format.specs.Units.{textSextets, binarySextets};
 ghost use Rattle.format.specs.Registry.{opening};
 ghost use Rattle.format.specs.Framing.{fit, known, second, headed, frameWith, isOurs, ruled, frame, frameRuled};
-ghost use Rattle.framing.specs.Heads.{unitOf, headOf};
+ghost use Rattle.framing.specs.Heads.{unitOf, headOf, nextBy};
 
 // ---- the first three units, as sextets; 0 past the end
 
@@ -269,6 +269,17 @@ pub fn frame_ruled_head(cs: [u8; 12], len: usize) -> Framed
             number: _,
             place: _,
         } => framed,
+    }
+}
+
+// The next item of a group or stream: 7 is asked where `first` says.
+pub fn frame_next_head(cs: [u8; 12], len: usize, first: bool) -> Framed
+    ensures { λ r. ⌜ r ≡ nextBy first (λ i. getD cs i 0) len ⌝ }
+{
+    if first {
+        frame_ruled_head(cs, len)
+    } else {
+        frame_head(cs, len)
     }
 }
 

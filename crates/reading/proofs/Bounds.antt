@@ -25,103 +25,8 @@ use Rattle.format.specs.Framing.{fit, known, second, headed, frameWith, frame, 
 use Rattle.format.specs.Judging.{shift, andThen, unless, scan, behind, judgeKind, ownCheck}
 use Rattle.format.specs.Reading.{Reading, isPrimitive, judged, readFramed, reading}
 use Rattle.format.specs.Reading.Reading.{refused, found}
-use Rattle.laws.specs.Framing.{Known, Lawful, Good, frame-good}
-
--- ---- framing: a place lies in the header, and a header that is framed is in the alphabet
-
-abbrev Head : (ℕ → ℕ) → Framed → Type 0
-Head at (Item k h n) = (i : ℕ) → i < 4 * h → at i < 64
-Head at (Unframed m p) = p ≤ 7
-
-known-head : (at : ℕ → ℕ) (i : ℕ) (next : Framed) → i ≤ 4 → (Known at i → Head at next) → Head at (known at i next)
-unfolding known
-known-head at i next l f =
-    pick-by (Head at) (ltb (at i) 64) _ _
-    (λ a. pick-by (Head at) (ltb (at (i + 1)) 64) _ _
-    (λ b. pick-by (Head at) (ltb (at (i + 2)) 64) _ _
-    (λ c. pick-by (Head at) (ltb (at (i + 3)) 64) _ _ (λ d. f (a, b, c, d)) (λ _. omega arith))
-    (λ _. omega arith))
-    (λ _. omega arith))
-    (λ _. omega arith)
-
-unit-known : (at : ℕ → ℕ) → Known at 0 → (i : ℕ) → i < 4 → at i < 64
-unit-known at k zero h = ltb-true (at 0) 64 (k .0)
-unit-known at k (suc zero) h = ltb-true (at 1) 64 (k .1)
-unit-known at k (suc (suc zero)) h = ltb-true (at 2) 64 (k .2)
-unit-known at k (suc (suc (suc zero))) h = ltb-true (at 3) 64 (k .3)
-unit-known at k (suc (suc (suc (suc i)))) h = absurd (omega arith)
-
-both-known : (at : ℕ → ℕ) → Known at 0 → Known at 4 → (i : ℕ) → i < 8 → at i < 64
-both-known at k l i h =
-    ⊎-elim (λ p. unit-known at k i p)
-    (λ p. let e : i - 4 + 4 ≡ i = omega arith in rw (← e) (unit-known (λ j. at (j + 4)) l (i - 4) (omega arith))) (lt-or-ge i 4)
-
-fit-head : (at : ℕ → ℕ) (k : Kind) (h n len : ℕ) → ((i : ℕ) → i < 4 * h → at i < 64) → Head at (fit k h n len)
-unfolding fit
-fit-head at k h n len f = pick-by (Head at) (ltb len n) _ _ (λ _. omega arith) (λ _. f)
-
-second-head : (at : ℕ → ℕ) (k : Kind) (n len : ℕ) → Known at 0 → Head at (second at len (fit k 2 n len))
-unfolding second
-second-head at k n len a =
-    pick-by (Head at) (ltb len 2) _ _ (λ _. omega arith)
-    (λ _. known-head at 4 (fit k 2 n len) (omega arith) (λ b. fit-head at k 2 n len (λ i h. both-known at a b i (omega arith))))
-
-headed-head : (at : ℕ → ℕ) (o : Opening) (len : ℕ) → Known at 0 → Head at (headed o at len)
-unfolding headed
-headed-head at Unknown len a = omega arith
-headed-head at (Short k n) len a = fit-head at k 1 n len (λ i h. unit-known at a i (omega arith))
-headed-head at (LargeVariable t l) len a = second-head at _ _ len a
-headed-head at (LargeGroup l d) len a = second-head at _ _ len a
-headed-head at Version len a = second-head at _ _ len a
-
-frame-head : (s : List ℕ) → Head (sextet s) (frame s)
-unfolding frame frameWith
-frame-head s =
-    pick-by (Head (sextet s)) (ltb (length s / 4) 1) _ _ (λ _. omega arith)
-    (λ _. known-head (sextet s) 0 _ (omega arith) (λ a. headed-head (sextet s) _ (length s / 4) a))
-
--- ---- judging: a place lies in the item, and what is accepted is in the alphabet behind the header
-
-abbrev Near : ℕ → Verdict → Type 0
-Near n Accepted = Unit {0}
-Near n (Refused m p) = p ≤ n
-
-shift-near : (o n : ℕ) (v : Verdict) → Near n v → Near (o + n) (shift o v)
-unfolding shift
-shift-near o n Accepted h = tt
-shift-near o n (Refused m p) h = omega arith
-
-scan-near : (s : List ℕ) → Near (length s) (scan s)
-unfolding scan
-scan-near [] = tt
-scan-near (x ∷ s) =
-    let z : 1 + length s ≡ suc (length s) = omega arith in
-    pick-by (Near (suc (length s))) (ltb x 64) _ _ (λ _. rw (← z) (shift-near 1 (length s) (scan s) (scan-near s))) (λ _. omega arith)
-
-then-near : (n : ℕ) (v w : Verdict) → Near n v → Near n w → Near n (andThen v w)
-unfolding andThen
-then-near n Accepted w h k = k
-then-near n (Refused m p) w h k = h
-
-unless-near : (n m : ℕ) (b : Bool) → Near n (unless m b)
-unfolding unless
-unless-near n m true = tt
-unless-near n m false = omega arith
-
-behind-near : (h : ℕ) (s : List ℕ) → h ≤ 2 → Near (length s + 8) (behind h s)
-unfolding behind
-behind-near h s l = up (shift (4 * h) (scan (drop (4 * h) s))) (shift-near (4 * h) _ _ (scan-near (drop (4 * h) s)))
-  where
-    up : (v : Verdict) → Near (4 * h + length (drop (4 * h) s)) v → Near (length s + 8) v
-    up Accepted k = tt
-    up (Refused m p) k = omega (arith, length-drop (4 * h) s)
-
-judged-near : (k : Kind) (h : ℕ) (s : List ℕ) → h ≤ 2 → isPrimitive k ≡ true → Near (length s + 8) (judgeKind k h s (ownCheck 0))
-unfolding judgeKind isPrimitive
-judged-near (Fixed c) h s l o = then-near _ _ _ (behind-near h s l) (then-near _ _ _ (unless-near _ 8 _) (unless-near _ 10 _))
-judged-near (Variable t a b) h s l o = then-near _ _ _ (behind-near h s l) (then-near _ _ _ (unless-near _ 9 _) (unless-near _ 8 _))
-judged-near (Group g) h s l o = let z : _≡_ {A = ℕ} 0 1 = cc in absurd (omega arith)
-judged-near Genus h s l o = let z : _≡_ {A = ℕ} 0 1 = cc in absurd (omega arith)
+use Rattle.laws.specs.Framing.{Lawful, Good, frame-good}
+use Rattle.judging.proofs.Bounds.{Head, frame-head, Near, own-near}
 
 -- a refused read's place
 judged-place : (k : Kind) (h n b : ℕ) (v : Verdict) (m p : ℕ) → Near b v → judged k h n v ≡ refused m p → p ≤ b
@@ -137,7 +42,7 @@ framed-place s (Unframed m′ p′) m p e r =
     omega arith
 framed-place s (Item k h n) m p e r =
     let g : Lawful (frameWith opening) (sextet s) (length s / 4) k h n = subst (Good (frameWith opening) (sextet s) (length s / 4)) e (frame-good s) in
-    ⊎-elim (λ o. let l = judged-place k h n _ _ m p (judged-near k h (take (4 * n) s) (g .few) o) (rw o at r) in omega (arith, length-take (4 * n) s))
+    ⊎-elim (λ o. let l = judged-place k h n _ _ m p (own-near k h 0 (take (4 * n) s) (g .few)) (rw o at r) in omega (arith, length-take (4 * n) s))
     (λ o. let q : refused 14 0 ≡ refused m p = rw o at r in let z : p ≡ 0 = cc in omega arith) (whether (isPrimitive k))
 
 pub place-near : (s : List ℕ) (m p : ℕ) → reading s ≡ refused m p → p ≤ length s + 8

@@ -1,0 +1,48 @@
+-- The next item of a group, framed and judged by its own checks. Assumes nothing.
+use Prim.Native.Nat.{ℕ, _*_, _/_}
+use mathlib.Core.Bool.{Bool, true, false, not}
+use mathlib.Core.List.{List}
+use lib.Dec.{ltb}
+use lib.ListN.{length, take}
+use Rattle.base.specs.Pick.{pick}
+use Rattle.format.specs.declared.CodeRow.{CodeRow}
+use Rattle.format.specs.declared.Kind.{Kind}
+use Rattle.format.specs.declared.Kind.the-variants.{Fixed, Variable, Group, Genus}
+use Rattle.format.specs.declared.Framed.{Framed}
+use Rattle.format.specs.declared.Framed.the-variants.{Item, Unframed}
+use Rattle.format.specs.declared.Verdict.{Verdict}
+use Rattle.format.specs.declared.Verdict.the-variants.{Accepted}
+use Rattle.format.specs.Units.{Domain}
+use Rattle.format.specs.Registry.{isOpaque, isOverrideable}
+use Rattle.format.specs.Judging.{judgeKind, ownCheck, maxDepth}
+use Rattle.laws.specs.Levels.{frameNext, level}
+use Rattle.judging.specs.Own.{toldBy}
+
+unfoldable pub ownOf : Framed → List ℕ → ℕ → Framed
+ownOf (Unframed m p) s l = Unframed m p
+ownOf (Item k h n) s l = toldBy (Item k h n) (judgeKind k h (take (4 * n) s) (ownCheck l))
+
+-- the item, or the number and place of its refusal by framing or its own checks
+unfoldable pub nextOwn : Bool → List ℕ → ℕ → Framed
+nextOwn first s l = ownOf (frameNext first s) s l
+
+-- a group whose contents are items, and one of whose first item 7 is asked
+unfoldable pub isEntered : Kind → Bool
+isEntered (Fixed c) = false
+isEntered (Variable t l c) = false
+isEntered (Group letter) = not (isOpaque letter)
+isEntered Genus = false
+
+unfoldable pub isRuled : Kind → Bool
+isRuled (Fixed c) = false
+isRuled (Variable t l c) = false
+isRuled (Group letter) = isOverrideable letter
+isRuled Genus = false
+
+-- the verdict on the items of a stream from one unit to another, with places in sextets of the stream; outside it there are none
+unfoldable pub judgedFrom : Domain → List ℕ → ℕ → ℕ → Verdict
+judgedFrom d xs at stop =
+    pick (ltb (d .limit) (length xs)) Accepted
+    (pick (ltb (length xs / d .unit) stop) Accepted
+    (pick (ltb stop at) Accepted
+    (level (d .sextets xs) maxDepth false at stop)))
