@@ -10,6 +10,8 @@ use Rattle.base.specs.Digits.{digitsOf}
 use Rattle.format.specs.declared.Framed.{Framed}
 use Rattle.format.specs.declared.Verdict.{Verdict}
 use Rattle.format.specs.declared.Verdict.the-variants.{Accepted, Refused}
+use Rattle.format.specs.declared.Reported.{Reported}
+use Rattle.format.specs.declared.Reported.the-variants as R
 use Rattle.format.specs.Units.{Domain}
 use Rattle.format.specs.Framing.{frameRuled, scale}
 use Rattle.format.specs.Cutting.{Cut, cut}
@@ -120,3 +122,26 @@ section f l = be4 (length l) ++ concat f l
 
 unfoldable pub report : Domain → List ℕ → List ℕ
 report d xs = section rowBytes (rowsIn d xs) ++ (section refusalBytes (refusalsIn d xs) ++ section remainderBytes (remainderIn d xs))
+
+-- ---- the call: "Refused whole: 1, then 3 exactly if room is below 17 + 18 x items. The answer is the length written; bytes behind
+-- it stay."
+
+unfoldable pub reportAnswer : Domain → List ℕ → ℕ → Reported
+reportAnswer d xs room =
+    pick (ltb (d .limit) (length xs)) (R.Refused 1 0)
+    (pick (ltb room (17 + 18 * length (rowsIn d xs))) (R.Refused 3 0)
+    (R.Written (length (report d xs))))
+
+-- the answer as numbers: 0 and the length written, or 01's number and the place
+unfoldable pub reportNumber : Reported → ℕ
+reportNumber (R.Written n) = 0
+reportNumber (R.Refused number place) = number
+
+unfoldable pub reportValue : Reported → ℕ
+reportValue (R.Written n) = n
+reportValue (R.Refused number place) = place
+
+-- what a buffer that held out holds afterwards
+unfoldable pub reportLeft : Reported → Domain → List ℕ → List ℕ → List ℕ
+reportLeft (R.Written n) d xs out = report d xs ++ drop n out
+reportLeft (R.Refused number place) d xs out = out

@@ -129,3 +129,9 @@ pub enum BinaryWritten {
     Written(BinaryOffset),
     Refused(u8, usize),
 }
+
+// What a report answers: its length, or a number, whose place is 0.
+pub enum Reported {
+    Written(usize),
+    Refused(u8, usize),
+}

@@ -1,0 +1,36 @@
+use borrow.Author.Needs.{needs}
+use Rattle.report.proofs.next_text.Statement.{statement}
+use Rattle.report.proofs.next_text.Tie as tie
+use Rattle.report.proofs.next_text.Reads as reads
+use Rattle.report.proofs.next_text.Lts as lts
+use Rattle.framing.proofs.frame_ruled_text.Reads as frame-ruled-text-reads
+
+-- src/lib.rt:100:31
+sub-frame-ruled-text : tie.Need-sub-frame-ruled-text
+sub-frame-ruled-text c = search needs
+
+-- src/lib.rt:100:31
+part-frame-ruled-text-start : tie.Need-part-frame-ruled-text-start
+part-frame-ruled-text-start c = search needs
+
+-- src/lib.rt:100:31
+part-frame-ruled-text-end : tie.Need-part-frame-ruled-text-end
+part-frame-ruled-text-end c = search needs
+
+-- src/lib.rt:100:5
+frame-ruled-text-requires : tie.Need-frame-ruled-text-requires
+frame-ruled-text-requires c κs = search needs
+
+-- src/lib.rt:96:1
+returns : tie.Need-returns
+returns c = ?
+
+pub next-text-spec : {M : Type 1} → statement M
+next-text-spec =
+    tie.close
+    (tie.spec
+    sub-frame-ruled-text
+    part-frame-ruled-text-start
+    part-frame-ruled-text-end
+    frame-ruled-text-requires
+    returns)

@@ -1,0 +1,75 @@
+use borrow.Author.Needs.{needs}
+use Rattle.report.proofs.put4.Statement.{statement}
+use Rattle.report.proofs.put4.Tie as tie
+use Rattle.report.proofs.put4.Reads as reads
+use Rattle.report.proofs.put4.Lts as lts
+
+-- src/lib.rt:24:15
+cast-out : tie.Need-cast-out
+cast-out c = search needs
+
+-- src/lib.rt:24:5
+slice-write-out : tie.Need-slice-write-out
+slice-write-out c = search needs
+
+-- src/lib.rt:25:19
+cast-out-2 : tie.Need-cast-out-2
+cast-out-2 c = search needs
+
+-- src/lib.rt:25:9
+add-out : tie.Need-add-out
+add-out c = search needs
+
+-- src/lib.rt:25:5
+slice-write-out-2 : tie.Need-slice-write-out-2
+slice-write-out-2 c = ?
+
+-- src/lib.rt:26:19
+cast-out-3 : tie.Need-cast-out-3
+cast-out-3 c = search needs
+
+-- src/lib.rt:26:9
+add-out-2 : tie.Need-add-out-2
+add-out-2 c = search needs
+
+-- src/lib.rt:26:5
+slice-write-out-3 : tie.Need-slice-write-out-3
+slice-write-out-3 c = ?
+
+-- src/lib.rt:27:19
+cast-out-4 : tie.Need-cast-out-4
+cast-out-4 c = search needs
+
+-- src/lib.rt:27:9
+add-out-3 : tie.Need-add-out-3
+add-out-3 c = search needs
+
+-- src/lib.rt:27:5
+slice-write-out-4 : tie.Need-slice-write-out-4
+slice-write-out-4 c = ?
+
+-- src/lib.rt:20:1
+same-length : tie.Need-same-length
+same-length c = search needs
+
+-- src/lib.rt:20:1
+returns : tie.Need-returns
+returns c = ?
+
+pub put4-spec : {M : Type 1} → statement M
+put4-spec =
+    tie.close
+    (tie.spec
+    cast-out
+    slice-write-out
+    cast-out-2
+    add-out
+    slice-write-out-2
+    cast-out-3
+    add-out-2
+    slice-write-out-3
+    cast-out-4
+    add-out-3
+    slice-write-out-4
+    same-length
+    returns)

@@ -1,0 +1,39 @@
+use borrow.Author.Needs.{needs}
+use Rattle.report.proofs.put_row.Statement.{statement}
+use Rattle.report.proofs.put_row.Tie as tie
+use Rattle.report.proofs.put_row.Reads as reads
+use Rattle.report.proofs.put_row.Lts as lts
+use Rattle.report.proofs.put4.Reads as put4-reads
+
+-- src/lib.rt:34:5
+put4-requires : tie.Need-put4-requires
+put4-requires c κs = search needs
+
+-- src/lib.rt:35:15
+add-put4 : tie.Need-add-put4
+add-put4 c = search needs
+
+-- src/lib.rt:35:5
+put4-requires-2 : tie.Need-put4-requires-2
+put4-requires-2 c κs = search needs
+
+-- src/lib.rt:36:9
+add-out : tie.Need-add-out
+add-out c = search needs
+
+-- src/lib.rt:36:5
+slice-write-out : tie.Need-slice-write-out
+slice-write-out c = search needs
+
+-- src/lib.rt:30:1
+same-length : tie.Need-same-length
+same-length c = ?
+
+-- src/lib.rt:30:1
+returns : tie.Need-returns
+returns c = ?
+
+pub put-row-spec : {M : Type 1} → statement M
+put-row-spec =
+    tie.close
+    (tie.spec put4-requires add-put4 put4-requires-2 add-out slice-write-out same-length returns)
