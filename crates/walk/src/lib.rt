@@ -3,6 +3,11 @@
 use format::BinaryOffset;
 use format::Kind;
 use format::TextOffset;
+ghost use mathlib.Core.Path.{_≡_};
+ghost use Prim.Native.Nat.{_<_, _≤_};
+ghost use Rattle.format.specs.Judging.{maxDepth};
+ghost use Rattle.walk.specs.Walking.{start, allBelow, slotFits, isFit, movedTo, stopOf};
+ghost use Rattle.walk.specs.Stepping.{finished, entered};
 
 // How many groups may be open: 01's sixteen.
 pub const MAX_DEPTH: usize = 16;
@@ -78,4 +83,128 @@ pub enum BinaryItem {
 pub struct BinaryStep {
     pub next: Walk,
     pub found: BinaryItem,
+}
+
+// ---- 13: whether a state fits a stream of n units
+
+// A state's slots are lent, so that no loop copies the state.
+fn slot_fits(ends: &[usize; MAX_DEPTH], depth: usize, n: usize, k: usize) -> bool
+    requires { ⌜ k < maxDepth ⌝ }
+    ensures { λ r. ⌜ r ≡ slotFits (now (ends .entry)) depth n k ⌝ }
+{
+    let end = ends[k];
+    if depth <= k {
+        return end == 0;
+    }
+    if k == 0 {
+        return end <= n;
+    }
+    let outer = ends[k - 1];
+    end <= outer
+}
+
+fn slots_fit(ends: &[usize; MAX_DEPTH], depth: usize, n: usize) -> bool
+    ensures { λ r. ⌜ r ≡ allBelow (slotFits (now (ends .entry)) depth n) maxDepth ⌝ }
+{
+    let mut k: usize = 0;
+    while k < MAX_DEPTH {
+        if !slot_fits(ends, depth, n, k) {
+            return false;
+        }
+        k = k + 1;
+    }
+    true
+}
+
+impl Walk {
+    // None open, at the stream's start.
+    pub fn new() -> Walk
+        ensures { λ r. ⌜ r ≡ start ⌝ }
+    {
+        Walk {
+            ends: [0; MAX_DEPTH],
+            depth: 0,
+            at: 0,
+            first: false,
+        }
+    }
+
+    // Whether the state fits a stream of n whole units: else 13.
+    pub fn is_fit(self, n: usize) -> bool
+        ensures { λ r. ⌜ r ≡ isFit self n ⌝ }
+    {
+        let depth = self.depth;
+        if MAX_DEPTH < depth {
+            return false;
+        }
+        if n < self.at {
+            return false;
+        }
+        if !slots_fit(&self.ends, depth, n) {
+            return false;
+        }
+        if depth == 0 {
+            return !self.first;
+        }
+        let inner = self.ends[depth - 1];
+        self.at < inner
+    }
+
+    // Groups whose end is reached, innermost first. A state with more open than there are slots stays as it is.
+    pub fn close_finished(self) -> Walk
+        ensures { λ r. ⌜ r ≡ finished self ⌝ }
+    {
+        if MAX_DEPTH < self.depth {
+            return self;
+        }
+        let mut w = self;
+        while 0 < w.depth {
+            let top = w.depth - 1;
+            if w.ends[top] != w.at {
+                return w;
+            }
+            w.ends[top] = 0;
+            w.depth = top;
+        }
+        w
+    }
+
+    // Into a group with contents from at to end; the mark asks whether its first item is overriding. A state with no slot
+    // left stays as it is.
+    pub fn open_group(self, at: usize, end: usize, mark: bool) -> Walk
+        ensures { λ r. ⌜ r ≡ entered self at end mark ⌝ }
+    {
+        let depth = self.depth;
+        if MAX_DEPTH <= depth {
+            return self;
+        }
+        let mut w = self;
+        w.ends[depth] = end;
+        w.depth = depth + 1;
+        w.at = at;
+        w.first = if at < end { mark } else { false };
+        w
+    }
+
+    // Past an item that is not entered.
+    pub fn moved_to(self, at: usize) -> Walk
+        ensures { λ r. ⌜ r ≡ movedTo self at ⌝ }
+    {
+        let mut w = self;
+        w.at = at;
+        w.first = false;
+        w
+    }
+
+    // Where the innermost group ends, or the stream of n units.
+    fn stop(self, n: usize) -> usize
+        requires { ⌜ self .depth ≤ maxDepth ⌝ }
+        ensures { λ r. ⌜ r ≡ stopOf self n ⌝ }
+    {
+        let depth = self.depth;
+        if depth == 0 {
+            return n;
+        }
+        self.ends[depth - 1]
+    }
 }
