@@ -1,5 +1,5 @@
 -- What 13's test says of a state that passes it. Assumes nothing.
-use mathlib.Core.Path.{_≡_, refl, sym, _∙_}
+use mathlib.Core.Path.{_≡_, refl}
 use mathlib.Core.Bool.{Bool, true, false, not}
 use mathlib.Core.Logic.{⊎-elim}
 use mathlib.Core.List.{List}
@@ -8,9 +8,9 @@ use native.Mathlib.Numerals.{sub-one}
 use native.Mathlib.Omega.{arith}
 use lib.Dec.{ltb, leb, eqb}
 use lib.ListN.{getD}
-use borrow.Author.Tests.{lt-ltb, ne-eqb, ltb-true, leb-true, eqb-true, eqb-false}
+use borrow.Author.Tests.{lt-ltb, ne-eqb, ltb-true, leb-true, eqb-false}
 use Rattle.base.specs.Pick.{pick, pick-by}
-use Rattle.base.specs.Cases.{lt-or-ge, whether}
+use Rattle.base.specs.Cases.{lt-or-ge}
 use Rattle.format.specs.Judging.{maxDepth}
 use Rattle.walk.specs.declared.Walk.{Walk}
 use Rattle.walk.specs.Walking.{allBelow, slotFits, isFit, stopOf}
@@ -76,3 +76,12 @@ module _ (w : Walk) (n : ℕ) (h : isFit w n ≡ true) where
   fit-ahead ne =
       pick-by (λ (m : ℕ). w .at < m) (eqb (w .depth) 0) n (getD (w .ends) (w .depth - 1) 0) (λ _. omega (arith, fit-there))
       (λ e. ltb-true (w .at) (getD (w .ends) (w .depth - 1) 0) (rw e at (tests .3)))
+
+-- a fit state that is not at the stream's end
+pub record Going (w : Walk) (n : ℕ) : Type 0 where
+  pub few : w .depth ≤ maxDepth
+  pub ahead : w .at < stopOf w n
+  pub stop : stopOf w n ≤ n
+
+pub going : (w : Walk) (n : ℕ) → isFit w n ≡ true → (w .at ≡ n → ⊥) → Going w n
+going w n h ne = record { few = fit-few w n h; ahead = fit-ahead w n h ne; stop = fit-stop w n h }

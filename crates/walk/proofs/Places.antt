@@ -1,16 +1,15 @@
 -- Places that framing and own checks name lie within the part that they look at. Assumes nothing.
-use mathlib.Core.Path.{_≡_, refl, sym, ap, _∙_}
+use mathlib.Core.Path.{_≡_}
 use mathlib.Core.Bool.{Bool, true, false}
 use mathlib.Core.List.{List, [], _∷_}
 use mathlib.Core.Logic.{⊎-elim}
-use Prim.Native.Nat.{ℕ, zero, suc, _+_, _-_, _*_, _/_, _<_, _≤_}
+use Prim.Native.Nat.{ℕ, zero, suc, _+_, _*_, _/_, _≤_}
 use native.Mathlib.Omega.{arith}
 use lib.Dec.{ltb, eqb}
 use lib.ListN.{length, getD, drop, length-drop, List·getD-eq-default}
 use borrow.Author.Tests.{ltb-false}
-use Rattle.base.specs.Pick.{pick, pick-by}
+use Rattle.base.specs.Pick.{pick-by}
 use Rattle.base.specs.Cases.{lt-or-ge}
-use Rattle.format.specs.declared.CodeRow.{CodeRow}
 use Rattle.format.specs.declared.Kind.{Kind}
 use Rattle.format.specs.declared.Kind.the-variants.{Fixed, Variable, Group, Genus}
 use Rattle.format.specs.declared.Opening.{Opening}
@@ -19,7 +18,7 @@ use Rattle.format.specs.declared.Framed.{Framed}
 use Rattle.format.specs.declared.Framed.the-variants.{Item, Unframed}
 use Rattle.format.specs.declared.Verdict.{Verdict}
 use Rattle.format.specs.declared.Verdict.the-variants.{Accepted, Refused}
-use Rattle.format.specs.Registry.{opening, isOpaque}
+use Rattle.format.specs.Registry.{isOpaque}
 use Rattle.format.specs.Framing.{fit, second, headed, frameWith, isOurs, ruled, sextet, frame, frameRuled}
 use Rattle.format.specs.Judging.{shift, andThen, unless, scan, behind, judgeKind, ownCheck}
 use Rattle.laws.specs.Framing.{Shaped, Good, known-by, frame-good, frameRuled-good}

@@ -14,7 +14,6 @@ use Rattle.base.specs.Pick.{pick, pick-by}
 use Rattle.base.specs.Cases.{lt-or-ge, whether}
 use Rattle.base.specs.Lists.{map-take}
 use Rattle.base.specs.Each.{length-each}
-use Rattle.format.specs.declared.CodeRow.{CodeRow}
 use Rattle.format.specs.declared.Kind.{Kind}
 use Rattle.format.specs.declared.Kind.the-variants.{Fixed, Variable, Group, Genus}
 use Rattle.format.specs.declared.Framed.{Framed}
@@ -23,14 +22,13 @@ use Rattle.format.specs.declared.Verdict.{Verdict}
 use Rattle.format.specs.declared.Verdict.the-variants.{Accepted, Refused}
 use Rattle.format.specs.Alphabet.{sextetOf}
 use Rattle.format.specs.Units.{Domain, sextetsOf, textSextets, binarySextets}
-use Rattle.format.specs.Registry.{opening, isOpaque, isOverrideable}
-use Rattle.format.specs.Framing.{frameWith, ruled, sextet, frame, frameRuled}
-use Rattle.format.specs.Judging.{behind, judgeKind, ownCheck, maxDepth}
+use Rattle.format.specs.Registry.{opening, isOpaque}
+use Rattle.format.specs.Framing.{frameWith, ruled, frame, frameRuled}
+use Rattle.format.specs.Judging.{judgeKind, ownCheck, maxDepth}
 use Rattle.laws.specs.Units.{sextets-size}
 use Rattle.laws.specs.Domains.{Reader, binary-reader}
 use Rattle.framing.specs.Heads.{headOf}
 use Rattle.framing.proofs.Laws.{by-head, by-ruled-head}
-use Rattle.judging.specs.Own.{ownBy}
 use Rattle.judging.proofs.Laws.{within-head, own-judged, behind-binary}
 use Rattle.walk.specs.declared.Walk.{Walk}
 use Rattle.walk.specs.declared.Found.the-variants as F
@@ -38,7 +36,7 @@ use Rattle.walk.specs.declared.Stepped.{Stepped}
 use Rattle.walk.specs.Walking.{isFit, closed, movedTo, opened, past, nextOf, stopOf, judged, framedBy, frameAt, stepFit, step, foundIn, stepIn}
 use Rattle.walk.specs.Stepping.{finished, entered, barredBy, isEntered, isMarking, frameHead, ownOf, behindOf, verdictOf, foundBy, partStep}
 use Rattle.walk.specs.Stepping.{reach, Slotted, Judged, Ready, Within, InReach}
-use Rattle.walk.proofs.Fitting.{fit-few, fit-there, fit-stop, fit-ahead}
+use Rattle.walk.proofs.Fitting.{fit-there, fit-stop, fit-ahead}
 use Rattle.walk.proofs.Places.{Fair, frame-fair, Placed, kind-placed}
 
 -- ---- the next state

@@ -2,11 +2,10 @@
 -- anyone may call answers for every state, also for one with more groups open than there are slots. Assumes nothing.
 use Prim.Native.Nat.{ℕ, _+_, _-_, _*_, _≤_, _<_}
 use mathlib.Core.List.{List}
-use mathlib.Core.Bool.{Bool, true, false, not}
+use mathlib.Core.Bool.{Bool, false, not}
 use lib.ListN.{set, take}
 use lib.Dec.{ltb, leb, eqb}
 use Rattle.base.specs.Pick.{pick}
-use Rattle.format.specs.declared.CodeRow.{CodeRow}
 use Rattle.format.specs.declared.Kind.{Kind}
 use Rattle.format.specs.declared.Kind.the-variants.{Fixed, Variable, Group, Genus}
 use Rattle.format.specs.declared.Framed.{Framed}
@@ -17,7 +16,6 @@ use Rattle.format.specs.Units.{text}
 use Rattle.format.specs.Registry.{opening, isOpaque, isOverrideable}
 use Rattle.format.specs.Framing.{frameWith, ruled}
 use Rattle.format.specs.Judging.{behind, judgeKind, ownCheck, maxDepth}
-use Rattle.laws.specs.Framing.{Shaped}
 use Rattle.framing.specs.Heads.{headOf}
 use Rattle.judging.specs.Own.{ownBy}
 use Rattle.walk.specs.declared.Walk.{Walk}

@@ -104,7 +104,7 @@ pub struct BinaryStep {
 
 // ---- 13: whether a state fits a stream of n units
 
-// A state's slots are lent, so that no loop copies the state.
+// The slots are lent, so that no turn of the loop copies the state.
 fn slot_fits(ends: &[usize; MAX_DEPTH], depth: usize, n: usize, k: usize) -> bool
     requires { ⌜ k < maxDepth ⌝ }
     ensures { λ r. ⌜ r ≡ slotFits (now (ends .entry)) depth n k ⌝ }
@@ -315,8 +315,8 @@ impl Walk {
         w
     }
 
-    // Into a group with contents from at to end; the mark asks whether its first item is overriding. A state with no slot
-    // left stays as it is.
+    // Into a group with contents from at to end; mark: 7 is asked of its first item, if it has one. A state with no slot left
+    // stays as it is.
     pub fn open_group(self, at: usize, end: usize, mark: bool) -> Walk
         ensures { λ r. ⌜ r ≡ entered self at end mark ⌝ }
     {
@@ -333,7 +333,7 @@ impl Walk {
     }
 
     // Past an item that is not entered.
-    pub fn moved_to(self, at: usize) -> Walk
+    fn moved_to(self, at: usize) -> Walk
         ensures { λ r. ⌜ r ≡ movedTo self at ⌝ }
     {
         let mut w = self;
@@ -356,7 +356,7 @@ impl Walk {
 
     // ---- a step, the same in both forms
 
-    // 1 before 13, or 0: a stream that is too long, or one of n units that the state does not fit.
+    // 1 before 13, of a stream that is over its limit, and of one of n units that the state does not fit; else 0.
     fn barred(self, over: bool, n: usize) -> u8
         ensures { λ r. ⌜ r ≡ barredBy over n self ⌝ }
     {
@@ -462,7 +462,8 @@ impl Walk {
         self.yielded(framed, v)
     }
 
-    // The step of a state that fits, without the test: offset and size in units, the place in sextets.
+    // The step of a state that fits, without the test, so that a caller that tested once need not again. Offset and size are in
+    // units, the place in sextets.
     fn step_fit_text(self, s: &[u8]) -> Stepped
         requires { ⌜ (length (now s) ≤ text .limit) × (isFit self (length (now s) / 4) ≡ true) ⌝ }
         ensures { λ r. ⌜ r ≡ stepFit (textSextets (now (s .entry))) (length (now (s .entry)) / 4) (ltb 0 (length (now (s .entry)) % 4)) self ⌝ }

@@ -1,16 +1,13 @@
+-- `walk::is_opaque` meets its contract. Assumes nothing.
 use borrow.Author.Tests.{eq-eqb, ne-eqb}
 use Rattle.format.specs.Registry.{isOpaque}
 use Rattle.walk.proofs.is_opaque.Statement.{statement}
 use Rattle.walk.proofs.is_opaque.Tie as tie
-use Rattle.walk.proofs.is_opaque.Reads as reads
-use Rattle.walk.proofs.is_opaque.Lts as lts
 
--- src/lib.rt:138:1
 returns : tie.Need-returns
 unfolding isOpaque
 returns c = rw (eq-eqb _ _ (c .if1 .taken))
 
--- src/lib.rt:138:1
 returns-2 : tie.Need-returns-2
 unfolding isOpaque
 returns-2 c = rw (ne-eqb _ _ (c .if1 .left))

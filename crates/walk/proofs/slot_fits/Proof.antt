@@ -1,42 +1,33 @@
+-- `walk::slot_fits` meets its contract. One slot, by the three tests that 13 makes of it. Assumes nothing.
 use borrow.Author.Tests.{lt-ltb, le-ltb, eq-eqb, ne-eqb}
 use Rattle.walk.specs.Walking.{slotFits}
 use borrow.Author.Needs.{needs}
 use Rattle.walk.proofs.slot_fits.Statement.{statement}
 use Rattle.walk.proofs.slot_fits.Tie as tie
-use Rattle.walk.proofs.slot_fits.Reads as reads
-use Rattle.walk.proofs.slot_fits.Lts as lts
 
--- src/lib.rt:95:15
 mul-end : tie.Need-mul-end
 mul-end c = search needs
 
--- src/lib.rt:95:15
 element-copy-out-end : tie.Need-element-copy-out-end
 element-copy-out-end c = search needs
 
--- src/lib.rt:97:9
 returns : tie.Need-returns
 unfolding slotFits
 returns c = rw (le-ltb _ _ (c .if1 .taken))
 
--- src/lib.rt:100:9
 returns-2 : tie.Need-returns-2
 unfolding slotFits
 returns-2 c = rw (lt-ltb _ _ (c .before .if1 .left), eq-eqb _ _ (c .if2 .taken))
 
--- src/lib.rt:102:22
 sub-outer : tie.Need-sub-outer
 sub-outer c = search needs
 
--- src/lib.rt:102:17
 mul-outer : tie.Need-mul-outer
 mul-outer c = search needs
 
--- src/lib.rt:102:17
 element-copy-out-outer : tie.Need-element-copy-out-outer
 element-copy-out-outer c = search needs
 
--- src/lib.rt:91:1
 returns-3 : tie.Need-returns-3
 unfolding slotFits
 returns-3 c = rw (lt-ltb _ _ (c .before .before .if1 .left), ne-eqb _ _ (c .before .if2 .left))

@@ -1,3 +1,4 @@
+-- `walk::slots_fit` meets its contract. The invariant: every slot so far fits. One that does not spoils the whole. Assumes nothing.
 use mathlib.Core.Path.{_≡_, sym, _∙_}
 use mathlib.Core.Bool.{true}
 use Prim.Native.Nat.{_≤_, _-_}
@@ -9,9 +10,6 @@ use Rattle.walk.proofs.Laws.{all-none, all-more, all-spoilt}
 use borrow.Author.Needs.{needs}
 use Rattle.walk.proofs.slots_fit.Statement.{statement}
 use Rattle.walk.proofs.slots_fit.Tie as tie
-use Rattle.walk.proofs.slots_fit.Reads as reads
-use Rattle.walk.proofs.slots_fit.Lts as lts
-use Rattle.walk.proofs.slot_fits.Reads as slot-fits-reads
 
 abbrev Inv-loop : tie.InvT-loop
 Inv-loop ends depth n k₀ k = (k ≤ maxDepth) × (allBelow (slotFits ends depth n) k ≡ true)
@@ -19,31 +17,24 @@ Inv-loop ends depth n k₀ k = (k ≤ maxDepth) × (allBelow (slotFits ends dept
 abbrev μ-loop : tie.MeasureT-loop
 μ-loop ends depth n k₀ k = maxDepth - k
 
--- src/lib.rt:110:5
 loop-holds : tie.Need-loop-holds Inv-loop μ-loop
 loop-holds c = (search needs, all-none _)
 
--- src/lib.rt:111:13
 slot-fits-requires : tie.Need-slot-fits-requires Inv-loop μ-loop
 slot-fits-requires c κs = search needs
 
--- src/lib.rt:112:13
 returns : tie.Need-returns Inv-loop μ-loop
 returns c = sym (all-spoilt _ _ _ (search needs) (sym (c .before .slot-fits .ensures) ∙ not-true _ (c .if1 .taken)))
 
--- src/lib.rt:114:13
 add-k : tie.Need-add-k Inv-loop μ-loop
 add-k c = search needs
 
--- src/lib.rt:110:5
 loop-less : tie.Need-loop-less Inv-loop μ-loop
 loop-less c = search needs
 
--- src/lib.rt:110:5
 loop-again : tie.Need-loop-again Inv-loop μ-loop
 loop-again c = (search needs, all-more _ _ (c .before .before .before .loop .inv .1) (sym (c .before .slot-fits .ensures) ∙ not-false _ (c .if1 .left)))
 
--- src/lib.rt:106:1
 returns-2 : tie.Need-returns-2 Inv-loop μ-loop
 returns-2 c = let l = c .before .loop in let k : maxDepth ≡ l .k = omega arith in rw k (sym (l .inv .1))
 

@@ -1,3 +1,4 @@
+-- `walk::text_item` meets its contract. Assumes nothing.
 use mathlib.Core.Path.{_≡_}
 use Prim.Native.Nat.{_+_, _*_, _/_, _%_}
 use native.Mathlib.Omega.{arith}
@@ -5,40 +6,30 @@ use Rattle.walk.specs.Walking.{textItem, foundIn}
 use borrow.Author.Needs.{needs}
 use Rattle.walk.proofs.text_item.Statement.{statement}
 use Rattle.walk.proofs.text_item.Tie as tie
-use Rattle.walk.proofs.text_item.Reads as reads
-use Rattle.walk.proofs.text_item.Lts as lts
 
--- src/lib.rt:219:13
 enum-known-found : tie.Need-enum-known-found
 enum-known-found c = search needs
 
--- src/lib.rt:225:32
 mul-t10 : tie.Need-mul-t10
 mul-t10 c = let r = rw (c .before .found .given .1) at (c .before .before .before .pre) in omega arith
 
--- src/lib.rt:226:30
 mul-t12 : tie.Need-mul-t12
 mul-t12 c = let r = rw (c .before .found .given .1) at (c .before .before .before .pre) in omega arith
 
--- src/lib.rt:231:26
 enum-known-found-2 : tie.Need-enum-known-found-2
 enum-known-found-2 c = search needs
 
--- src/lib.rt:235:23
 enum-told : tie.Need-enum-told
 enum-told c = search needs
 
--- src/lib.rt:213:1
 returns : tie.Need-returns
 unfolding textItem foundIn
 returns c = rw (c .before .found .given .1)
 
--- src/lib.rt:213:1
 returns-2 : tie.Need-returns-2
 unfolding textItem foundIn
 returns-2 c = let p = c .before .found2 .given .0 .1 .0 in let z : p / 4 * 4 + p % 4 ≡ p = omega arith in rw (c .before .found2 .given .1, z)
 
--- src/lib.rt:213:1
 returns-3 : tie.Need-returns-3
 unfolding textItem foundIn
 returns-3 c = rw (c .enum-told .given .1)

@@ -1,4 +1,5 @@
-use mathlib.Core.Path.{_≡_, refl, sym, _∙_}
+-- `walk::Walk::close_finished` meets its contract. The invariant: closing the present state gives what closing the first one gives. Assumes nothing.
+use mathlib.Core.Path.{_≡_, sym, _∙_}
 use Prim.Native.Nat.{_≤_}
 use borrow.Author.Tests.{lt-ltb, le-ltb, eq-eqb, ne-eqb}
 use Rattle.format.specs.Judging.{maxDepth}
@@ -8,8 +9,6 @@ use Rattle.walk.proofs.Laws.{closed-step, closed-none}
 use borrow.Author.Needs.{needs}
 use Rattle.walk.proofs.Walk.close_finished.Statement.{statement}
 use Rattle.walk.proofs.Walk.close_finished.Tie as tie
-use Rattle.walk.proofs.Walk.close_finished.Reads as reads
-use Rattle.walk.proofs.Walk.close_finished.Lts as lts
 
 abbrev Inv-loop : tie.InvT-loop
 Inv-loop w₀ w = (w .depth ≤ maxDepth) × (closed (w .depth) w ≡ closed (w₀ .depth) w₀)
@@ -17,53 +16,42 @@ Inv-loop w₀ w = (w .depth ≤ maxDepth) × (closed (w .depth) w ≡ closed (w�
 abbrev μ-loop : tie.MeasureT-loop
 μ-loop w₀ w = w .depth
 
--- src/lib.rt:158:13
 returns : tie.Need-returns Inv-loop μ-loop
 unfolding finished
 returns c = rw (lt-ltb _ _ (c .if1 .taken))
 
--- src/lib.rt:161:9
 loop-holds : tie.Need-loop-holds Inv-loop μ-loop
 loop-holds c = search needs
 
--- src/lib.rt:162:23
 sub-top : tie.Need-sub-top Inv-loop μ-loop
 sub-top c = search needs
 
--- src/lib.rt:163:16
 mul-if2 : tie.Need-mul-if2 Inv-loop μ-loop
 mul-if2 c = search needs
 
--- src/lib.rt:163:16
 element-copy-out-if2 : tie.Need-element-copy-out-if2 Inv-loop μ-loop
 element-copy-out-if2 c = search needs
 
--- src/lib.rt:164:17
 returns-2 : tie.Need-returns-2 Inv-loop μ-loop
 unfolding finished
 returns-2 c =
     let l = c .before .before .before .loop in
     rw (le-ltb _ _ (c .before .before .before .before .if1 .left)) (sym (closed-step _ (l .w) (search needs) ∙ rw (ne-eqb _ _ (c .if2 .taken))) ∙ l .inv .1)
 
--- src/lib.rt:166:13
 mul-w : tie.Need-mul-w Inv-loop μ-loop
 mul-w c = search needs
 
--- src/lib.rt:166:13
 element-write-w : tie.Need-element-write-w Inv-loop μ-loop
 element-write-w c = search needs
 
--- src/lib.rt:161:9
 loop-less : tie.Need-loop-less Inv-loop μ-loop
 loop-less c = search needs
 
--- src/lib.rt:161:9
 loop-again : tie.Need-loop-again Inv-loop μ-loop
 loop-again c =
     let l = c .before .before .before .loop in
     (search needs, sym (closed-step _ (l .w) (search needs) ∙ rw (eq-eqb _ _ (c .if2 .left))) ∙ l .inv .1)
 
--- src/lib.rt:154:5
 returns-3 : tie.Need-returns-3 Inv-loop μ-loop
 unfolding finished
 returns-3 c =

@@ -1,36 +1,27 @@
+-- `walk::Walk::frame_next` meets its contract. Assumes nothing.
 use borrow.Author.Tests.{eq-eqb, ne-eqb}
 use Rattle.walk.specs.Stepping.{frameHead}
 use borrow.Author.Needs.{needs}
 use Rattle.walk.proofs.Walk.frame_next.Statement.{statement}
 use Rattle.walk.proofs.Walk.frame_next.Tie as tie
-use Rattle.walk.proofs.Walk.frame_next.Reads as reads
-use Rattle.walk.proofs.Walk.frame_next.Lts as lts
-use Rattle.framing.proofs.frame_head.Reads as frame-head-reads
-use Rattle.framing.proofs.frame_ruled_head.Reads as frame-ruled-head-reads
 
--- src/lib.rt:374:13
 frame-ruled-head-requires : tie.Need-frame-ruled-head-requires
 frame-ruled-head-requires c κs = search needs
 
--- src/lib.rt:374:13
 returns : tie.Need-returns
 unfolding frameHead
 returns c = rw (eq-eqb _ _ (c .before .if1 .taken)) (c .frame-ruled-head .ensures)
 
--- src/lib.rt:377:13
 frame-ruled-head-requires-2 : tie.Need-frame-ruled-head-requires-2
 frame-ruled-head-requires-2 c κs = search needs
 
--- src/lib.rt:377:13
 returns-2 : tie.Need-returns-2
 unfolding frameHead
 returns-2 c = rw (ne-eqb _ _ (c .before .before .if1 .left), c .before .if2 .taken) (c .frame-ruled-head2 .ensures)
 
--- src/lib.rt:379:9
 frame-head-requires : tie.Need-frame-head-requires
 frame-head-requires c κs = search needs
 
--- src/lib.rt:370:5
 returns-3 : tie.Need-returns-3
 unfolding frameHead
 returns-3 c = rw (ne-eqb _ _ (c .before .before .if1 .left), c .before .if2 .left) (c .frame-head .ensures)

@@ -1,34 +1,27 @@
+-- `walk::Walk::open_group` meets its contract. Assumes nothing.
 use borrow.Author.Tests.{le-leb, lt-leb, lt-ltb, le-ltb}
 use Rattle.walk.specs.Stepping.{entered}
 use borrow.Author.Needs.{needs}
 use Rattle.walk.proofs.Walk.open_group.Statement.{statement}
 use Rattle.walk.proofs.Walk.open_group.Tie as tie
-use Rattle.walk.proofs.Walk.open_group.Reads as reads
-use Rattle.walk.proofs.Walk.open_group.Lts as lts
 
--- src/lib.rt:179:13
 returns : tie.Need-returns
 unfolding entered
 returns c = rw (le-leb _ _ (c .if1 .taken))
 
--- src/lib.rt:182:9
 mul-w : tie.Need-mul-w
 mul-w c = search needs
 
--- src/lib.rt:182:9
 element-write-w : tie.Need-element-write-w
 element-write-w c = search needs
 
--- src/lib.rt:183:19
 add-w : tie.Need-add-w
 add-w c = search needs
 
--- src/lib.rt:174:5
 returns-2 : tie.Need-returns-2
 unfolding entered
 returns-2 c = rw (lt-leb _ _ (c .before .if1 .left), lt-ltb _ _ (c .if2 .taken))
 
--- src/lib.rt:174:5
 returns-3 : tie.Need-returns-3
 unfolding entered
 returns-3 c = rw (lt-leb _ _ (c .before .if1 .left), le-ltb _ _ (c .if2 .left))

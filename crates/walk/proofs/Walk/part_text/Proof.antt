@@ -1,3 +1,4 @@
+-- `walk::Walk::part_text` meets its contract. Assumes nothing.
 use mathlib.Core.Path.{refl}
 use native.Mathlib.Omega.{arith}
 use Rattle.format.specs.Units.{textSextets}
@@ -6,43 +7,37 @@ use Rattle.walk.proofs.Steps.{part-within, part-ready, part-steps, text
 use borrow.Author.Needs.{needs}
 use Rattle.walk.proofs.Walk.part_text.Statement.{statement}
 use Rattle.walk.proofs.Walk.part_text.Tie as tie
-use Rattle.walk.proofs.Walk.part_text.Reads as reads
-use Rattle.walk.proofs.Walk.part_text.Lts as lts
-use Rattle.framing.proofs.text_head.Reads as text-head-reads
-use Rattle.walk.proofs.Walk.frame_next.Reads as frame-next-reads
-use Rattle.walk.proofs.Walk.yielded.Reads as yielded-reads
-use Rattle.walk.proofs.verdict_text.Reads as verdict-text-reads
 
--- src/lib.rt:458:13
 text-head-requires : tie.Need-text-head-requires
 text-head-requires c κs = search needs
 
--- src/lib.rt:459:13
 frame-next-requires : tie.Need-frame-next-requires
 frame-next-requires c κs = search needs
 
--- src/lib.rt:460:22
 sub-levels : tie.Need-sub-levels
 sub-levels c = search needs
 
--- src/lib.rt:461:13
 verdict-text-requires : tie.Need-verdict-text-requires
 verdict-text-requires c κs =
-    let s = textSextets (c .before .before .before .before .args .part .now) in
-    part-within _ s _ _ _ (c .before .before .text-head .ensures) (text-units _) (c .before .frame-next .ensures)
+    let a = c .before .before .before .before .args in
+    let h = c .before .before .text-head .ensures in
+    let e = c .before .frame-next .ensures in
+    part-within (a .self) (textSextets (a .part .now)) _ _ _ h (text-units (a .part .now)) e
 
--- src/lib.rt:462:9
 yielded-requires : tie.Need-yielded-requires
 yielded-requires c κs =
-    let s = textSextets (c .before .before .before .before .before .args .part .now) in
+    let a = c .before .before .before .before .before .args in
+    let h = c .before .before .before .text-head .ensures in
+    let e = c .before .before .frame-next .ensures in
     let p = c .before .before .before .before .before .pre in
-    (p .0, p .1, part-ready _ s _ _ _ (c .before .before .before .text-head .ensures) (text-units _) (c .before .before .frame-next .ensures) _ _ refl (c .verdict-text .ensures) (omega (arith, text-length (c .before .before .before .before .before .args .part .now))))
+    (p .0, p .1, part-ready (a .self) (textSextets (a .part .now)) _ _ _ h (text-units (a .part .now)) e _ _ refl (c .verdict-text .ensures) (omega (arith, text-length (a .part .now))))
 
--- src/lib.rt:454:5
 returns : tie.Need-returns
 returns c =
-    let s = textSextets (c .before .before .before .before .before .before .args .part .now) in
-    part-steps _ s _ _ _ (c .before .before .before .before .text-head .ensures) (text-units _) (c .before .before .before .frame-next .ensures) _ _ refl (c .before .verdict-text .ensures) _ (c .yielded .ensures)
+    let a = c .before .before .before .before .before .before .args in
+    let h = c .before .before .before .before .text-head .ensures in
+    let e = c .before .before .before .frame-next .ensures in
+    part-steps (a .self) (textSextets (a .part .now)) _ _ _ h (text-units (a .part .now)) e _ _ refl (c .before .verdict-text .ensures) _ (c .yielded .ensures)
 
 pub part-text-spec : {M : Type 1} → statement M
 part-text-spec =
