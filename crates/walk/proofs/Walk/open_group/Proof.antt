@@ -1,5 +1,6 @@
 -- `walk::Walk::open_group` meets its contract. Assumes nothing.
 use borrow.Author.Tests.{le-leb, lt-leb, lt-ltb, le-ltb}
+use Rattle.format.specs.Judging.{maxDepth}
 use Rattle.walk.specs.Stepping.{entered}
 use borrow.Author.Needs.{needs}
 use Rattle.walk.proofs.Walk.open_group.Statement.{statement}
@@ -7,7 +8,7 @@ use Rattle.walk.proofs.Walk.open_group.Tie as tie
 
 returns : tie.Need-returns
 unfolding entered
-returns c = rw (le-leb _ _ (c .if1 .taken))
+returns c = rw (le-leb maxDepth (c .before .args .self .depth) (search needs))
 
 mul-w : tie.Need-mul-w
 mul-w c = search needs
