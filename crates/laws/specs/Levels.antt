@@ -88,7 +88,7 @@ pub item-sizes : (xs : List ℕ) (k : Kind) (h n : ℕ) → frame xs ≡ Item k 
 item-sizes xs k h n e = let g = item-good xs k h n e in (g .some, g .inside, g .room)
 
 -- an item's own sextets
-frame-own : (xs : List ℕ) (k : Kind) (h n : ℕ) → frame xs ≡ Item k h n → frame (take (n * 4) xs) ≡ Item k h n
+pub frame-own : (xs : List ℕ) (k : Kind) (h n : ℕ) → frame xs ≡ Item k h n → frame (take (n * 4) xs) ≡ Item k h n
 unfolding frame
 frame-own xs k h n e =
     let g = item-good xs k h n e in

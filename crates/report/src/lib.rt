@@ -6,12 +6,11 @@ use format::Verdict;
 ghost use mathlib.Core.Path.{_≡_};
 ghost use mathlib.Core.List.{[], _∷_, _++_};
 ghost use Prim.Native.Nat.{_+_, _*_, _≤_, _<_};
-ghost use lib.ListN.{length, take, drop};
+ghost use lib.ListN.{length, drop};
 ghost use lib.Seq.{sets};
 ghost use Rattle.format.specs.Units.{text, binary, textSextets, binarySextets};
 ghost use Rattle.format.specs.Framing.{frameRuled};
-ghost use Rattle.format.specs.Judging.{shift};
-ghost use Rattle.format.specs.Report.{be4, rowsIn, report, refusal, judgeIn, reportAnswer, reportLeft};
+ghost use Rattle.format.specs.Report.{be4, rowsIn, report, refusal, placed, reportAnswer, reportLeft};
 ghost use Rattle.report.specs.Filling.{turn, rowWith};
 
 // ---- stores
@@ -170,5 +169,100 @@ pub fn report_text(s: &[u8], out: &mut [u8]) -> Reported
         return Reported::Refused(3, 0);
     }
     let length = fill_text(s, out, n);
+    Reported::Written(length)
+}
+
+// ---- binary: the same, three bytes to the unit
+
+// A place in sextets as one in bytes.
+fn placed_binary(v: Verdict) -> Verdict
+    ensures { λ r. ⌜ r ≡ placed 3 v ⌝ }
+{
+    match v {
+        Verdict::Accepted => v,
+        Verdict::Refused { number, place } => Verdict::Refused {
+            number,
+            place: place / 4 * 3 + place % 4,
+        },
+    }
+}
+
+fn next_binary(s: &[u8], at: usize) -> Framed
+    requires { ⌜ at ≤ length (now s) ⌝ }
+    ensures { λ r. ⌜ r ≡ frameRuled (binarySextets (drop at (now (s .entry)))) ⌝ }
+{
+    framing::frame_ruled_binary(&s[at..])
+}
+
+// How many items a binary has.
+fn count_binary(s: &[u8]) -> usize
+    requires { ⌜ length (now s) ≤ 3145728 ⌝ }
+    ensures { λ r. ⌜ (r ≡ length (rowsIn binary (now (s .entry)))) × (r ≤ 1048576) ⌝ }
+{
+    let mut a = 0;
+    let mut i = 0;
+    while 3 * a < s.len() {
+        match next_binary(s, 3 * a) {
+            Framed::Unframed {
+                number: _,
+                place: _,
+            } => {
+                return i;
+            }
+            Framed::Item {
+                kind: _,
+                head: _,
+                size,
+            } => {
+                a = a + size;
+                i = i + 1;
+            }
+        }
+    }
+    i
+}
+
+// Writes the report of a binary, which has n items.
+fn fill_binary(s: &[u8], out: &mut [u8], n: usize) -> usize
+    requires { ⌜ (length (now s) ≤ 3145728) × (n ≡ length (rowsIn binary (now s))) × (17 + 18 * n ≤ length (now out)) ⌝ }
+    ensures { λ r. ⌜ (r ≡ length (report binary (now (s .entry)))) × (now (out .exit) ≡ sets (now (out .entry)) 0 (report binary (now (s .entry)))) ⌝ }
+{
+    put4(out, 0, n);
+    let mut a = 0;
+    let mut i = 0;
+    let mut k = 0;
+    while 3 * a < s.len() {
+        match next_binary(s, 3 * a) {
+            Framed::Unframed { number, place: _ } => {
+                return finish_rest(out, n, k, 3 * a, number);
+            }
+            Framed::Item {
+                kind: _,
+                head: _,
+                size,
+            } => {
+                let v = placed_binary(contents::judge_binary(s, a, a + size));
+                k = put_item(out, n, i, k, 3 * a, 3 * size, v);
+                a = a + size;
+                i = i + 1;
+            }
+        }
+    }
+    finish(out, n, k)
+}
+
+// The report of a binary in a buffer: its length, or 1 or 3, which leave the buffer as it was.
+pub fn report_binary(s: &[u8], out: &mut [u8]) -> Reported
+    ensures { λ r. ⌜ r ≡ reportAnswer binary (now (s .entry)) (length (now (out .entry))) ⌝ }
+    ensures { λ r. ⌜ now (out .exit) ≡ reportLeft r binary (now (s .entry)) (now (out .entry)) ⌝ }
+{
+    if 3145728 < s.len() {
+        return Reported::Refused(1, 0);
+    }
+    let n = count_binary(s);
+    if out.len() < 17 + 18 * n {
+        return Reported::Refused(3, 0);
+    }
+    let length = fill_binary(s, out, n);
     Reported::Written(length)
 }

@@ -1,3 +1,12 @@
+use mathlib.Core.Path.{_≡_, ap, _∙_}
+use Prim.Native.Nat.{_+_, _-_, _*_, _≤_}
+use native.Mathlib.Omega.{arith}
+use lib.ListN.{length, drop}
+use Rattle.format.specs.Units.{text}
+use Rattle.format.specs.Report.{rowsIn}
+use Rattle.laws.specs.Domains.{text-reader}
+use Rattle.laws.specs.Items.{rowsAt}
+use Rattle.report.proofs.Laws.{top-item, top-unframed, item-size, count-start, count-stop, count-more, count-end}
 use borrow.Author.Needs.{needs}
 use Rattle.report.proofs.count_text.Statement.{statement}
 use Rattle.report.proofs.count_text.Tie as tie
@@ -6,14 +15,15 @@ use Rattle.report.proofs.count_text.Lts as lts
 use Rattle.report.proofs.next_text.Reads as next-text-reads
 
 abbrev Inv-loop : tie.InvT-loop
-Inv-loop s a₀ i₀ a i = ?
+Inv-loop s a₀ i₀ a i =
+    (4 * a ≤ length s) × (i ≤ a) × (length (rowsIn text s) ≡ i + length (rowsAt text (4 * a) (drop (4 * a) s)))
 
 abbrev μ-loop : tie.MeasureT-loop
-μ-loop s a₀ i₀ a i = ?
+μ-loop s a₀ i₀ a i = length s - 4 * a
 
 -- src/lib.rt:110:5
 loop-holds : tie.Need-loop-holds Inv-loop μ-loop
-loop-holds c = search needs
+loop-holds c = (search needs, search needs, count-start text text-reader (c .before .args .s .now))
 
 -- src/lib.rt:110:11
 mul-loop : tie.Need-mul-loop Inv-loop μ-loop
@@ -33,7 +43,12 @@ enum-told c = search needs
 
 -- src/lib.rt:116:17
 returns : tie.Need-returns Inv-loop μ-loop
-returns c = search needs
+returns c =
+    let l = c .before .before .before .before in
+    let s = l .before .before .args .s .now in
+    let t = top-unframed text (drop (4 * l .loop .a) s) _ (c .before .before .next-text .ensures) _ _ (c .enum-told .given .1) in
+    let e = ap length (count-stop text text-reader s (4 * l .loop .a) (search needs) t) in
+    (omega arith, omega arith)
 
 -- src/lib.rt:121:17
 enum-known-size : tie.Need-enum-known-size Inv-loop μ-loop
@@ -41,23 +56,45 @@ enum-known-size c = search needs
 
 -- src/lib.rt:123:21
 add-a : tie.Need-add-a Inv-loop μ-loop
-add-a c = search needs
+add-a c =
+    let l = c .before .before .before .before .before in
+    let s = l .before .before .args .s .now in
+    let t = top-item text (drop (4 * l .loop .a) s) _ (c .before .before .before .next-text .ensures) _ _ _ (c .before .size .given .1) in
+    let z = item-size text text-reader s (4 * l .loop .a) _ _ _ t in
+    omega (arith, z .2)
 
 -- src/lib.rt:124:21
 add-i : tie.Need-add-i Inv-loop μ-loop
-add-i c = search needs
+add-i c =
+    let l = c .before .before .before .before .before in omega arith
 
 -- src/lib.rt:110:5
 loop-less : tie.Need-loop-less Inv-loop μ-loop
-loop-less c = search needs
+loop-less c =
+    let l = c .before .before .before .before .before in
+    let s = l .before .before .args .s .now in
+    let t = top-item text (drop (4 * l .loop .a) s) _ (c .before .before .before .next-text .ensures) _ _ _ (c .before .size .given .1) in
+    let z = item-size text text-reader s (4 * l .loop .a) _ _ _ t in
+    omega (arith, z .0, z .1, z .2)
 
 -- src/lib.rt:110:5
 loop-again : tie.Need-loop-again Inv-loop μ-loop
-loop-again c = search needs
+loop-again c =
+    let l = c .before .before .before .before .before in
+    let s = l .before .before .args .s .now in
+    let t = top-item text (drop (4 * l .loop .a) s) _ (c .before .before .before .next-text .ensures) _ _ _ (c .before .size .given .1) in
+    let z = item-size text text-reader s (4 * l .loop .a) _ _ _ t in
+    let n = c .before .size .given .0 .1 .1 .0 in
+    let w : 4 * l .loop .a + n * 4 ≡ 4 * (l .loop .a + n) = omega arith in
+    (omega (arith, z .2), omega (arith, z .0, z .1), l .loop .inv .2 ∙ rw (count-more text text-reader s (4 * l .loop .a) t, w) (omega arith))
 
 -- src/lib.rt:104:1
 returns-2 : tie.Need-returns-2 Inv-loop μ-loop
-returns-2 c = search needs
+returns-2 c =
+    let l = c .before in
+    let s = l .before .before .args .s .now in
+    let e = ap length (count-end text text-reader s (4 * l .loop .a) (search needs)) in
+    (omega arith, omega arith)
 
 pub count-text-spec : {M : Type 1} → statement M
 count-text-spec =

@@ -1,3 +1,4 @@
+use mathlib.Core.Path.{refl}
 use borrow.Author.Needs.{needs}
 use Rattle.report.proofs.finish_rest.Statement.{statement}
 use Rattle.report.proofs.finish_rest.Tie as tie
@@ -60,7 +61,7 @@ same-length c = search needs
 
 -- src/lib.rt:85:1
 returns : tie.Need-returns
-returns c = ?
+returns c = (refl, rw (c .before .before .put-row .ensures, c .before .before .before .before .before .before .put4 .ensures))
 
 pub finish-rest-spec : {M : Type 1} → statement M
 finish-rest-spec =

@@ -1,3 +1,4 @@
+use Rattle.judging.proofs.Laws.{to-end}
 use borrow.Author.Needs.{needs}
 use Rattle.report.proofs.next_text.Statement.{statement}
 use Rattle.report.proofs.next_text.Tie as tie
@@ -23,7 +24,7 @@ frame-ruled-text-requires c κs = search needs
 
 -- src/lib.rt:96:1
 returns : tie.Need-returns
-returns c = ?
+returns c = rw (to-end (c .before .before .before .args .s .now) (c .before .before .before .args .at)) at (c .frame-ruled-text .ensures)
 
 pub next-text-spec : {M : Type 1} → statement M
 next-text-spec =

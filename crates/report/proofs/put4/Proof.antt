@@ -1,3 +1,7 @@
+use native.Mathlib.Omega.{arith}
+use native.Mathlib.Numerals.{towards-suc}
+use lib.ListN.{length-set}
+use Rattle.format.specs.Report.{be4}
 use borrow.Author.Needs.{needs}
 use Rattle.report.proofs.put4.Statement.{statement}
 use Rattle.report.proofs.put4.Tie as tie
@@ -22,7 +26,7 @@ add-out c = search needs
 
 -- src/lib.rt:25:5
 slice-write-out-2 : tie.Need-slice-write-out-2
-slice-write-out-2 c = ?
+slice-write-out-2 c = simp length-set (omega arith)
 
 -- src/lib.rt:26:19
 cast-out-3 : tie.Need-cast-out-3
@@ -34,7 +38,7 @@ add-out-2 c = search needs
 
 -- src/lib.rt:26:5
 slice-write-out-3 : tie.Need-slice-write-out-3
-slice-write-out-3 c = ?
+slice-write-out-3 c = simp length-set (omega arith)
 
 -- src/lib.rt:27:19
 cast-out-4 : tie.Need-cast-out-4
@@ -46,7 +50,7 @@ add-out-3 c = search needs
 
 -- src/lib.rt:27:5
 slice-write-out-4 : tie.Need-slice-write-out-4
-slice-write-out-4 c = ?
+slice-write-out-4 c = simp length-set (omega arith)
 
 -- src/lib.rt:20:1
 same-length : tie.Need-same-length
@@ -54,7 +58,8 @@ same-length c = search needs
 
 -- src/lib.rt:20:1
 returns : tie.Need-returns
-returns c = ?
+unfolding be4
+returns c = simp towards-suc
 
 pub put4-spec : {M : Type 1} → statement M
 put4-spec =

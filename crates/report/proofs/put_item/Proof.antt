@@ -1,3 +1,6 @@
+use mathlib.Core.Path.{_∙_, sym}
+use denote.Ref.{now}
+use Rattle.report.specs.Filling.{stores-good, stores-bad, count-good, count-bad}
 use borrow.Author.Needs.{needs}
 use Rattle.report.proofs.put_item.Statement.{statement}
 use Rattle.report.proofs.put_item.Tie as tie
@@ -68,7 +71,10 @@ same-length c = search needs
 
 -- src/lib.rt:49:1
 returns : tie.Need-returns
-returns c = ?
+returns c =
+    let a = c .before .before .before .before .before .before .before .args in
+    rw (c .before .before .before .before .enum-told .given .1)
+    (count-good (a .k) (a .i), c .before .before .put-row .ensures ∙ sym (stores-good (a .n) (a .i) (a .k) (a .offset) (a .size) (now (a .out))))
 
 -- src/lib.rt:49:1
 same-length-2 : tie.Need-same-length-2
@@ -76,7 +82,13 @@ same-length-2 c = search needs
 
 -- src/lib.rt:49:1
 returns-2 : tie.Need-returns-2
-returns-2 c = ?
+returns-2 c =
+    let a = c .before .before .before .before .before .before .before .before .before .before .before .before .args in
+    let v = c .before .before .before .before .before .before .before .before .before .v .given in
+    rw (v .1) (
+      count-bad (a .k) (a .i) (v .0 .0) (v .0 .1 .0),
+      rw (c .before .before .put-refusal .ensures, c .before .before .before .before .before .before .put-row2 .ensures) (sym (stores-bad (a .n) (a .i) (a .k) (a .offset) (a .size) (v .0 .0) (v .0 .1 .0) (now (a .out)))),
+    )
 
 pub put-item-spec : {M : Type 1} → statement M
 put-item-spec =

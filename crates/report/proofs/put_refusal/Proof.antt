@@ -1,3 +1,7 @@
+use native.Mathlib.Omega.{arith}
+use native.Mathlib.Numerals.{towards-suc}
+use lib.ListN.{length-set}
+use Rattle.format.specs.Report.{be4}
 use borrow.Author.Needs.{needs}
 use Rattle.report.proofs.put_refusal.Statement.{statement}
 use Rattle.report.proofs.put_refusal.Tie as tie
@@ -23,15 +27,16 @@ add-put4 c = search needs
 
 -- src/lib.rt:45:5
 put4-requires-2 : tie.Need-put4-requires-2
-put4-requires-2 c κs = ?
+put4-requires-2 c κs = simp length-set (omega arith)
 
 -- src/lib.rt:39:1
 same-length : tie.Need-same-length
-same-length c = ?
+same-length c = omega (arith, simp length-set at (c .before .before .put42 .kept .0))
 
 -- src/lib.rt:39:1
 returns : tie.Need-returns
-returns c = ?
+unfolding be4
+returns c = simp (c .before .before .put42 .ensures, c .before .before .before .before .before .before .put4 .ensures, towards-suc)
 
 pub put-refusal-spec : {M : Type 1} → statement M
 put-refusal-spec =

@@ -1,3 +1,7 @@
+use native.Mathlib.Omega.{arith}
+use native.Mathlib.Numerals.{towards-suc}
+use lib.ListN.{length-set}
+use Rattle.format.specs.Report.{be4}
 use borrow.Author.Needs.{needs}
 use Rattle.report.proofs.put_row.Statement.{statement}
 use Rattle.report.proofs.put_row.Tie as tie
@@ -27,11 +31,12 @@ slice-write-out c = search needs
 
 -- src/lib.rt:30:1
 same-length : tie.Need-same-length
-same-length c = ?
+same-length c = simp length-set (omega arith)
 
 -- src/lib.rt:30:1
 returns : tie.Need-returns
-returns c = ?
+unfolding be4
+returns c = simp (c .before .before .put42 .ensures, c .before .before .before .before .before .before .put4 .ensures, towards-suc)
 
 pub put-row-spec : {M : Type 1} → statement M
 put-row-spec =

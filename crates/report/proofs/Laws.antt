@@ -1,0 +1,201 @@
+-- The report's loops, over either form: top-level framing, an item's verdict, the count, the answers. Assumes nothing.
+use Prim.Native.Nat.{ℕ, zero, suc, _+_, _-_, _*_, _/_, _%_, _≤_, _<_}
+use mathlib.Core.Path.{_≡_, refl, sym, ap, _∙_, subst}
+use mathlib.Core.Bool.{Bool, true, false}
+use mathlib.Core.List.{List, [], _∷_, _++_}
+use native.Mathlib.Omega.{arith}
+use native.Mathlib.Nat.{add-mul, add-assoc, mul-comm, mul-add, le-div-iff-mul-le}
+use lib.Dec.{ltb}
+use lib.ListN.{length, take, drop, length-append, length-drop, drop-of-length-le}
+use lib.Seq.{sets, sets-eq, slice, drop-drop}
+use borrow.Author.Tests.{lt-ltb, le-ltb}
+use Rattle.base.specs.Pick.{pick}
+use Rattle.format.specs.declared.Kind.{Kind}
+use Rattle.format.specs.declared.Framed.{Framed}
+use Rattle.format.specs.declared.Framed.the-variants.{Item, Unframed}
+use Rattle.format.specs.declared.Verdict.{Verdict}
+use Rattle.format.specs.declared.Verdict.the-variants.{Accepted, Refused}
+use Rattle.format.specs.declared.Reported.{Reported}
+use Rattle.format.specs.declared.Reported.the-variants as R
+use Rattle.format.specs.Units.{Domain, text, binary}
+use Rattle.format.specs.Framing.{frame, frameRuled, scale}
+use Rattle.format.specs.Judging.{shift, andThen, judge, maxDepth}
+use Rattle.format.specs.Report.{ItemRow, RemainderRow, rows, remainder, rowsIn, remainderIn, frameIn, judgeIn, placed, section, remainderBytes, report}
+use Rattle.format.specs.Report.{be4, refusal, reportAnswer, reportLeft}
+use Rattle.laws.specs.Domains.{Reader}
+use Rattle.laws.specs.Frames.{frames}
+use Rattle.laws.specs.Items.{rowsAt, leftAt, rows-nil, left-nil, rows-refused, left-refused, rows-item, left-item}
+use Rattle.laws.specs.Levels.{part, take-of-drop, any-item, frame-own, judge-own, level, level-end, level-item}
+use Rattle.claims.specs.Claims.{Demand3}
+use Rattle.claims.specs.Room.{report-fits}
+use Rattle.contents.specs.Next.{judgedFrom}
+use Rattle.report.specs.Filling.{rowWith, turn, Filled, filled-room, filled-more, filled-counts, filled-end, no-rest, one-rest, one-rest-long}
+
+-- ---- top-level framing, in elements
+
+module _ (d : Domain) (xs : List ℕ) (f : Framed) (e : f ≡ frameRuled (d .sextets xs)) where
+  pub top-unframed : (m p : ℕ) → f ≡ Unframed m p → frameIn d xs ≡ Unframed m p
+  unfolding frameIn scale
+  top-unframed m p q = rw (← e, q)
+
+  pub top-item : (k : Kind) (h n : ℕ) → f ≡ Item k h n → frameIn d xs ≡ Item k (h * d .unit) (n * d .unit)
+  unfolding frameIn scale
+  top-item k h n q = rw (← e, q)
+
+-- ---- an item's verdict
+
+then-accepts : (v : Verdict) → andThen v Accepted ≡ v
+unfolding andThen
+then-accepts Accepted = refl
+then-accepts (Refused m p) = refl
+
+placed-shift : (u a : ℕ) (v : Verdict) → placed u (shift (4 * a) v) ≡ shift (a * u) (placed u v)
+unfolding placed shift
+placed-shift u a Accepted = refl
+placed-shift u a (Refused n p) =
+    let x : (4 * a + p) / 4 ≡ a + p / 4 = omega arith in
+    let y : (4 * a + p) % 4 ≡ p % 4 = omega arith in
+    rw (x, y) (ap (Refused n) (ap (λ (z : ℕ). z + p % 4) (add-mul a (p / 4) u) ∙ add-assoc (a * u) (p / 4 * u) (p % 4)))
+
+module _ (d : Domain) (G : Reader d) (xs : List ℕ) (a n : ℕ) (room : a * d .unit + n * d .unit ≤ length xs) where
+  -- an item's own sextets are a part of the stream's
+  own-sextets : d .sextets (take (n * d .unit) (drop (a * d .unit) xs)) ≡ part (d .sextets xs) a (a + n)
+  own-sextets =
+      let z : a * 4 + n * 4 ≡ 4 * (a + n) = omega arith in
+      let y : a * 4 ≡ 4 * a = omega arith in
+      G .taken (drop (a * d .unit) xs) n (omega (arith, length-drop (a * d .unit) xs))
+      ∙ ap (take (n * 4)) (G .dropped xs a (omega arith))
+      ∙ take-of-drop (n * 4) (a * 4) (d .sextets xs)
+      ∙ rw (z, y)
+
+  inside : a + n ≤ length xs / d .unit
+  inside = le-div-iff-mul-le (G .pos) .1 (rw (add-mul a n (d .unit)) room)
+
+  level-of-item : (l : ℕ) (k : Kind) (h : ℕ) → frameRuled (d .sextets (drop (a * d .unit) xs)) ≡ Item k h n
+      → level (d .sextets xs) l false a (a + n) ≡ shift (4 * a) (judge l (d .sextets (take (n * d .unit) (drop (a * d .unit) xs))))
+  level-of-item l k h e =
+      let s : List ℕ = d .sextets xs in
+      let x : List ℕ = d .sextets (drop (a * d .unit) xs) in
+      let f : frame x ≡ Item k h n = any-item true x k h n e in
+      let t : d .sextets (take (n * d .unit) (drop (a * d .unit) xs)) ≡ take (n * 4) x = G .taken (drop (a * d .unit) xs) n (omega (arith, length-drop (a * d .unit) xs)) in
+      let p : part s a (a + n) ≡ take (n * 4) x = sym own-sextets ∙ t in
+      let o : frame (part s a (a + n)) ≡ Item k h n = rw p (frame-own x k h n f) in
+      level-item s l false a (a + n) k h n (omega (arith, inside, G .units xs)) (omega arith) o
+      ∙ rw (level-end s l false (a + n), then-accepts, p, ← (judge-own l x k h n f), ← t)
+
+  pub judged-row : length xs ≤ d .limit → (k : Kind) (h : ℕ) → frameRuled (d .sextets (drop (a * d .unit) xs)) ≡ Item k h n → (v : Verdict)
+      → v ≡ judgedFrom d xs a (a + n) → placed (d .unit) v ≡ shift (a * d .unit) (judgeIn d (take (n * d .unit) (drop (a * d .unit) xs)))
+  unfolding judgedFrom judgeIn
+  judged-row short k h e v q =
+      let w : v ≡ level (d .sextets xs) maxDepth false a (a + n) =
+      q ∙ rw (le-ltb (d .limit) (length xs) short, le-ltb (length xs / d .unit) (a + n) inside, le-ltb (a + n) a (omega arith)) in
+      rw (w, level-of-item maxDepth k h e) (placed-shift (d .unit) a _)
+
+pub placed-text : (v : Verdict) → placed 4 v ≡ v
+unfolding placed
+placed-text Accepted = refl
+placed-text (Refused n p) = let z : p / 4 * 4 + p % 4 ≡ p = omega arith in rw z
+
+-- ---- the count
+
+module _ (d : Domain) (G : Reader d) (xs : List ℕ) where
+  pub count-start : length (rowsIn d xs) ≡ 0 + length (rowsAt d 0 (drop 0 xs))
+  unfolding rows
+  count-start = omega arith
+
+  pub count-more : (at : ℕ) {k : Kind} {h n : ℕ} → frameIn d (drop at xs) ≡ Item k h n
+      → length (rowsAt d at (drop at xs)) ≡ 1 + length (rowsAt d (at + n) (drop (at + n) xs))
+  count-more at {k} {h} {n} e = ap length (rows-item d G at (drop at xs) e) ∙ rw (drop-drop n at xs) (omega arith)
+
+  pub count-stop : (at : ℕ) {m p : ℕ} → at < length xs → frameIn d (drop at xs) ≡ Unframed m p → rowsAt d at (drop at xs) ≡ []
+  count-stop at l e = rows-refused d G at (drop at xs) (omega (arith, length-drop at xs)) e
+
+  pub left-stop : (at : ℕ) {m p : ℕ} → at < length xs → frameIn d (drop at xs) ≡ Unframed m p
+      → leftAt d at (drop at xs) ≡ record { offset = at; number = m } ∷ []
+  left-stop at l e = left-refused d G at (drop at xs) (omega (arith, length-drop at xs)) e
+
+  pub count-end : (at : ℕ) → length xs ≤ at → rowsAt d at (drop at xs) ≡ []
+  count-end at l = rw (drop-of-length-le xs {i = at} l) (rows-nil d G at)
+
+  pub left-end : (at : ℕ) → length xs ≤ at → leftAt d at (drop at xs) ≡ []
+  left-end at l = rw (drop-of-length-le xs {i = at} l) (left-nil d G at)
+
+  pub item-size : (at : ℕ) (k : Kind) (h n : ℕ) → frameIn d (drop at xs) ≡ Item k h n → (0 < h) × (h ≤ n) × (n ≤ length xs - at)
+  item-size at k h n e = let w = frames d G .within (drop at xs) k h n e in (w .0, w .1, omega (arith, w .2, length-drop at xs))
+
+-- ---- the answers
+
+module _ (d : Domain) (xs out : List ℕ) where
+  pub too-long : d .limit < length xs → R.Refused 1 0 ≡ reportAnswer d xs (length out)
+  unfolding reportAnswer
+  too-long l = rw (lt-ltb (d .limit) (length xs) l)
+
+  module _ (l : length xs ≤ d .limit) (n : ℕ) (e : n ≡ length (rowsIn d xs)) where
+    pub no-room : length out < 17 + 18 * n → R.Refused 3 0 ≡ reportAnswer d xs (length out)
+    unfolding reportAnswer
+    no-room k = rw (le-ltb (d .limit) (length xs) l, ← e, lt-ltb (length out) (17 + 18 * n) k)
+
+    pub written : Demand3 d → 17 + 18 * n ≤ length out → (w : ℕ) (out′ : List ℕ) → w ≡ length (report d xs) → out′ ≡ sets out 0 (report d xs)
+        → (R.Written w ≡ reportAnswer d xs (length out)) × (out′ ≡ reportLeft (R.Written w) d xs out)
+    unfolding reportAnswer reportLeft
+    written D k w out′ f g =
+        let z : 0 + length (report d xs) ≡ length (report d xs) = omega arith in
+        let fits : 0 + length (report d xs) ≤ length out = omega (arith, report-fits d D xs) in (
+          rw (le-ltb (d .limit) (length xs) l, ← e, le-ltb (length out) (17 + 18 * n) k) (ap R.Written f),
+          g ∙ sets-eq (report d xs) out 0 fits ∙ rw (z, f),
+        )
+
+-- ---- a turn of the loop that fills, u elements to the unit
+
+module _ (d : Domain) (G : Reader d) (u : ℕ) (is-u : d .unit ≡ u) (xs o : List ℕ) (n : ℕ) (is-n : n ≡ length (rowsIn d xs)) (short : length xs ≤ d .limit)
+    (a i k : ℕ) (out : List ℕ) (φ : Filled d xs o n (u * a) i k out) (f : Framed) (e : f ≡ frameRuled (d .sextets (drop (u * a) xs))) where
+  module _ (g : Kind) (h m : ℕ) (q : f ≡ Item g h m) where
+    framed : frameIn d (drop (u * a) xs) ≡ Item g (h * u) (m * u)
+    framed = rw (← is-u) (rw (← is-u) at (top-item d (drop (u * a) xs) f e g h m q))
+
+    pub turn-room : (i < n) × (k ≤ i)
+    turn-room = filled-room d xs o n is-n G (u * a) i k out φ framed
+
+    pub turn-size : (0 < h * u) × (h * u ≤ m * u) × (m * u ≤ length xs - u * a)
+    turn-size = item-size d G xs (u * a) g (h * u) (m * u) framed
+
+    pub turn-more : u * a ≤ length xs → (v : Verdict) → v ≡ judgedFrom d xs a (a + m) → (w : Verdict) → w ≡ placed u v → (k′ : ℕ) → k′ ≡ k + length (refusal i w)
+        → (out′ : List ℕ) → out′ ≡ turn n i k (rowWith (u * a) (u * m) w) out → Filled d xs o n (u * (a + m)) (i + 1) k′ out′
+    turn-more l v p w pw k′ b out′ c =
+        let x : u * a ≡ a * u = mul-comm u a in
+        let y : u * m ≡ m * u = mul-comm u m in
+        let z : u * (a + m) ≡ u * a + m * u = mul-add u a m ∙ ap (λ (j : ℕ). u * a + j) y in
+        let s = turn-size in
+        let room : a * d .unit + m * d .unit ≤ length xs = rw is-u (omega arith) in
+        let r = judged-row d G xs a m room short g h (rw (is-u, ← x) (sym e ∙ q)) v p in
+        let r′ : w ≡ shift (u * a) (judgeIn d (take (m * u) (drop (u * a) xs))) = pw ∙ rw x (subst (λ (j : ℕ). placed j v ≡ shift (a * j) (judgeIn d (take (m * j) (drop (a * j) xs)))) is-u r) in
+        rw (z, b, c, y) (filled-more d xs o n is-n G (u * a) i k out φ framed w r′)
+
+  module _ (m p : ℕ) (q : f ≡ Unframed m p) (l : u * a < length xs) where
+    stops : rowsAt d (u * a) (drop (u * a) xs) ≡ []
+    stops = count-stop d G xs (u * a) l (top-unframed d (drop (u * a) xs) f e m p q)
+
+    pub stop-counts : (i ≡ n) × (k ≤ n)
+    stop-counts = filled-counts d xs o n is-n G (u * a) i k out φ stops
+
+    pub stop-all : (r : ℕ) (out′ : List ℕ) → r ≡ 17 + 9 * n + 9 * k
+        → out′ ≡ sets (sets out (4 + 9 * n) (be4 k)) (8 + 9 * n + 9 * k) (be4 1 ++ (be4 (u * a) ++ (m ∷ [])))
+        → (r ≡ length (report d xs)) × (out′ ≡ sets o 0 (report d xs))
+    stop-all r out′ b c =
+        let t : be4 1 ++ (be4 (u * a) ++ (m ∷ [])) ≡ section remainderBytes (leftAt d (u * a) (drop (u * a) xs)) =
+        one-rest (u * a) m ∙ ap (section remainderBytes) (sym (left-stop d G xs (u * a) l (top-unframed d (drop (u * a) xs) f e m p q))) in
+        let w = filled-end d xs o n is-n G (u * a) i k out φ stops _ t in
+        (omega (arith, w .1, one-rest-long (u * a) m), c ∙ w .0)
+
+module _ (d : Domain) (G : Reader d) (xs o : List ℕ) (n : ℕ) (is-n : n ≡ length (rowsIn d xs)) (at i k : ℕ) (out : List ℕ)
+    (φ : Filled d xs o n at i k out) (l : length xs ≤ at) where
+  pub end-counts : (i ≡ n) × (k ≤ n)
+  end-counts = filled-counts d xs o n is-n G at i k out φ (count-end d G xs at l)
+
+  pub end-all : (r : ℕ) (out′ : List ℕ) → r ≡ 12 + 9 * n + 9 * k
+      → out′ ≡ sets (sets out (4 + 9 * n) (be4 k)) (8 + 9 * n + 9 * k) (be4 0) → (r ≡ length (report d xs)) × (out′ ≡ sets o 0 (report d xs))
+  unfolding be4
+  end-all r out′ b c =
+      let t : be4 0 ≡ section remainderBytes (leftAt d at (drop at xs)) = no-rest ∙ ap (section remainderBytes) (sym (left-end d G xs at l)) in
+      let w = filled-end d xs o n is-n G at i k out φ (count-end d G xs at l) _ t in
+      (omega (arith, w .1), c ∙ w .0)

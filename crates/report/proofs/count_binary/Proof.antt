@@ -1,0 +1,116 @@
+use mathlib.Core.Path.{_≡_, ap, _∙_}
+use Prim.Native.Nat.{_+_, _-_, _*_, _≤_}
+use native.Mathlib.Omega.{arith}
+use lib.ListN.{length, drop}
+use Rattle.format.specs.Units.{binary}
+use Rattle.format.specs.Report.{rowsIn}
+use Rattle.laws.specs.Domains.{binary-reader}
+use Rattle.laws.specs.Items.{rowsAt}
+use Rattle.report.proofs.Laws.{top-item, top-unframed, item-size, count-start, count-stop, count-more, count-end}
+use borrow.Author.Needs.{needs}
+use Rattle.report.proofs.count_binary.Statement.{statement}
+use Rattle.report.proofs.count_binary.Tie as tie
+use Rattle.report.proofs.count_binary.Reads as reads
+use Rattle.report.proofs.count_binary.Lts as lts
+use Rattle.report.proofs.next_binary.Reads as next-binary-reads
+
+abbrev Inv-loop : tie.InvT-loop
+Inv-loop s a₀ i₀ a i =
+    (3 * a ≤ length s) × (i ≤ a) × (length (rowsIn binary s) ≡ i + length (rowsAt binary (3 * a) (drop (3 * a) s)))
+
+abbrev μ-loop : tie.MeasureT-loop
+μ-loop s a₀ i₀ a i = length s - 3 * a
+
+-- src/lib.rt:110:5
+loop-holds : tie.Need-loop-holds Inv-loop μ-loop
+loop-holds c = (search needs, search needs, count-start binary binary-reader (c .before .args .s .now))
+
+-- src/lib.rt:110:11
+mul-loop : tie.Need-mul-loop Inv-loop μ-loop
+mul-loop c = search needs
+
+-- src/lib.rt:111:28
+mul-next-binary : tie.Need-mul-next-binary Inv-loop μ-loop
+mul-next-binary c = search needs
+
+-- src/lib.rt:111:15
+next-binary-requires : tie.Need-next-binary-requires Inv-loop μ-loop
+next-binary-requires c κs = search needs
+
+-- src/lib.rt:116:17
+enum-told : tie.Need-enum-told Inv-loop μ-loop
+enum-told c = search needs
+
+-- src/lib.rt:116:17
+returns : tie.Need-returns Inv-loop μ-loop
+returns c =
+    let l = c .before .before .before .before in
+    let s = l .before .before .args .s .now in
+    let t = top-unframed binary (drop (3 * l .loop .a) s) _ (c .before .before .next-binary .ensures) _ _ (c .enum-told .given .1) in
+    let e = ap length (count-stop binary binary-reader s (3 * l .loop .a) (search needs) t) in
+    (omega arith, omega arith)
+
+-- src/lib.rt:121:17
+enum-known-size : tie.Need-enum-known-size Inv-loop μ-loop
+enum-known-size c = search needs
+
+-- src/lib.rt:123:21
+add-a : tie.Need-add-a Inv-loop μ-loop
+add-a c =
+    let l = c .before .before .before .before .before in
+    let s = l .before .before .args .s .now in
+    let t = top-item binary (drop (3 * l .loop .a) s) _ (c .before .before .before .next-binary .ensures) _ _ _ (c .before .size .given .1) in
+    let z = item-size binary binary-reader s (3 * l .loop .a) _ _ _ t in
+    omega (arith, z .2)
+
+-- src/lib.rt:124:21
+add-i : tie.Need-add-i Inv-loop μ-loop
+add-i c =
+    let l = c .before .before .before .before .before in omega arith
+
+-- src/lib.rt:110:5
+loop-less : tie.Need-loop-less Inv-loop μ-loop
+loop-less c =
+    let l = c .before .before .before .before .before in
+    let s = l .before .before .args .s .now in
+    let t = top-item binary (drop (3 * l .loop .a) s) _ (c .before .before .before .next-binary .ensures) _ _ _ (c .before .size .given .1) in
+    let z = item-size binary binary-reader s (3 * l .loop .a) _ _ _ t in
+    omega (arith, z .0, z .1, z .2)
+
+-- src/lib.rt:110:5
+loop-again : tie.Need-loop-again Inv-loop μ-loop
+loop-again c =
+    let l = c .before .before .before .before .before in
+    let s = l .before .before .args .s .now in
+    let t = top-item binary (drop (3 * l .loop .a) s) _ (c .before .before .before .next-binary .ensures) _ _ _ (c .before .size .given .1) in
+    let z = item-size binary binary-reader s (3 * l .loop .a) _ _ _ t in
+    let n = c .before .size .given .0 .1 .1 .0 in
+    let w : 3 * l .loop .a + n * 3 ≡ 3 * (l .loop .a + n) = omega arith in
+    (omega (arith, z .2), omega (arith, z .0, z .1), l .loop .inv .2 ∙ rw (count-more binary binary-reader s (3 * l .loop .a) t, w) (omega arith))
+
+-- src/lib.rt:104:1
+returns-2 : tie.Need-returns-2 Inv-loop μ-loop
+returns-2 c =
+    let l = c .before in
+    let s = l .before .before .args .s .now in
+    let e = ap length (count-end binary binary-reader s (3 * l .loop .a) (search needs)) in
+    (omega arith, omega arith)
+
+pub count-binary-spec : {M : Type 1} → statement M
+count-binary-spec =
+    tie.close
+    (tie.spec
+    Inv-loop
+    μ-loop
+    loop-holds
+    mul-loop
+    mul-next-binary
+    next-binary-requires
+    enum-told
+    returns
+    enum-known-size
+    add-a
+    add-i
+    loop-less
+    loop-again
+    returns-2)

@@ -1,0 +1,229 @@
+use mathlib.Core.Path.{_≡_, refl}
+use mathlib.Core.List.{List}
+use Prim.Native.Nat.{ℕ, _-_, _*_, _≤_}
+use native.Mathlib.Omega.{arith}
+use lib.ListN.{length}
+use lib.Seq.{sets}
+use Rattle.format.specs.Units.{binary}
+use Rattle.format.specs.Report.{be4}
+use Rattle.laws.specs.Domains.{binary-reader}
+use Rattle.report.specs.Filling.{Filled, filled-start}
+use Rattle.report.proofs.Laws.{turn-room, turn-size, turn-more, stop-counts, stop-all, end-counts, end-all}
+use borrow.Author.Needs.{needs}
+use Rattle.report.proofs.fill_binary.Statement.{statement}
+use Rattle.report.proofs.fill_binary.Tie as tie
+use Rattle.report.proofs.fill_binary.Reads as reads
+use Rattle.report.proofs.fill_binary.Lts as lts
+use Rattle.contents.proofs.judge_binary.Reads as judge-binary-reads
+use Rattle.report.proofs.finish.Reads as finish-reads
+use Rattle.report.proofs.finish_rest.Reads as finish-rest-reads
+use Rattle.report.proofs.next_binary.Reads as next-binary-reads
+use Rattle.report.proofs.placed_binary.Reads as placed-binary-reads
+use Rattle.report.proofs.put4.Reads as put4-reads
+use Rattle.report.proofs.put_item.Reads as put-item-reads
+
+abbrev Inv-loop : tie.InvT-loop
+Inv-loop s out₀ n a₀ i₀ k₀ out a i k =
+    (3 * a ≤ length s) × (length out ≡ length out₀) × ((o : List ℕ) → out₀ ≡ sets o 0 (be4 n) → Filled binary s o n (3 * a) i k out)
+
+abbrev μ-loop : tie.MeasureT-loop
+μ-loop s out₀ n a₀ i₀ k₀ out a i k = length s - 3 * a
+
+-- src/lib.rt:230:5
+put4-requires : tie.Need-put4-requires Inv-loop μ-loop
+put4-requires c κs = search needs
+
+-- src/lib.rt:234:5
+loop-holds : tie.Need-loop-holds Inv-loop μ-loop
+loop-holds c = (search needs, search needs, λ o e. rw e (filled-start binary (c .before .before .before .before .before .before .args .s .now) o (c .before .before .before .before .before .before .args .n) (c .before .before .before .before .before .before .pre .1)))
+
+-- src/lib.rt:234:11
+mul-loop : tie.Need-mul-loop Inv-loop μ-loop
+mul-loop c = search needs
+
+-- src/lib.rt:235:30
+mul-next-binary : tie.Need-mul-next-binary Inv-loop μ-loop
+mul-next-binary c = search needs
+
+-- src/lib.rt:235:15
+next-binary-requires : tie.Need-next-binary-requires Inv-loop μ-loop
+next-binary-requires c κs = search needs
+
+-- src/lib.rt:236:32
+enum-known-number : tie.Need-enum-known-number Inv-loop μ-loop
+enum-known-number c = search needs
+
+-- src/lib.rt:237:47
+mul-finish-rest : tie.Need-mul-finish-rest Inv-loop μ-loop
+mul-finish-rest c = search needs
+
+-- src/lib.rt:237:17
+finish-rest-requires : tie.Need-finish-rest-requires Inv-loop μ-loop
+finish-rest-requires c κs =
+    let l = c .before .before .before .before .before .before in
+    let p = l .before .before .before .put4 in
+    let a = l .before .before .before .before .before .before .before .args in
+    let q = l .before .before .before .before .before .before .before .pre in
+    let φ = l .loop .inv .2 (a .out .now) (p .ensures) in
+    (omega (arith, q .2), stop-counts binary binary-reader 3 refl (a .s .now) (a .out .now) (a .n) (q .1) (q .0) (l .loop .a) (l .loop .i) (l .loop .k) (l .loop .out) φ _ (c .before .before .before .before .next-binary .ensures) _ _ (c .before .before .number .given .1) (search needs) .1)
+
+-- src/lib.rt:237:17
+same-length : tie.Need-same-length Inv-loop μ-loop
+same-length c = search needs
+
+-- src/lib.rt:237:17
+returns : tie.Need-returns Inv-loop μ-loop
+returns c =
+    let l = c .before .before .before .before .before .before .before .before .before in
+    let p = l .before .before .before .put4 in
+    let a = l .before .before .before .before .before .before .before .args in
+    let q = l .before .before .before .before .before .before .before .pre in
+    let φ = l .loop .inv .2 (a .out .now) (p .ensures) in
+    stop-all binary binary-reader 3 refl (a .s .now) (a .out .now) (a .n) (q .1) (q .0) (l .loop .a) (l .loop .i) (l .loop .k) (l .loop .out) φ _ (c .before .before .before .before .before .before .before .next-binary .ensures) _ _ (c .before .before .before .before .before .number .given .1) (search needs) _ _ (c .before .before .finish-rest .ensures .0) (c .before .before .finish-rest .ensures .1)
+
+-- src/lib.rt:242:17
+enum-known-size : tie.Need-enum-known-size Inv-loop μ-loop
+enum-known-size c = search needs
+
+-- src/lib.rt:244:68
+add-judge-binary : tie.Need-add-judge-binary Inv-loop μ-loop
+add-judge-binary c =
+    let l = c .before .before .before .before .before in
+    let p = l .before .before .before .put4 in
+    let a = l .before .before .before .before .before .before .before .args in
+    let q = l .before .before .before .before .before .before .before .pre in
+    let φ = l .loop .inv .2 (a .out .now) (p .ensures) in
+    omega (arith, turn-size binary binary-reader 3 refl (a .s .now) (a .out .now) (a .n) (q .1) (q .0) (l .loop .a) (l .loop .i) (l .loop .k) (l .loop .out) φ _ (c .before .before .before .next-binary .ensures) _ _ _ (c .before .size .given .1))
+
+-- src/lib.rt:244:39
+judge-binary-requires : tie.Need-judge-binary-requires Inv-loop μ-loop
+judge-binary-requires c κs = search needs
+
+-- src/lib.rt:244:21
+placed-binary-requires : tie.Need-placed-binary-requires Inv-loop μ-loop
+placed-binary-requires c κs = search needs
+
+-- src/lib.rt:245:44
+mul-put-item : tie.Need-mul-put-item Inv-loop μ-loop
+mul-put-item c = search needs
+
+-- src/lib.rt:245:51
+mul-put-item-2 : tie.Need-mul-put-item-2 Inv-loop μ-loop
+mul-put-item-2 c =
+    let l = c .before .before .before .before .before .before .before .before in
+    let p = l .before .before .before .put4 in
+    let a = l .before .before .before .before .before .before .before .args in
+    let q = l .before .before .before .before .before .before .before .pre in
+    let φ = l .loop .inv .2 (a .out .now) (p .ensures) in
+    omega (arith, turn-size binary binary-reader 3 refl (a .s .now) (a .out .now) (a .n) (q .1) (q .0) (l .loop .a) (l .loop .i) (l .loop .k) (l .loop .out) φ _ (c .before .before .before .before .before .before .next-binary .ensures) _ _ _ (c .before .before .before .before .size .given .1))
+
+-- src/lib.rt:245:17
+put-item-requires : tie.Need-put-item-requires Inv-loop μ-loop
+put-item-requires c κs =
+    let l = c .before .before .before .before .before .before .before .before in
+    let p = l .before .before .before .put4 in
+    let a = l .before .before .before .before .before .before .before .args in
+    let q = l .before .before .before .before .before .before .before .pre in
+    let φ = l .loop .inv .2 (a .out .now) (p .ensures) in
+    let r = turn-room binary binary-reader 3 refl (a .s .now) (a .out .now) (a .n) (q .1) (q .0) (l .loop .a) (l .loop .i) (l .loop .k) (l .loop .out) φ _ (c .before .before .before .before .before .before .next-binary .ensures) _ _ _ (c .before .before .before .before .size .given .1) in
+    (omega (arith, q .2), r .0, r .1)
+
+-- src/lib.rt:246:21
+add-a : tie.Need-add-a Inv-loop μ-loop
+add-a c =
+    let l = c .before .before .before .before .before .before .before .before .before .before .before in
+    let p = l .before .before .before .put4 in
+    let a = l .before .before .before .before .before .before .before .args in
+    let q = l .before .before .before .before .before .before .before .pre in
+    let φ = l .loop .inv .2 (a .out .now) (p .ensures) in
+    omega (arith, turn-size binary binary-reader 3 refl (a .s .now) (a .out .now) (a .n) (q .1) (q .0) (l .loop .a) (l .loop .i) (l .loop .k) (l .loop .out) φ _ (c .before .before .before .before .before .before .before .before .before .next-binary .ensures) _ _ _ (c .before .before .before .before .before .before .before .size .given .1))
+
+-- src/lib.rt:247:21
+add-i : tie.Need-add-i Inv-loop μ-loop
+add-i c =
+    let l = c .before .before .before .before .before .before .before .before .before .before .before in
+    let p = l .before .before .before .put4 in
+    let a = l .before .before .before .before .before .before .before .args in
+    let q = l .before .before .before .before .before .before .before .pre in
+    let φ = l .loop .inv .2 (a .out .now) (p .ensures) in
+    omega (arith, turn-room binary binary-reader 3 refl (a .s .now) (a .out .now) (a .n) (q .1) (q .0) (l .loop .a) (l .loop .i) (l .loop .k) (l .loop .out) φ _ (c .before .before .before .before .before .before .before .before .before .next-binary .ensures) _ _ _ (c .before .before .before .before .before .before .before .size .given .1))
+
+-- src/lib.rt:234:5
+loop-less : tie.Need-loop-less Inv-loop μ-loop
+loop-less c =
+    let l = c .before .before .before .before .before .before .before .before .before .before .before in
+    let p = l .before .before .before .put4 in
+    let a = l .before .before .before .before .before .before .before .args in
+    let q = l .before .before .before .before .before .before .before .pre in
+    let φ = l .loop .inv .2 (a .out .now) (p .ensures) in
+    omega (arith, turn-size binary binary-reader 3 refl (a .s .now) (a .out .now) (a .n) (q .1) (q .0) (l .loop .a) (l .loop .i) (l .loop .k) (l .loop .out) φ _ (c .before .before .before .before .before .before .before .before .before .next-binary .ensures) _ _ _ (c .before .before .before .before .before .before .before .size .given .1))
+
+-- src/lib.rt:234:5
+loop-again : tie.Need-loop-again Inv-loop μ-loop
+loop-again c =
+    let l = c .before .before .before .before .before .before .before .before .before .before .before in
+    let p = l .before .before .before .put4 in
+    let a = l .before .before .before .before .before .before .before .args in
+    let q = l .before .before .before .before .before .before .before .pre in
+    let φ = l .loop .inv .2 (a .out .now) (p .ensures) in
+    let z = turn-size binary binary-reader 3 refl (a .s .now) (a .out .now) (a .n) (q .1) (q .0) (l .loop .a) (l .loop .i) (l .loop .k) (l .loop .out) φ _ (c .before .before .before .before .before .before .before .before .before .next-binary .ensures) _ _ _ (c .before .before .before .before .before .before .before .size .given .1) in (
+      omega (arith, z .2),
+      cc,
+      λ o e.
+          turn-more binary binary-reader 3 refl (a .s .now) o (a .n) (q .1) (q .0) (l .loop .a) (l .loop .i) (l .loop .k) (l .loop .out) (l .loop .inv .2 o e) _ (c .before .before .before .before .before .before .before .before .before .next-binary .ensures)
+          _ _ _ (c .before .before .before .before .before .before .before .size .given .1) (search needs) _ (c .before .before .before .before .before .judge-binary .ensures) _ (c .before .before .before .before .placed-binary .ensures) _ (c .before .before .put-item .ensures .0) _ (c .before .before .put-item .ensures .1),
+    )
+
+-- src/lib.rt:251:5
+finish-requires : tie.Need-finish-requires Inv-loop μ-loop
+finish-requires c κs =
+    let l = c .before .before in
+    let p = l .before .before .before .put4 in
+    let a = l .before .before .before .before .before .before .before .args in
+    let q = l .before .before .before .before .before .before .before .pre in
+    (omega (arith, q .2), end-counts binary binary-reader (a .s .now) (a .out .now) (a .n) (q .1) _ _ _ _ (l .loop .inv .2 (a .out .now) (p .ensures)) (search needs) .1)
+
+-- src/lib.rt:226:1
+same-length-2 : tie.Need-same-length-2 Inv-loop μ-loop
+same-length-2 c = search needs
+
+-- src/lib.rt:226:1
+returns-2 : tie.Need-returns-2 Inv-loop μ-loop
+returns-2 c =
+    let l = c .before .before .before .before .before in
+    let p = l .before .before .before .put4 in
+    let a = l .before .before .before .before .before .before .before .args in
+    let q = l .before .before .before .before .before .before .before .pre in
+    let φ = l .loop .inv .2 (a .out .now) (p .ensures) in
+    end-all binary binary-reader (a .s .now) (a .out .now) (a .n) (q .1) _ _ _ _ φ (search needs) _ _ (c .before .before .finish .ensures .0) (c .before .before .finish .ensures .1)
+
+pub fill-binary-spec : {M : Type 1} → statement M
+fill-binary-spec =
+    tie.close
+    (tie.spec
+    Inv-loop
+    μ-loop
+    put4-requires
+    loop-holds
+    mul-loop
+    mul-next-binary
+    next-binary-requires
+    enum-known-number
+    mul-finish-rest
+    finish-rest-requires
+    same-length
+    returns
+    enum-known-size
+    add-judge-binary
+    judge-binary-requires
+    placed-binary-requires
+    mul-put-item
+    mul-put-item-2
+    put-item-requires
+    add-a
+    add-i
+    loop-less
+    loop-again
+    finish-requires
+    same-length-2
+    returns-2)
