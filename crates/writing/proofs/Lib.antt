@@ -1,0 +1,5 @@
+pub mod Heads
+pub mod Names
+pub mod Plans
+pub mod Buffers
+pub mod Answers
