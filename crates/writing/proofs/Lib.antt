@@ -3,3 +3,4 @@ pub mod Names
 pub mod Plans
 pub mod Buffers
 pub mod Answers
+pub mod Cursors

@@ -89,7 +89,7 @@ lead-whole : (raw : ℕ) → (raw + leadFor raw ≡ 3 * countFor raw) × (leadFo
 unfolding leadFor countFor
 lead-whole raw = (omega arith, omega arith)
 
-sized : (n : Named) (tags raw : ℕ) → Able n tags raw → Headed n → Sized raw (unitsOf n raw)
+pub sized : (n : Named) (tags raw : ℕ) → Able n tags raw → Headed n → Sized raw (unitsOf n raw)
 unfolding Able unitsOf rawSize
 sized unknown tags raw a h = absurd a
 sized (row c) tags raw a h =

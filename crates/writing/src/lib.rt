@@ -10,7 +10,7 @@ use format::TextOffset;
 use format::TextWritten;
 ghost use mathlib.Core.Path.{_≡_};
 ghost use mathlib.Core.List.{_++_, map};
-ghost use Prim.Native.Nat.{_+_, _-_, _*_, _<_, _≤_, _/_, _%_};
+ghost use Prim.Native.Nat.{_+_, _-_, _*_, _<_, _≤_, _/_, _%_, min};
 ghost use lib.Dec.{eqb};
 ghost use lib.ListN.{length, take, drop};
 ghost use lib.Seq.{paste};
@@ -23,6 +23,7 @@ ghost use Rattle.format.specs.Registry.{isType, prepadOf};
 ghost use Rattle.format.specs.Writing.{named, namedFixed, isNamed, isFit, rawSize, rawLimit, leadFor, countFor, unitsOf, writeText, textItemLeft, writeBinary, binaryItemLeft};
 ghost use Rattle.format.specs.Writing.Named.{unknown, variable};
 ghost use Rattle.laws.specs.Registry.{Sound};
+ghost use Rattle.writing.specs.Cursor.{writeTextAt, textLeftAt, writeBinaryAt, binaryLeftAt};
 ghost use Rattle.writing.specs.Plan.{asNamed, Able, codeHead, rowHead, variableHead, headSextets, noPlan, planOf};
 
 // A code that is a primitive's, or none.
@@ -394,5 +395,56 @@ pub fn write_text(code: Code, tag: [u8; 11], tags: usize, raw: &[u8], out: &mut 
             put_text(head, n * 3 - raw.len(), raw, out);
             TextWritten::Written(TextOffset(size))
         }
+    }
+}
+
+// ---- a following item: the part of the buffer from the cursor on is lent
+
+// A cursor past the buffer's end leaves no room.
+fn cursor_in(cursor: usize, len: usize) -> usize
+    ensures { λ r. ⌜ r ≡ min cursor len ⌝ }
+{
+    if cursor < len { cursor } else { len }
+}
+
+// A primitive as binary behind what stands before the cursor; the length written is the next cursor.
+pub fn write_binary_at(
+    code: Code,
+    tag: [u8; 11],
+    tags: usize,
+    raw: &[u8],
+    out: &mut [u8],
+    cursor: BinaryOffset,
+) -> BinaryWritten
+    ensures { λ r. ⌜ r ≡ writeBinaryAt code tag tags (now (raw .entry)) (now (out .entry)) (cursor .0) ⌝ }
+    ensures { λ _. ⌜ now (out .exit) ≡ binaryLeftAt code tag tags (now (raw .entry)) (now (out .entry)) (cursor .0) ⌝ }
+{
+    let from = cursor.0;
+    let at = cursor_in(from, out.len());
+    let written = write_binary(code, tag, tags, raw, &mut out[at..]);
+    match written {
+        BinaryWritten::Refused(number, place) => BinaryWritten::Refused(number, place),
+        BinaryWritten::Written(n) => BinaryWritten::Written(BinaryOffset(at + n.0)),
+    }
+}
+
+// A primitive as text behind what stands before the cursor; the length written is the next cursor.
+pub fn write_text_at(
+    code: Code,
+    tag: [u8; 11],
+    tags: usize,
+    raw: &[u8],
+    out: &mut [u8],
+    cursor: TextOffset,
+) -> TextWritten
+    ensures { λ r. ⌜ r ≡ writeTextAt code tag tags (now (raw .entry)) (now (out .entry)) (cursor .0) ⌝ }
+    ensures { λ _. ⌜ now (out .exit) ≡ textLeftAt code tag tags (now (raw .entry)) (now (out .entry)) (cursor .0) ⌝ }
+{
+    let from = cursor.0;
+    let at = cursor_in(from, out.len());
+    let written = write_text(code, tag, tags, raw, &mut out[at..]);
+    match written {
+        TextWritten::Refused(number, place) => TextWritten::Refused(number, place),
+        TextWritten::Written(n) => TextWritten::Written(TextOffset(at + n.0)),
     }
 }
