@@ -387,13 +387,13 @@ pub fn write_text(code: Code, tag: [u8; 11], tags: usize, raw: &[u8], out: &mut 
     match planned {
         Planned::Refused(number, place) => TextWritten::Refused(number, place),
         Planned::Units(n) => {
-            let size = n * 4;
-            if out.len() < size {
+            let chars = n * 4;
+            if out.len() < chars {
                 return TextWritten::Refused(3, 0);
             }
             let head = plan.head;
             put_text(head, n * 3 - raw.len(), raw, out);
-            TextWritten::Written(TextOffset(size))
+            TextWritten::Written(TextOffset(chars))
         }
     }
 }

@@ -22,8 +22,8 @@ enum-known-planned-2 : tie.Need-enum-known-planned-2
 enum-known-planned-2 c = search needs
 
 -- src/lib.rt:383:24
-mul-size : tie.Need-mul-size
-mul-size c =
+mul-chars : tie.Need-mul-chars
+mul-chars c =
     let a = c .before .before .before .before .before .before .args in
     let r = rw (c .before .planned2 .given .1) at (told (a .code) (a .tag) (a .tags) _ (search needs) _ (c .before .before .before .plan-item .ensures)) in
     omega (arith, start-fits _ _ _ (a .raw .now) (a .out .now) _ _ r)
@@ -81,7 +81,7 @@ write-text-spec =
     plan-item-requires
     enum-known-planned
     enum-known-planned-2
-    mul-size
+    mul-chars
     returns
     mul-put-text
     sub-put-text
