@@ -99,7 +99,7 @@ fn zeros_of(c: CodeRow) -> u32
     }
 }
 
-fn prepad_of(c: CodeRow) -> u32
+pub fn prepad_of(c: CodeRow) -> u32
     ensures { λ r. ⌜ r ≡ prepadOf c ⌝ }
 {
     if c.tag == 0 {

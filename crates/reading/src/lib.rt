@@ -100,7 +100,7 @@ fn tags_of(kind: Kind) -> usize
     }
 }
 
-fn fixed_start(c: CodeRow) -> usize
+pub fn fixed_start(c: CodeRow) -> usize
     ensures { λ r. ⌜ (r ≡ rawStart (Kind.Fixed c) 1) × (r < 1000) ⌝ }
 {
     let chars = c.chars;

@@ -2,6 +2,7 @@
 -- Assumes nothing.
 use mathlib.Core.Path.{_≡_, refl, sym}
 use mathlib.Core.Bool.{Bool, true, false}
+use mathlib.Core.List.{List, [], _∷_}
 use Prim.Native.Nat.{ℕ, _+_, _-_, _/_, _<_, _≤_}
 use native.Mathlib.Omega.{arith}
 use borrow.Author.Tests.{lt-ltb, le-ltb, eq-eqb, ne-eqb}
@@ -109,6 +110,30 @@ zero-letter = fixed-by 2 27 15 tt
 pub one-aa : (l : ℕ) → l < 256 → fixedFrom 42 16 l ≡ fixed 4 l
 unfolding rightAt isRow isUnknown codes fixed fixedAmong
 one-aa = fixed-by 4 42 16 tt
+
+-- no code has another number of characters
+
+isLength : ℕ → Bool
+isLength n = pick (eqb n 1) true (pick (eqb n 2) true (eqb n 4))
+
+lengthsRight : List CodeRow → Bool
+lengthsRight [] = true
+lengthsRight (c ∷ cs) = both (isLength (c .chars)) (lengthsRight cs)
+
+-- two numbers that a test tells apart are different
+apart : (m n : ℕ) → T (isLength m) → isLength n ≡ false → m ≡ n → ⊥
+apart m n t f e = let q : T false = rw (e, f) at t in q
+
+among-none : (cs : List CodeRow) → T (lengthsRight cs) → (chars letter : ℕ) → isLength chars ≡ false → fixedAmong cs chars letter ≡ Unknown
+unfolding lengthsRight fixedAmong
+among-none [] t chars letter h = refl
+among-none (c ∷ cs) t chars letter h =
+    rw (ne-eqb (c .chars) chars (apart (c .chars) chars (both-left (isLength (c .chars)) _ t) h))
+    (among-none cs (both-right (isLength (c .chars)) _ t) chars letter h)
+
+pub no-code : (chars letter : ℕ) → (chars ≡ 1 → ⊥) → (chars ≡ 2 → ⊥) → (chars ≡ 4 → ⊥) → Unknown ≡ fixed chars letter
+unfolding fixed lengthsRight isLength codes
+no-code chars letter a b d = sym (among-none codes tt chars letter (simp (ne-eqb chars 1 a, ne-eqb chars 2 b, ne-eqb chars 4 d)))
 
 -- ---- the first unit, case by case
 

@@ -525,6 +525,22 @@ fn one_aa(l: u8) -> Opening
     fixed_from(42, 16, l)
 }
 
+// A fixed code by the number of its characters and its letter's sextet; nothing known where there is none.
+pub fn fixed(chars: u8, letter: u8) -> Opening
+    ensures { λ r. ⌜ r ≡ fixed chars letter ⌝ }
+{
+    if chars == 1 {
+        return one_letter(letter);
+    }
+    if chars == 2 {
+        return zero_letter(letter);
+    }
+    if chars == 4 {
+        return one_aa(letter);
+    }
+    Opening::Unknown
+}
+
 fn pad0(b: u8, c: u8, d: u8) -> Opening
     ensures { λ r. ⌜ r ≡ pad0Opening b c d ⌝ }
 {
@@ -536,7 +552,8 @@ fn pad0(b: u8, c: u8, d: u8) -> Opening
     Opening::Unknown
 }
 
-fn is_type(t: u8) -> bool
+// Whether a sextet is a variable type's letter.
+pub fn is_type(t: u8) -> bool
     ensures { λ r. ⌜ r ≡ isType t ⌝ }
 {
     if t < 6 { true } else { t == 7 }

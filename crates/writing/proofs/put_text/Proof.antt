@@ -1,0 +1,94 @@
+use mathlib.Core.Path.{sym}
+use lib.Seq.{length-take-le}
+use Rattle.writing.proofs.Buffers.{put-text}
+use borrow.Author.Needs.{needs}
+use Rattle.writing.proofs.put_text.Statement.{statement}
+use Rattle.writing.proofs.put_text.Tie as tie
+use Rattle.writing.proofs.put_text.Reads as reads
+use Rattle.writing.proofs.put_text.Lts as lts
+use Rattle.convert.proofs.binary_to_text.Reads as binary-to-text-reads
+use Rattle.writing.proofs.join.Reads as join-reads
+
+-- src/lib.rt:342:17
+join-requires : tie.Need-join-requires
+join-requires c κs = search needs
+
+-- src/lib.rt:344:15
+add-end : tie.Need-add-end
+add-end c = search needs
+
+-- src/lib.rt:345:14
+mul-at : tie.Need-mul-at
+mul-at c = search needs
+
+-- src/lib.rt:346:29
+array-share-prefix-first : tie.Need-array-share-prefix-first
+array-share-prefix-first c = search needs
+
+-- src/lib.rt:346:29
+slice-aggregate-binary-to-text : tie.Need-slice-aggregate-binary-to-text
+slice-aggregate-binary-to-text c = sym (length-take-le _ _ (search needs))
+
+-- src/lib.rt:346:5
+binary-to-text-requires : tie.Need-binary-to-text-requires
+binary-to-text-requires c κs = search needs
+
+-- src/lib.rt:347:29
+sub-binary-to-text : tie.Need-sub-binary-to-text
+sub-binary-to-text c = search needs
+
+-- src/lib.rt:347:29
+part-binary-to-text-start : tie.Need-part-binary-to-text-start
+part-binary-to-text-start c = search needs
+
+-- src/lib.rt:347:29
+part-binary-to-text-end : tie.Need-part-binary-to-text-end
+part-binary-to-text-end c = search needs
+
+-- src/lib.rt:347:40
+sub-binary-to-text-2 : tie.Need-sub-binary-to-text-2
+sub-binary-to-text-2 c = search needs
+
+-- src/lib.rt:347:40
+part-binary-to-text-start-2 : tie.Need-part-binary-to-text-start-2
+part-binary-to-text-start-2 c = search needs
+
+-- src/lib.rt:347:40
+part-binary-to-text-end-2 : tie.Need-part-binary-to-text-end-2
+part-binary-to-text-end-2 c = search needs
+
+-- src/lib.rt:347:5
+binary-to-text-requires-2 : tie.Need-binary-to-text-requires-2
+binary-to-text-requires-2 c κs = search needs
+
+-- src/lib.rt:338:1
+same-length : tie.Need-same-length
+same-length c = search needs
+
+-- src/lib.rt:338:1
+returns : tie.Need-returns
+returns c =
+    let a = c .before .before .before .before .before .before .before .before .before .before .before .before .before .args in
+    let q = c .before .before .before .before .before .before .before .before .before .before .before .before .before .pre in
+    put-text (a .head) _ (a .raw .now) (a .out .now) _ _ (a .start) _ _ (search needs) (q .1) (q .2) (q .3) (search needs) (c .before .before .before .before .before .before .before .before .before .before .join .ensures)
+    (c .before .before .before .before .before .before .before .binary-to-text .ensures .0) (c .before .before .before .before .before .before .before .binary-to-text .ensures .1) (c .before .before .binary-to-text2 .ensures .0) (c .before .before .binary-to-text2 .ensures .1)
+
+pub put-text-spec : {M : Type 1} → statement M
+put-text-spec =
+    tie.close
+    (tie.spec
+    join-requires
+    add-end
+    mul-at
+    array-share-prefix-first
+    slice-aggregate-binary-to-text
+    binary-to-text-requires
+    sub-binary-to-text
+    part-binary-to-text-start
+    part-binary-to-text-end
+    sub-binary-to-text-2
+    part-binary-to-text-start-2
+    part-binary-to-text-end-2
+    binary-to-text-requires-2
+    same-length
+    returns)
