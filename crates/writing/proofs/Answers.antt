@@ -1,7 +1,7 @@
 -- The answers of the writing calls, case by case, and what the buffer holds then. Assumes nothing.
-use mathlib.Core.Path.{_≡_, refl, sym, ap, _∙_}
+use mathlib.Core.Path.{_≡_, refl, _∙_}
 use mathlib.Core.List.{List, _++_}
-use Prim.Native.Nat.{ℕ, _+_, _-_, _*_, _/_, _%_, _^_, _<_, _≤_}
+use Prim.Native.Nat.{ℕ, _+_, _-_, _*_, _/_, _^_, _<_, _≤_}
 use native.Mathlib.Omega.{arith}
 use borrow.Author.Tests.{lt-ltb, le-ltb}
 use lib.ListN.{length, take, drop}
@@ -10,8 +10,9 @@ use Rattle.format.specs.declared.TextWritten.the-variants as T
 use Rattle.format.specs.declared.BinaryWritten.the-variants as B
 use Rattle.format.specs.Offsets.{textOffset, binaryOffset}
 use Rattle.format.specs.Conversion.{toText}
-use Rattle.format.specs.Writing.{named, writing, textOutcome, binaryOutcome, writtenBytes, writeText, writeBinary, textItemLeft, binaryItemLeft}
-use Rattle.format.specs.Writing.Writing.{refused, written}
+use Rattle.format.specs.Writing.{named, writing, textOutcome, binaryOutcome}
+use Rattle.format.specs.Writing.{writtenBytes, writeText, writeBinary, textItemLeft, binaryItemLeft}
+use Rattle.format.specs.Writing.Writing.{refused}
 use Rattle.writing.proofs.Plans.{Ready}
 
 module _ (code : Code) (tag : List ℕ) (tags : ℕ) (raw d : List ℕ) where

@@ -1,5 +1,5 @@
 -- An item written into the part of a buffer from a cursor on. Assumes nothing.
-use mathlib.Core.Path.{_≡_, refl, sym, ap, _∙_}
+use mathlib.Core.Path.{_≡_, refl, sym, _∙_}
 use mathlib.Core.List.{List, [], _++_, append-nil}
 use mathlib.Core.Logic.{⊎-elim}
 use Prim.Native.Nat.{ℕ, _+_, _-_, _*_, _<_, _≤_, min}
@@ -8,7 +8,7 @@ use borrow.Author.Tests.{ltb-false}
 use lib.Dec.{ltb}
 use lib.ListN.{length, take, drop, length-drop, drop-of-length-le}
 use lib.Seq.{take-all}
-use Rattle.base.specs.Pick.{pick, pick-by}
+use Rattle.base.specs.Pick.{pick-by}
 use Rattle.base.specs.Cases.{lt-or-ge}
 use Rattle.format.specs.declared.Code.{Code}
 use Rattle.format.specs.declared.TextOffset.{TextOffset}
@@ -19,7 +19,8 @@ use Rattle.format.specs.declared.BinaryWritten.{BinaryWritten}
 use Rattle.format.specs.declared.BinaryWritten.the-variants as B
 use Rattle.format.specs.Offsets.{textOffset, binaryOffset}
 use Rattle.format.specs.Conversion.{firstStranger}
-use Rattle.format.specs.Writing.{named, isNamed, isFit, unitsOf, Writing, writing, textOutcome, binaryOutcome, writeText, writeBinary, textItemLeft, binaryItemLeft}
+use Rattle.format.specs.Writing.{named, isNamed, isFit, unitsOf, Writing, writing}
+use Rattle.format.specs.Writing.{textOutcome, binaryOutcome, writeText, writeBinary, textItemLeft, binaryItemLeft}
 use Rattle.format.specs.Writing.Writing.{refused, written}
 use Rattle.judging.proofs.Laws.{to-end}
 use Rattle.writing.specs.Cursor.{textFrom, binaryFrom, writeTextAt, writeBinaryAt, textLeftAt, binaryLeftAt}

@@ -1,6 +1,6 @@
 -- What is known of a code that is named and fits: a row of the registry is sound, and its first bytes are those that its sextets
 -- make, one test that antt computes over the whole table. Assumes nothing.
-use mathlib.Core.Path.{_≡_, refl, sym, ap, _∙_}
+use mathlib.Core.Path.{_≡_, refl, _∙_}
 use mathlib.Core.List.{List, [], _∷_}
 use mathlib.Core.Bool.{Bool, true, false}
 use mathlib.Core.Logic.{_⊎_, inl, inr}
@@ -13,7 +13,6 @@ use Rattle.base.specs.Pick.{pick, pick-by}
 use Rattle.base.specs.Table.{both, both-left, both-right}
 use Rattle.base.specs.Each.{each}
 use Rattle.format.specs.declared.CodeRow.{CodeRow}
-use Rattle.format.specs.declared.Kind.{Kind}
 use Rattle.format.specs.declared.Kind.the-variants.{Fixed, Variable, Group, Genus}
 use Rattle.format.specs.declared.Opening.{Opening}
 use Rattle.format.specs.declared.Opening.the-variants.{Unknown, Short, LargeVariable, LargeGroup, Version}
@@ -25,7 +24,7 @@ use Rattle.format.specs.Registry.{codes, isType, fixedAmong, fixed}
 use Rattle.format.specs.Values.{rawStart}
 use Rattle.format.specs.Writing.{Named, namedFixed, named, isFit, fitsRow, fitsVariable, rawSize, rawLimit, rawPrefix, codeSextets}
 use Rattle.format.specs.Writing.Named.{unknown, row, variable}
-use Rattle.laws.specs.Registry.{Sound, Finds, fixed-finds}
+use Rattle.laws.specs.Registry.{Finds, fixed-finds}
 use Rattle.writing.specs.Plan.{Able, padTo, rowHead}
 
 -- ---- fit

@@ -1,27 +1,27 @@
 -- The plan case by case, and what it says of the item. Assumes nothing.
-use mathlib.Core.Path.{_≡_, refl, sym, ap, _∙_, subst}
-use mathlib.Core.List.{List, [], _∷_, _++_, map}
-use mathlib.Core.Bool.{Bool, true, false}
+use mathlib.Core.Path.{_≡_, sym, ap, _∙_}
+use mathlib.Core.List.{List, _++_, map}
+use mathlib.Core.Bool.{true, false}
 use mathlib.Core.Logic.{_⊎_, inl, inr, ⊎-elim}
-use Prim.Native.Nat.{ℕ, zero, suc, _+_, _-_, _*_, _/_, _%_, _<_, _≤_}
+use Prim.Native.Nat.{ℕ, zero, suc, _+_, _-_, _*_, _/_, _<_, _≤_}
 use native.Mathlib.Omega.{arith}
 use borrow.Author.Tests.{lt-ltb, le-ltb, eq-eqb, ne-eqb, eqb-true, eqb-false}
 use lib.Dec.{eqb, ltb}
-use lib.ListN.{length, take, drop, replicate, length-append, length-replicate, length-map}
+use lib.ListN.{length, take, replicate, length-append, length-replicate, length-map}
 use lib.Seq.{length-take-le}
 use Rattle.base.specs.Pick.{pick, pick-by}
 use Rattle.base.specs.Cases.{whether}
 use Rattle.base.specs.Each.{each, each-take, each-within}
 use Rattle.format.specs.declared.CodeRow.{CodeRow}
-use Rattle.format.specs.declared.Kind.the-variants.{Fixed, Variable, Group, Genus}
+use Rattle.format.specs.declared.Kind.the-variants.{Fixed}
 use Rattle.format.specs.declared.Code.{Code}
 use Rattle.format.specs.Alphabet.{sextetOf}
 use Rattle.format.specs.Units.{bytesOf}
 use Rattle.format.specs.Conversion.{firstStranger}
 use Rattle.format.specs.Registry.{prepadOf}
 use Rattle.format.specs.Values.{rawStart}
-use Rattle.format.specs.Writing.{Named, named, isNamed, isFit, rawSize, leadFor, countFor, codeSextets, rawPrefix, tagPrefix, rowPrefix}
-use Rattle.format.specs.Writing.{variableHeader, variablePrefix, itemBytes, unitsOf, Writing, writing}
+use Rattle.format.specs.Writing.{Named, named, isNamed, isFit, rawSize, leadFor, countFor, codeSextets, tagPrefix, rowPrefix}
+use Rattle.format.specs.Writing.{variableHeader, variablePrefix, itemBytes, unitsOf, writing}
 use Rattle.format.specs.Writing.Named.{unknown, row, variable}
 use Rattle.format.specs.Writing.Writing.{refused, written}
 use Rattle.laws.specs.Registry.{Sound}

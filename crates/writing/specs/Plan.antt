@@ -1,6 +1,6 @@
 -- Format's writing in the types of the code: the code that is named, the first sextets of its item, and the plan of the item before
 -- its room is asked. Assumes nothing.
-use Prim.Native.Nat.{ℕ, _+_, _-_, _*_, _/_, _%_, _≤_}
+use Prim.Native.Nat.{ℕ, _+_, _-_, _/_, _%_, _≤_}
 use mathlib.Core.Path.{_≡_}
 use mathlib.Core.List.{List, [], _∷_, _++_, map}
 use mathlib.Core.Logic.{_⊎_}
@@ -18,7 +18,6 @@ use Rattle.format.specs.Writing as F
 use Rattle.laws.specs.Registry.{Sound}
 use Rattle.writing.specs.declared.Named.{Named}
 use Rattle.writing.specs.declared.Named.the-variants as N
-use Rattle.writing.specs.declared.Planned.{Planned}
 use Rattle.writing.specs.declared.Planned.the-variants as P
 use Rattle.writing.specs.declared.Plan.{Plan}
 

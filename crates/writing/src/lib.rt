@@ -10,7 +10,7 @@ use format::TextOffset;
 use format::TextWritten;
 ghost use mathlib.Core.Path.{_≡_};
 ghost use mathlib.Core.List.{_++_, map};
-ghost use Prim.Native.Nat.{_+_, _-_, _*_, _<_, _≤_, _/_, _%_, min};
+ghost use Prim.Native.Nat.{_+_, _*_, _<_, _≤_, _/_, _%_, min};
 ghost use lib.Dec.{eqb};
 ghost use lib.ListN.{length, take, drop};
 ghost use lib.Seq.{paste};
