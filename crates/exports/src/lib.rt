@@ -1,12 +1,26 @@
 // The public calls for C and Rust, on numbers and byte slices: a number, 0 for accepted, and what else there is to say behind
 // `answer`. Nothing is decided here.
+use format::BinaryFound;
+use format::BinaryOffset;
+use format::BinaryWritten;
+use format::Code;
+use format::Primitive;
 use format::Reported;
+use format::TextFound;
+use format::TextOffset;
+use format::TextWritten;
 use format::ToBinary;
 use format::ToText;
 ghost use mathlib.Core.Path.{_≡_};
 ghost use lib.ListN.{length};
 ghost use Rattle.format.specs.Conversion.{textToBinary, toBinaryNumber, toBinaryValue, binaryLeft, binaryToText, toTextNumber, toTextValue, textLeft};
 ghost use Rattle.format.specs.Units.{text, binary};
+ghost use Rattle.format.specs.Reading.{readText, readBinary, rawLeft};
+ghost use Rattle.format.specs.Writing.{writeText, textItemLeft, writeBinary, binaryItemLeft};
+ghost use Rattle.exports.specs.Answers.{charsOf, letterOf, codeFrom, infoOf};
+ghost use Rattle.exports.specs.Answers.{textFoundNumber, textFoundValue, textTagLeft, textInfoLeft};
+ghost use Rattle.exports.specs.Answers.{binaryFoundNumber, binaryFoundValue, binaryTagLeft, binaryInfoLeft};
+ghost use Rattle.exports.specs.Answers.{textWrittenNumber, textWrittenValue, binaryWrittenNumber, binaryWrittenValue};
 ghost use Rattle.format.specs.Report.{reportAnswer, reportNumber, reportValue, reportLeft};
 
 // answer: the length written, or the place in the text.
@@ -79,6 +93,179 @@ pub extern "C" fn cesr_report_binary(stream: &[u8], out: &mut [u8], answer: &mut
             0
         }
         Reported::Refused(number, place) => {
+            *answer = place;
+            number
+        }
+    }
+}
+
+// ---- reading and writing a primitive
+
+fn wide(x: u8) -> usize
+    ensures { λ r. ⌜ r ≡ x ⌝ }
+{
+    x as usize
+}
+
+fn chars_of(code: Code) -> usize
+    ensures { λ r. ⌜ r ≡ charsOf code ⌝ }
+{
+    match code {
+        Code::Fixed { chars, letter: _ } => wide(chars),
+        Code::Small { letter: _ } => 5,
+        Code::Large { letter: _ } => 6,
+    }
+}
+
+fn letter_of(code: Code) -> usize
+    ensures { λ r. ⌜ r ≡ letterOf code ⌝ }
+{
+    match code {
+        Code::Fixed { chars: _, letter } => wide(letter),
+        Code::Small { letter } => wide(letter),
+        Code::Large { letter } => wide(letter),
+    }
+}
+
+fn info_of(p: Primitive) -> [usize; 6]
+    ensures { λ r. ⌜ r ≡ infoOf p ⌝ }
+{
+    let code = p.code;
+    let chars = chars_of(code);
+    let letter = letter_of(code);
+    [chars, letter, p.size, p.start, p.raw, p.tags]
+}
+
+fn code_from(chars: u8, letter: u8) -> Code
+    ensures { λ r. ⌜ r ≡ codeFrom chars letter ⌝ }
+{
+    if chars == 5 {
+        return Code::Small { letter };
+    }
+    if chars == 6 {
+        return Code::Large { letter };
+    }
+    Code::Fixed { chars, letter }
+}
+
+// answer: the raw length, or the place in the text. A refused call writes to no other place.
+#[no_mangle]
+pub extern "C" fn cesr_read_text(
+    stream: &[u8],
+    at: usize,
+    out: &mut [u8],
+    tag: &mut [u8; 11],
+    info: &mut [usize; 6],
+    answer: &mut usize,
+) -> u8
+    ensures { λ r. ⌜ r ≡ textFoundNumber (readText (now (stream .entry)) at (length (now (out .entry))) .found) ⌝ }
+    ensures { λ r. ⌜ now (answer .exit) ≡ textFoundValue (readText (now (stream .entry)) at (length (now (out .entry))) .found) ⌝ }
+    ensures { λ r. ⌜ now (out .exit) ≡ rawLeft (readText (now (stream .entry)) at (length (now (out .entry))) .found) (now (stream .entry)) at (now (out .entry)) ⌝ }
+    ensures { λ r. ⌜ now (tag .exit) ≡ textTagLeft (readText (now (stream .entry)) at (length (now (out .entry))) .found) (readText (now (stream .entry)) at (length (now (out .entry))) .tag) (now (tag .entry)) ⌝ }
+    ensures { λ r. ⌜ now (info .exit) ≡ textInfoLeft (readText (now (stream .entry)) at (length (now (out .entry))) .found) (now (info .entry)) ⌝ }
+{
+    let read = reading::read_text(stream, TextOffset(at), out);
+    let found = read.found;
+    let characters = read.tag;
+    match found {
+        TextFound::Found(p) => {
+            let numbers = info_of(p);
+            *tag = characters;
+            *info = numbers;
+            *answer = p.raw;
+            0
+        }
+        TextFound::Refused(number, place) => {
+            *answer = place.0;
+            number
+        }
+    }
+}
+
+// answer: the raw length, or the place in the binary. The raw value lies in the stream, where info says.
+#[no_mangle]
+pub extern "C" fn cesr_read_binary(
+    stream: &[u8],
+    at: usize,
+    tag: &mut [u8; 11],
+    info: &mut [usize; 6],
+    answer: &mut usize,
+) -> u8
+    ensures { λ r. ⌜ r ≡ binaryFoundNumber (readBinary (now (stream .entry)) at .found) ⌝ }
+    ensures { λ r. ⌜ now (answer .exit) ≡ binaryFoundValue (readBinary (now (stream .entry)) at .found) ⌝ }
+    ensures { λ r. ⌜ now (tag .exit) ≡ binaryTagLeft (readBinary (now (stream .entry)) at .found) (readBinary (now (stream .entry)) at .tag) (now (tag .entry)) ⌝ }
+    ensures { λ r. ⌜ now (info .exit) ≡ binaryInfoLeft (readBinary (now (stream .entry)) at .found) (now (info .entry)) ⌝ }
+{
+    let read = reading::read_binary(stream, BinaryOffset(at));
+    let found = read.found;
+    let characters = read.tag;
+    match found {
+        BinaryFound::Found(p) => {
+            let numbers = info_of(p);
+            *tag = characters;
+            *info = numbers;
+            *answer = p.raw;
+            0
+        }
+        BinaryFound::Refused(number, place) => {
+            *answer = place.0;
+            number
+        }
+    }
+}
+
+// answer: the length written, or the place: for 5 the index among the tag characters.
+#[no_mangle]
+pub extern "C" fn cesr_write_text(
+    chars: u8,
+    letter: u8,
+    tag: &[u8; 11],
+    tags: usize,
+    raw: &[u8],
+    out: &mut [u8],
+    answer: &mut usize,
+) -> u8
+    ensures { λ r. ⌜ r ≡ textWrittenNumber (writeText (codeFrom chars letter) (now (tag .entry)) tags (now (raw .entry)) (length (now (out .entry)))) ⌝ }
+    ensures { λ r. ⌜ now (answer .exit) ≡ textWrittenValue (writeText (codeFrom chars letter) (now (tag .entry)) tags (now (raw .entry)) (length (now (out .entry)))) ⌝ }
+    ensures { λ r. ⌜ now (out .exit) ≡ textItemLeft (writeText (codeFrom chars letter) (now (tag .entry)) tags (now (raw .entry)) (length (now (out .entry)))) (codeFrom chars letter) (now (tag .entry)) tags (now (raw .entry)) (now (out .entry)) ⌝ }
+{
+    let code = code_from(chars, letter);
+    let characters = *tag;
+    match writing::write_text(code, characters, tags, raw, out) {
+        TextWritten::Written(n) => {
+            *answer = n.0;
+            0
+        }
+        TextWritten::Refused(number, place) => {
+            *answer = place;
+            number
+        }
+    }
+}
+
+// answer: the length written, or the place: for 5 the index among the tag characters.
+#[no_mangle]
+pub extern "C" fn cesr_write_binary(
+    chars: u8,
+    letter: u8,
+    tag: &[u8; 11],
+    tags: usize,
+    raw: &[u8],
+    out: &mut [u8],
+    answer: &mut usize,
+) -> u8
+    ensures { λ r. ⌜ r ≡ binaryWrittenNumber (writeBinary (codeFrom chars letter) (now (tag .entry)) tags (now (raw .entry)) (length (now (out .entry)))) ⌝ }
+    ensures { λ r. ⌜ now (answer .exit) ≡ binaryWrittenValue (writeBinary (codeFrom chars letter) (now (tag .entry)) tags (now (raw .entry)) (length (now (out .entry)))) ⌝ }
+    ensures { λ r. ⌜ now (out .exit) ≡ binaryItemLeft (writeBinary (codeFrom chars letter) (now (tag .entry)) tags (now (raw .entry)) (length (now (out .entry)))) (codeFrom chars letter) (now (tag .entry)) tags (now (raw .entry)) (now (out .entry)) ⌝ }
+{
+    let code = code_from(chars, letter);
+    let characters = *tag;
+    match writing::write_binary(code, characters, tags, raw, out) {
+        BinaryWritten::Written(n) => {
+            *answer = n.0;
+            0
+        }
+        BinaryWritten::Refused(number, place) => {
             *answer = place;
             number
         }
