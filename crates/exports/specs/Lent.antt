@@ -73,10 +73,10 @@ textStepValue (T.Refused number place) = place .0
 textStepValue T.End = 0
 
 -- what a place that held before holds afterwards: a refusal and the end leave it
-unfoldable pub textItemLeft : TextItem → List ℕ → List ℕ
-textItemLeft (T.Item o n d k h) before = itemOf (o .0) (n .0) d k h
-textItemLeft (T.Refused number place) before = before
-textItemLeft T.End before = before
+unfoldable pub textYieldLeft : TextItem → List ℕ → List ℕ
+textYieldLeft (T.Item o n d k h) before = itemOf (o .0) (n .0) d k h
+textYieldLeft (T.Refused number place) before = before
+textYieldLeft T.End before = before
 
 unfoldable pub textStateLeft : TextItem → Walk → List ℕ → List ℕ
 textStateLeft (T.Item o n d k h) w before = stateOf w
@@ -93,10 +93,10 @@ binaryStepValue (B.Item o n d k h) = 0
 binaryStepValue (B.Refused number place) = place .0
 binaryStepValue B.End = 0
 
-unfoldable pub binaryItemLeft : BinaryItem → List ℕ → List ℕ
-binaryItemLeft (B.Item o n d k h) before = itemOf (o .0) (n .0) d k h
-binaryItemLeft (B.Refused number place) before = before
-binaryItemLeft B.End before = before
+unfoldable pub binaryYieldLeft : BinaryItem → List ℕ → List ℕ
+binaryYieldLeft (B.Item o n d k h) before = itemOf (o .0) (n .0) d k h
+binaryYieldLeft (B.Refused number place) before = before
+binaryYieldLeft B.End before = before
 
 unfoldable pub binaryStateLeft : BinaryItem → Walk → List ℕ → List ℕ
 binaryStateLeft (B.Item o n d k h) w before = stateOf w
