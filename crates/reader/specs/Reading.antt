@@ -16,16 +16,15 @@ opened src = record { src = src; walk = start }
 abbrev pub resumedAt : Reader → Walk → Reader
 resumedAt r w = record { src = r .src; walk = w }
 
--- the stream with a step's two parts
-abbrev pub textWith : RefT (List ℕ) → TextStep → TextTaken
-textWith src s = record { src = src; walk = s .next; found = s .found }
+-- the reader at a step's next state, and what the step found
+abbrev pub textBehind : RefT (List ℕ) → TextStep → TextTaken
+textBehind src s = record { reader = record { src = src; walk = s .next }; found = s .found }
 
-abbrev pub binaryWith : RefT (List ℕ) → BinaryStep → BinaryTaken
-binaryWith src s = record { src = src; walk = s .next; found = s .found }
+abbrev pub binaryBehind : RefT (List ℕ) → BinaryStep → BinaryTaken
+binaryBehind src s = record { reader = record { src = src; walk = s .next }; found = s .found }
 
--- the reader handed back at the next state, and what was found
 abbrev pub textTaken : Reader → TextTaken
-textTaken r = textWith (r .src) (textStep (now (r .src)) (r .walk))
+textTaken r = textBehind (r .src) (textStep (now (r .src)) (r .walk))
 
 abbrev pub binaryTaken : Reader → BinaryTaken
-binaryTaken r = binaryWith (r .src) (binaryStep (now (r .src)) (r .walk))
+binaryTaken r = binaryBehind (r .src) (binaryStep (now (r .src)) (r .walk))

@@ -13,17 +13,15 @@ pub struct Reader<'a> {
     pub walk: Walk,
 }
 
-// What a step over a text found, with the reader's two parts behind it.
+// What a step over a text found, and the reader behind it.
 pub struct TextTaken<'a> {
-    pub src: &'a [u8],
-    pub walk: Walk,
+    pub reader: Reader<'a>,
     pub found: TextItem,
 }
 
 // The same of a binary.
 pub struct BinaryTaken<'a> {
-    pub src: &'a [u8],
-    pub walk: Walk,
+    pub reader: Reader<'a>,
     pub found: BinaryItem,
 }
 
@@ -66,8 +64,10 @@ impl<'a> Reader<'a> {
     {
         let stepped = self.walk.step_text(self.src);
         TextTaken {
-            src: self.src,
-            walk: stepped.next,
+            reader: Reader {
+                src: self.src,
+                walk: stepped.next,
+            },
             found: stepped.found,
         }
     }
@@ -78,8 +78,10 @@ impl<'a> Reader<'a> {
     {
         let stepped = self.walk.step_binary(self.src);
         BinaryTaken {
-            src: self.src,
-            walk: stepped.next,
+            reader: Reader {
+                src: self.src,
+                walk: stepped.next,
+            },
             found: stepped.found,
         }
     }
