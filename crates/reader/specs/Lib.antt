@@ -1,1 +1,5 @@
 pub mod Reading
+pub mod Counting
+pub mod Claims
+pub mod Runs
+pub mod Proved
