@@ -1,53 +1,20 @@
 -- The claims on the reader and on the counted walk hold. Assumes nothing.
 use Prim.Native.Nat.{ℕ, zero, suc, _+_, _<_, _≤_}
-use mathlib.Core.Path.{_≡_, refl, sym, ap, _∙_, subst}
+use mathlib.Core.Path.{_≡_, sym, ap, _∙_, subst}
 use mathlib.Core.List.{List}
 use mathlib.Core.Logic.{⊎-elim}
 use native.Mathlib.Omega.{arith}
 use lib.ListN.{length, length-replicate}
-use denote.Ref.{now}
 use Rattle.format.specs.Units.{Domain, text, binary}
 use Rattle.format.specs.Judging.{maxDepth}
-use Rattle.walk.specs.declared.Walk.{Walk}
-use Rattle.walk.specs.declared.Found.{Found}
-use Rattle.walk.specs.declared.Found.the-variants as F
-use Rattle.walk.specs.Walking.{start, stepIn, textItem, textStep, binaryItem, binaryStep}
+use Rattle.walk.specs.Walking.{start}
 use Rattle.walk_claims.specs.Words.{unitsIn, after, foundAt, Yields, Stops}
 use Rattle.walk_claims.specs.Claims.{StreamClaims}
 use Rattle.walk_claims.specs.Proved as W
-use Rattle.reader.specs.declared.Reader.{Reader}
-use Rattle.reader.specs.Reading.{textTaken, binaryTaken}
 use Rattle.reader.specs.Counting.{Tally, none, plus, runIn, restIn}
 use Rattle.reader.specs.Runs.{one-of, run-stopped, run-yields, run-stops}
-use Rattle.reader.specs.Claims.{TextStops, BinaryStops, CountClaims, ReaderClaims}
-
--- ---- the reader at a refusal or the end
-
-text-stop : (f : Found) → TextStops (textItem f) → Stops f
-unfolding textItem
-text-stop (F.Item o n d k h) s = absurd s
-text-stop (F.Refused m p) s = tt
-text-stop F.End s = tt
-
-text-stays : (r : Reader) → TextStops (textTaken r .found) → textTaken r .reader ≡ r
-unfolding textStep
-text-stays r s =
-    ap (λ (w : Walk). record { src = r .src; walk = w })
-    (W.proved .of-text (now (r .src)) .stays (r .walk) (text-stop (stepIn text (now (r .src)) (r .walk) .found) s))
-
-binary-stop : (f : Found) → BinaryStops (binaryItem f) → Stops f
-unfolding binaryItem
-binary-stop (F.Item o n d k h) s = absurd s
-binary-stop (F.Refused m p) s = tt
-binary-stop F.End s = tt
-
-binary-stays : (r : Reader) → BinaryStops (binaryTaken r .found) → binaryTaken r .reader ≡ r
-unfolding binaryStep
-binary-stays r s =
-    ap (λ (w : Walk). record { src = r .src; walk = w })
-    (W.proved .of-binary (now (r .src)) .stays (r .walk) (binary-stop (stepIn binary (now (r .src)) (r .walk) .found) s))
-
--- ---- the count
+use Rattle.reader.specs.Behind.{text-taken, binary-taken}
+use Rattle.reader.specs.Claims.{CountClaims, ReaderClaims}
 
 module _ (d : Domain) (xs : List ℕ) where
   -- k steps at most, from the state behind j
@@ -102,10 +69,8 @@ module _ (d : Domain) (xs : List ℕ) where
 
 pub proved : ReaderClaims
 proved = record {
-  text-stays = text-stays;
-  binary-stays = binary-stays;
-  text-keeps = λ r. refl;
-  binary-keeps = λ r. refl;
+  text-next = text-taken;
+  binary-next = binary-taken;
   of-text = λ xs. claims text xs (W.proved .of-text xs);
   of-binary = λ xs. claims binary xs (W.proved .of-binary xs);
 }
