@@ -1,0 +1,21 @@
+-- `reader::items_text` meets its contract: what is left from the start. Assumes nothing.
+use mathlib.Core.Path.{_∙_}
+use borrow.Author.Needs.{needs}
+use Rattle.reader.proofs.items_text.Statement.{statement}
+use Rattle.reader.proofs.items_text.Tie as tie
+use Rattle.reader.proofs.items_text.Reads as reads
+use Rattle.reader.proofs.items_text.Lts as lts
+use Rattle.reader.proofs.rest_text.Reads as rest-text-reads
+use Rattle.walk.proofs.Walk.new.Reads as new-reads
+
+new-requires : tie.Need-new-requires
+new-requires c κs = search needs
+
+rest-text-requires : tie.Need-rest-text-requires
+rest-text-requires c κs = search needs
+
+returns : tie.Need-returns
+returns c = c .rest-text .ensures ∙ rw (c .before .new .ensures)
+
+pub items-text-spec : {M : Type 1} → statement M
+items-text-spec = tie.close (tie.spec new-requires rest-text-requires returns)

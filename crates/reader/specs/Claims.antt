@@ -1,0 +1,35 @@
+-- What is claimed of the reader and of the counted walk. Statements only, each below the words of 01 or of the reader's issue.
+-- Proved in Proved. Assumes nothing.
+use Prim.Native.Nat.{ℕ, _<_, _≤_}
+use mathlib.Core.Path.{_≡_}
+use mathlib.Core.List.{List}
+use denote.Ref.{now}
+use Rattle.format.specs.Units.{Domain, text, binary}
+use Rattle.walk.specs.Walking.{start, textStep, binaryStep}
+use Rattle.walk_claims.specs.Words.{unitsIn, foundAt, Yields, Stops}
+use Rattle.reader.specs.declared.Reader.{Reader}
+use Rattle.reader.specs.Reading.{textTaken, binaryTaken}
+use Rattle.reader.specs.Behind.{textAt, binaryAt}
+use Rattle.reader.specs.Counting.{restIn}
+
+-- ---- of the walk of a stream, counted from the start
+
+pub record CountClaims (d : Domain) (xs : List ℕ) : Type 0 where
+  -- the steps before the count each yield an item
+  pub yields : (i : ℕ) → i < restIn d xs start .items → Yields (foundAt d xs i)
+  -- the step behind them yields none, and what it finds is the answer
+  pub stops : Stops (foundAt d xs (restIn d xs start .items))
+  pub last : restIn d xs start .last ≡ foundAt d xs (restIn d xs start .items)
+  -- an item takes a unit at least
+  pub bound : restIn d xs start .items ≤ unitsIn d xs
+
+-- ---- all of it
+
+pub record ReaderClaims : Type 0 where
+  -- "keeps the stream it was opened over beside its place": the reader handed back is over the same stream, at the next state of
+  -- the walk's step, and beside it is what the step found. That a refusal or the end leaves it as it was is Reading's definition.
+  pub text-next : (r : Reader) → textTaken r ≡ textAt r (textStep (now (r .src)) (r .walk))
+  pub binary-next : (r : Reader) → binaryTaken r ≡ binaryAt r (binaryStep (now (r .src)) (r .walk))
+  -- the issue: "the number of items of a stream and how the walk ended"
+  pub of-text : (xs : List ℕ) → CountClaims text xs
+  pub of-binary : (xs : List ℕ) → CountClaims binary xs

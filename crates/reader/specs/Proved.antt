@@ -1,0 +1,76 @@
+-- The claims on the reader and on the counted walk hold. Assumes nothing.
+use Prim.Native.Nat.{ℕ, zero, suc, _+_, _<_, _≤_}
+use mathlib.Core.Path.{_≡_, sym, ap, _∙_, subst}
+use mathlib.Core.List.{List}
+use mathlib.Core.Logic.{⊎-elim}
+use native.Mathlib.Omega.{arith}
+use lib.ListN.{length, length-replicate}
+use Rattle.format.specs.Units.{Domain, text, binary}
+use Rattle.format.specs.Judging.{maxDepth}
+use Rattle.walk.specs.Walking.{start}
+use Rattle.walk_claims.specs.Words.{unitsIn, after, foundAt, Yields, Stops}
+use Rattle.walk_claims.specs.Claims.{StreamClaims}
+use Rattle.walk_claims.specs.Proved as W
+use Rattle.reader.specs.Counting.{Tally, none, plus, runIn, restIn}
+use Rattle.reader.specs.Runs.{one-of, run-stopped, run-yields, run-stops}
+use Rattle.reader.specs.Behind.{text-taken, binary-taken}
+use Rattle.reader.specs.Claims.{CountClaims, ReaderClaims}
+
+module _ (d : Domain) (xs : List ℕ) where
+  -- k steps at most, from the state behind j
+  pub record Counted (k j : ℕ) (t : Tally) : Type 0 where
+    pub yields : (i : ℕ) → i < t .items → Yields (foundAt d xs (j + i))
+    pub last : t .last ≡ foundAt d xs (j + t .items)
+    pub bound : t .items ≤ k
+
+  stopped : (k j : ℕ) → Counted k j (none (foundAt d xs j))
+  stopped k j =
+      let z : j ≡ j + 0 = omega arith in
+      record { yields = λ i h. absurd (omega arith); last = ap (foundAt d xs) z; bound = omega arith }
+
+  more : (k j : ℕ) (t : Tally) → Yields (foundAt d xs j) → Counted k (suc j) t → Counted (suc k) j (plus 1 t)
+  more k j t y c = record {
+    yields = first;
+    last = let z : suc j + t .items ≡ j + (1 + t .items) = omega arith in c .last ∙ ap (foundAt d xs) z;
+    bound = let b = c .bound in omega arith;
+  }
+    where
+      first : (i : ℕ) → i < 1 + t .items → Yields (foundAt d xs (j + i))
+      first zero h = let z : j ≡ j + 0 = omega arith in subst (λ (x : ℕ). Yields (foundAt d xs x)) z y
+      first (suc i) h =
+          let z : suc j + i ≡ j + suc i = omega arith in
+          subst (λ (x : ℕ). Yields (foundAt d xs x)) z (c .yields i (omega arith))
+
+  counted : (k j : ℕ) → Counted k j (runIn d xs k (after d xs j))
+  unfolding runIn after
+  counted zero j = stopped zero j
+  counted (suc k) j =
+      ⊎-elim (λ y. subst (Counted (suc k) j) (sym (run-yields d xs k (after d xs j) y)) (more k j _ y (counted k (suc j))))
+      (λ s. subst (Counted (suc k) j) (sym (run-stopped d xs (suc k) (after d xs j) s)) (stopped (suc k) j))
+      (one-of (foundAt d xs j))
+
+  start-full : length (start .ends) ≡ maxDepth
+  unfolding start
+  start-full = length-replicate {A = ℕ} maxDepth 0
+
+  claims : StreamClaims d xs → CountClaims d xs
+  unfolding restIn after
+  claims C =
+      let c = counted (unitsIn d xs) 0 in
+      let z : 0 + runIn d xs (unitsIn d xs) start .items ≡ runIn d xs (unitsIn d xs) start .items = omega arith in
+      let l : runIn d xs (unitsIn d xs) start .last ≡ foundAt d xs (runIn d xs (unitsIn d xs) start .items) =
+      c .last ∙ ap (foundAt d xs) z in
+      record {
+        yields = λ i h. let e : 0 + i ≡ i = omega arith in subst (λ (x : ℕ). Yields (foundAt d xs x)) e (c .yields i h);
+        stops = subst Stops l (run-stops d xs C (unitsIn d xs) start start-full (omega arith));
+        last = l;
+        bound = c .bound;
+      }
+
+pub proved : ReaderClaims
+proved = record {
+  text-next = text-taken;
+  binary-next = binary-taken;
+  of-text = λ xs. claims text xs (W.proved .of-text xs);
+  of-binary = λ xs. claims binary xs (W.proved .of-binary xs);
+}
