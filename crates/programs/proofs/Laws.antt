@@ -20,7 +20,7 @@ use Rattle.claims.specs.Claims.{Demand3}
 use Rattle.claims.specs.Room.{report-fits}
 use Rattle.programs.specs.declared.Input.{Input}
 use Rattle.programs.specs.declared.Input.the-variants.{Failed, Whole}
-use Rattle.programs.specs.Printed.{printed, Fits}
+use Rattle.programs.specs.Printed.{printed, printedAnswer, printedLeft, Fits}
 
 wider : (n u : ℕ) → 3 ≤ u → n * 3 ≤ n * u
 wider zero u l = omega arith
@@ -60,20 +60,24 @@ module _ (d : Domain) (G : Reader d) where
 
     pub prints : length xs ≤ 8192 → (r : Reported) → r ≡ reportAnswer d xs (length out) → (out′ : List ℕ) → out′ ≡ reportLeft r d xs out
         → (n : ℕ) → r ≡ R.Written n
-        → (n ≡ length (printed d xs)) × (out′ ≡ printed d xs ++ drop n out) × Counts n out′
-    unfolding printed reportLeft
+        → (n ≡ printedAnswer d xs (length out)) × ((out′ ≡ printedLeft d xs out) × Counts n out′)
+    unfolding printed printedAnswer printedLeft reportLeft
     prints l r e out′ f n q =
         let w : R.Written n ≡ R.Written (length (report d xs)) = sym q ∙ e ∙ answered l in
         let z : n ≡ length (report d xs) = cc in
         let g : out′ ≡ report d xs ++ drop n out = f ∙ rw q in
         let m : n ≤ length out′ = rw g (omega (arith, length-append (report d xs) (drop n out))) in
-        rw (le-ltb 8192 (length xs) l) (z, g, counts n out′ m)
+        rw (le-ltb 8192 (length xs) l, le-ltb (length out) 49157 room) (z, (g ∙ ap (λ (k : ℕ). report d xs ++ drop k out) z, counts n out′ m))
 
     pub never : length xs ≤ 8192 → (r : Reported) → r ≡ reportAnswer d xs (length out) → (a b : ℕ) → r ≡ R.Refused a b → _≡_ {A = ℕ} 0 1
     never l r e a b q = let w : R.Refused a b ≡ R.Written (length (report d xs)) = sym q ∙ e ∙ answered l in cc
 
   pub prints-one : (xs out : List ℕ) → 49157 ≤ length out → 8192 < length xs
-      → (1 ≡ length (printed d xs)) × (set out 0 1 ≡ printed d xs ++ drop 1 out) × Counts 1 (set out 0 1)
-  unfolding printed
+      → (1 ≡ printedAnswer d xs (length out)) × ((set out 0 1 ≡ printedLeft d xs out) × Counts 1 (set out 0 1))
+  unfolding printed printedAnswer printedLeft
   prints-one xs [] l k = absurd (omega arith)
-  prints-one xs (b ∷ out) l k = rw (lt-ltb 8192 (length xs) k) (refl, refl, (omega arith, refl))
+  prints-one xs (b ∷ out) l k = rw (lt-ltb 8192 (length xs) k, le-ltb (length (b ∷ out)) 49157 l) (refl, (refl, (omega arith, refl)))
+
+pub prints-none : (d : Domain) (xs out : List ℕ) → length out < 49157 → (0 ≡ printedAnswer d xs (length out)) × ((out ≡ printedLeft d xs out) × Counts 0 out)
+unfolding printedAnswer printedLeft
+prints-none d xs out l = rw (lt-ltb (length out) 49157 l) (refl, (refl, (omega arith, refl)))

@@ -1,15 +1,13 @@
-// What the two programs share: a stream from standard input, told apart from one that a failed read cut off, and its report to
-// standard output. Assumed: the contracts of the C library's read and write.
+// What the two programs share: a stream from standard input, told from one that a failed read cut off, and what is to be written.
+// Assumed: the contract of the C library's read.
 use format::Reported;
 use libc::STDIN_FILENO;
-use libc::STDOUT_FILENO;
 ghost use mathlib.Core.Path.{_≡_};
-ghost use mathlib.Core.List.{_++_};
 ghost use Prim.Native.Nat.{_≤_};
-ghost use lib.ListN.{length, drop};
+ghost use lib.ListN.{length};
 ghost use Rattle.io.specs.Counts.{Counts};
 ghost use Rattle.format.specs.Units.{text, binary};
-ghost use Rattle.programs.specs.Printed.{printed, Fits, Came};
+ghost use Rattle.programs.specs.Printed.{printedAnswer, printedLeft, Fits, Came};
 
 // What came from standard input: whole, so many bytes, or cut off by a read that failed.
 pub enum Input {
@@ -50,10 +48,15 @@ pub fn read_stream(buffer: &mut [u8]) -> Input
     Input::Whole(done)
 }
 
-fn answer_text(s: &[u8], out: &mut [u8]) -> usize
-    requires { ⌜ 49157 ≤ length (now out) ⌝ }
-    ensures { λ r. ⌜ (r ≡ length (printed text (now (s .entry)))) × (now (out .exit) ≡ printed text (now (s .entry)) ++ drop r (now (out .entry))) × (Counts r (now (out .exit))) ⌝ }
+// What the text program writes, at the start of out: room for 49,157 bytes serves every stream.
+pub fn answer_text(s: &[u8], out: &mut [u8]) -> usize
+    ensures { λ r. ⌜ r ≡ printedAnswer text (now (s .entry)) (length (now (out .entry))) ⌝ }
+    ensures { λ r. ⌜ now (out .exit) ≡ printedLeft text (now (s .entry)) (now (out .entry)) ⌝ }
+    ensures { λ r. ⌜ Counts r (now (out .exit)) ⌝ }
 {
+    if out.len() < 49157 {
+        return 0;
+    }
     if 8192 < s.len() {
         out[0] = 1;
         return 1;
@@ -64,10 +67,15 @@ fn answer_text(s: &[u8], out: &mut [u8]) -> usize
     }
 }
 
-fn answer_binary(s: &[u8], out: &mut [u8]) -> usize
-    requires { ⌜ 49157 ≤ length (now out) ⌝ }
-    ensures { λ r. ⌜ (r ≡ length (printed binary (now (s .entry)))) × (now (out .exit) ≡ printed binary (now (s .entry)) ++ drop r (now (out .entry))) × (Counts r (now (out .exit))) ⌝ }
+// What the binary program writes.
+pub fn answer_binary(s: &[u8], out: &mut [u8]) -> usize
+    ensures { λ r. ⌜ r ≡ printedAnswer binary (now (s .entry)) (length (now (out .entry))) ⌝ }
+    ensures { λ r. ⌜ now (out .exit) ≡ printedLeft binary (now (s .entry)) (now (out .entry)) ⌝ }
+    ensures { λ r. ⌜ Counts r (now (out .exit)) ⌝ }
 {
+    if out.len() < 49157 {
+        return 0;
+    }
     if 8192 < s.len() {
         out[0] = 1;
         return 1;
@@ -76,23 +84,4 @@ fn answer_binary(s: &[u8], out: &mut [u8]) -> usize
         Reported::Written(n) => n,
         Reported::Refused(_, _) => 0,
     }
-}
-
-// 49,157 = 17 + 18 x 2,730: room for every report of 8,192 bytes.
-fn room() -> [u8; 49157]
-    ensures { λ r. ⌜ 49157 ≡ length r ⌝ }
-{
-    [0; 49157]
-}
-
-pub fn print_text(s: &[u8]) {
-    let mut out = room();
-    let n = answer_text(s, &mut out);
-    io::write_all(STDOUT_FILENO, &out[..n]);
-}
-
-pub fn print_binary(s: &[u8]) {
-    let mut out = room();
-    let n = answer_binary(s, &mut out);
-    io::write_all(STDOUT_FILENO, &out[..n]);
 }
