@@ -113,9 +113,9 @@ fn each_by_itself(stream: &[u8], form: Form, whole: &Rows) -> Check {
     let mut refusals = Vec::new();
     for (index, [offset, size, verdict]) in whole.items.iter().enumerate() {
         let own = rows(&stream[*offset..offset + size], form);
-        let call = format!("item {index} by itself");
-        same(&call, own.items, vec![[0, *size, *verdict]])?;
-        same(&call, own.remainder, vec![])?;
+        same("by itself", own.items, vec![[0, *size, *verdict]])
+            .map_err(|why| format!("item {index} {why}"))?;
+        same("by itself", own.remainder, vec![])?;
         for [_, number, place] in own.refusals {
             refusals.push([index, number, place + offset]);
         }

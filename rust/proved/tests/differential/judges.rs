@@ -51,9 +51,8 @@ pub fn lent(
     for room in rooms(size) {
         let (mut ours, mut theirs) = (vec![0xAA; room], vec![0xAA; room]);
         let answers = (proved(&mut ours), oracle(&mut theirs));
-        let call = format!("{name}, room {room}");
-        same(&call, answers.0, answers.1)?;
-        same(&call, ours, theirs)?;
+        same(name, (answers.0, ours), (answers.1, theirs))
+            .map_err(|why| format!("room {room}, {why}"))?;
     }
     Ok(())
 }
@@ -124,9 +123,9 @@ fn read_text(stream: &[u8], at: usize) -> Check {
         let (mut tag, mut info) = BEFORE;
         let answer = proved::read_text(stream, at, &mut ours, &mut tag, &mut info);
         let found = oracle::primitive::read_text(stream, at, &mut theirs);
-        let call = format!("read at {at}, room {room}");
-        same(&call, (by_proved(answer), tag, info), expected(found, 4))?;
-        same(&call, ours, theirs)?;
+        let told = (expected(found, 4), theirs);
+        same("read", ((by_proved(answer), tag, info), ours), told)
+            .map_err(|why| format!("at {at}, room {room}, {why}"))?;
     }
     Ok(())
 }
@@ -135,16 +134,17 @@ fn read_binary(stream: &[u8], at: usize) -> Check {
     let (mut tag, mut info) = BEFORE;
     let answer = proved::read_binary(stream, at, &mut tag, &mut info);
     let found = oracle::primitive::read_binary(stream, at);
-    let call = format!("read at {at}");
     let told = expected(found.map(|(primitive, _)| primitive), 3);
-    same(&call, (by_proved(answer), tag, info), told)?;
-    match found {
-        Ok((_, part)) => {
-            let from = at + info[3];
-            same(&call, &stream[from..from + info[4]], part)
-        }
-        Err(_) => Ok(()),
-    }
+    let part = match found {
+        Ok((_, part)) => part,
+        Err(_) => &[],
+    };
+    let ours = match answer {
+        Ok(raw) => &stream[at + info[3]..at + info[3] + raw],
+        Err(_) => &[],
+    };
+    same("read", ((by_proved(answer), tag, info), ours), (told, part))
+        .map_err(|why| format!("at {at}, {why}"))
 }
 
 /// What the oracle found, in the proved library's numbers.

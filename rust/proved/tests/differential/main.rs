@@ -216,17 +216,21 @@ fn units(_: &mut Random, size: usize) -> Vec<u8> {
     b"1AAK".repeat(size / 4)
 }
 
+/// No shrinking here: the length is what matters. Long streams are walked at
+/// the limit itself alone, which is where the time goes.
 fn at_a_limit(made: &[u8], form: Form, seed: u64) {
+    let walked = made.len() < 10_000 || made.len() >= judges::oracle_form(form).limit();
     let check = |s: &[u8]| {
         judges::report(s, form)?;
         judges::conversion(s, form)?;
         for at in [0, 4, s.len() / 2, s.len() - 1, s.len()] {
             judges::read(s, form, at)?;
         }
-        walks::from_the_start(s, form)?;
+        if walked {
+            walks::from_the_start(s, form)?;
+        }
         walks::from_made_up(s, form, seed)
     };
-    // No shrinking: the length is what matters.
     if let Err(why) = check(made) {
         panic!("{form:?} of {} elements: {why}", made.len());
     }

@@ -95,11 +95,7 @@ pub fn one_step(stream: &[u8], form: Form, state: &mut State) -> Result<bool, St
         Form::Binary => proved::walk_binary(stream, state, &mut item),
     };
     let answer = answer.map_err(|refused| (refused.number, refused.place));
-    same(
-        &format!("walk from {before:?}"),
-        (answer, *state, item),
-        told,
-    )?;
+    same("walk", (answer, *state, item), told).map_err(|why| format!("from {before:?}, {why}"))?;
     Ok(answer == Ok(true))
 }
 

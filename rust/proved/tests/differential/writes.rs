@@ -38,11 +38,12 @@ pub fn alike(item: &Primitive) -> Check {
             oracle::Form::Binary => proved::write_binary,
         };
         lent(
-            &format!("write {item:02X?} as {form:?}"),
+            "write",
             size,
             |out| by_proved(call(item, out)),
             |out| by_oracle(write(named, &tag, item.raw, form, out)),
-        )?;
+        )
+        .map_err(|why| format!("{item:02X?} as {form:?}, {why}"))?;
     }
     Ok(())
 }
