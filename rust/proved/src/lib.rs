@@ -1,8 +1,13 @@
 //! The proved library's calls, declared once and made safe once.
 //!
 //! Nothing checks these declarations against the Rattle source, so they are
-//! few and on numbers and byte slices only: a slice is a pointer, then a
-//! length. The tests compare the answers with the baseline's.
+//! few and on numbers, byte slices and arrays only: a slice is a pointer, then
+//! a length. The tests compare the answers with the oracle's.
+
+mod declared;
+mod walk;
+
+pub use walk::{walk_binary, walk_text, Item, State};
 
 /// A refused call: 01's number, and the place in the stream's own measure.
 #[derive(Clone, Copy, Debug, PartialEq, Eq)]
@@ -11,38 +16,37 @@ pub struct Refusal {
     pub place: usize,
 }
 
-/// Stream, its length, buffer, its length, and where the answer goes: the
-/// length written if 0 is returned, else the place that goes with the number.
-type Call = unsafe extern "C" fn(*const u8, usize, *mut u8, usize, *mut usize) -> u8;
+/// Eleven places for tag characters; a reader leaves unused ones 0.
+pub type Tag = [u8; 11];
 
-extern "C" {
-    fn cesr_text_to_binary(
-        source: *const u8,
-        length: usize,
-        out: *mut u8,
-        room: usize,
-        answer: *mut usize,
-    ) -> u8;
-    fn cesr_binary_to_text(
-        source: *const u8,
-        length: usize,
-        out: *mut u8,
-        room: usize,
-        answer: *mut usize,
-    ) -> u8;
-}
+/// What a reader tells of a primitive: chars (1, 2 or 4 for a fixed code of so
+/// many characters, 5 for a small variable, 6 for a large one), the code's
+/// letter, the full size in units, where the raw value starts in bytes of the
+/// binary form from the item's start, its length, the number of tag
+/// characters.
+pub type Info = [usize; 6];
 
 /// Text to binary: 1, 2, 5, 3, else the number of bytes written.
 pub fn to_binary(text: &[u8], out: &mut [u8]) -> Result<usize, Refusal> {
-    lent(cesr_text_to_binary, text, out)
+    lent(declared::cesr_text_to_binary, text, out)
 }
 
 /// Binary to text: 1, 2, 3, else the number of characters written.
 pub fn to_text(binary: &[u8], out: &mut [u8]) -> Result<usize, Refusal> {
-    lent(cesr_binary_to_text, binary, out)
+    lent(declared::cesr_binary_to_text, binary, out)
 }
 
-fn lent(call: Call, source: &[u8], out: &mut [u8]) -> Result<usize, Refusal> {
+/// The report of a text: 1, 3, else its length.
+pub fn report_text(text: &[u8], out: &mut [u8]) -> Result<usize, Refusal> {
+    lent(declared::cesr_report_text, text, out)
+}
+
+/// The report of a binary: 1, 3, else its length.
+pub fn report_binary(binary: &[u8], out: &mut [u8]) -> Result<usize, Refusal> {
+    lent(declared::cesr_report_binary, binary, out)
+}
+
+fn lent(call: declared::Call, source: &[u8], out: &mut [u8]) -> Result<usize, Refusal> {
     let mut answer = 0;
     // SAFETY: both slices are valid for their lengths and do not overlap, and
     // the answer is a place of its own. The library asks nothing else of them.
@@ -55,6 +59,93 @@ fn lent(call: Call, source: &[u8], out: &mut [u8]) -> Result<usize, Refusal> {
             &mut answer,
         )
     };
+    answered(number, answer)
+}
+
+/// Reads a primitive of a text: the raw length, with the raw value at the
+/// start of `out`.
+pub fn read_text(
+    text: &[u8],
+    at: usize,
+    out: &mut [u8],
+    tag: &mut Tag,
+    info: &mut Info,
+) -> Result<usize, Refusal> {
+    let mut answer = 0;
+    // SAFETY: as in `lent`; tag and info are places of their own, of the
+    // lengths that the library writes.
+    let number = unsafe {
+        declared::cesr_read_text(
+            text.as_ptr(),
+            text.len(),
+            at,
+            out.as_mut_ptr(),
+            out.len(),
+            tag,
+            info,
+            &mut answer,
+        )
+    };
+    answered(number, answer)
+}
+
+/// Reads a primitive of a binary: the raw length; the raw value lies in the
+/// stream from `at` and info's start on.
+pub fn read_binary(
+    binary: &[u8],
+    at: usize,
+    tag: &mut Tag,
+    info: &mut Info,
+) -> Result<usize, Refusal> {
+    let mut answer = 0;
+    // SAFETY: as in `read_text`.
+    let number = unsafe {
+        declared::cesr_read_binary(binary.as_ptr(), binary.len(), at, tag, info, &mut answer)
+    };
+    answered(number, answer)
+}
+
+/// A primitive to write: its code as in `Info`, the tag characters and how
+/// many of them count, and the raw value.
+#[derive(Clone, Copy, Debug)]
+pub struct Primitive<'a> {
+    pub chars: u8,
+    pub letter: u8,
+    pub tag: Tag,
+    pub tags: usize,
+    pub raw: &'a [u8],
+}
+
+/// Writes a primitive as text: 6, 12, 5, 3, else the length written.
+pub fn write_text(item: &Primitive, out: &mut [u8]) -> Result<usize, Refusal> {
+    write(declared::cesr_write_text, item, out)
+}
+
+/// Writes a primitive as binary: 6, 12, 5, 3, else the length written.
+pub fn write_binary(item: &Primitive, out: &mut [u8]) -> Result<usize, Refusal> {
+    write(declared::cesr_write_binary, item, out)
+}
+
+fn write(call: declared::Write, item: &Primitive, out: &mut [u8]) -> Result<usize, Refusal> {
+    let mut answer = 0;
+    // SAFETY: as in `lent`; the tag is eleven bytes that are only read.
+    let number = unsafe {
+        call(
+            item.chars,
+            item.letter,
+            &item.tag,
+            item.tags,
+            item.raw.as_ptr(),
+            item.raw.len(),
+            out.as_mut_ptr(),
+            out.len(),
+            &mut answer,
+        )
+    };
+    answered(number, answer)
+}
+
+fn answered(number: u8, answer: usize) -> Result<usize, Refusal> {
     match number {
         0 => Ok(answer),
         _ => Err(Refusal {

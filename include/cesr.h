@@ -1,0 +1,115 @@
+/* CESR streams, judged: the calls of the proved library (crates/exports).
+ *
+ * Terms. T is text, in characters of URL-safe Base64; B is binary, in bytes. A unit is 4 characters in T, 3 bytes in B. Every call
+ * returns a number: 0 for accepted, or one of the numbers below for refused. A refused call writes to no buffer, tag, info, item or
+ * state: it writes only the place behind `answer`. An accepted call writes its answer from the buffer's start; bytes behind it stay.
+ * The place is the character for 5, else the item's start; 0 for 1, 2, 3, 12, 13 and for a writer's 6, and for a writer's 5 the index
+ * among the tag characters. Places, offsets and lengths count characters in T and bytes in B.
+ *
+ * What the caller ensures: no pointer is null, also where its length is 0; what is written (buffer, tag, info, item, state, answer)
+ * overlaps nothing else that the call is given; each length is that of the memory behind its pointer. The library keeps nothing
+ * between calls, allocates nothing and may be called from many threads at once. */
+#ifndef CESR_H
+#define CESR_H
+
+#include <stddef.h>
+#include <stdint.h>
+
+#ifdef __cplusplus
+extern "C" {
+#endif
+
+enum cesr_number {
+    CESR_ACCEPTED = 0,
+    CESR_TOO_LONG = 1,            /* stream longer than 4,194,304 characters or 3,145,728 bytes */
+    CESR_NOT_WHOLE_UNITS = 2,     /* whole-stream conversion: not whole units */
+    CESR_ROOM = 3,                /* output room too small */
+    CESR_PAST_END = 4,            /* header or full size passes the end of stream or enclosing group */
+    CESR_CHARACTER = 5,           /* character outside the alphabet (in T, or a tag character given to a writer) */
+    CESR_UNKNOWN_CODE = 6,        /* code unknown or reserved */
+    CESR_GENUS_VERSION = 7,       /* genus/version required but not AAACAA */
+    CESR_NOT_ZERO = 8,            /* pad bit or lead byte not zero */
+    CESR_LEAD_WITHOUT_VALUE = 9,  /* selector 5, 6, 8, 9 with n = 0 */
+    CESR_PREPAD = 10,             /* tag prepad not _ */
+    CESR_TOO_DEEP = 11,           /* group standing within 16 groups already */
+    CESR_UNFIT_LENGTH = 12,       /* writer: raw length or tag length unfit for the code */
+    CESR_UNFIT_STATE = 13,        /* walk state unfit for the stream */
+    CESR_NOT_A_PRIMITIVE = 14,    /* primitive asked for, group or genus/version found */
+    CESR_END = 255                /* the walk alone: the end of the stream */
+};
+
+/* T to B: 1, 2, 5, 3. Room asked is 3 bytes a unit. *answer: the bytes written, or the place. Refused, dst stays as it was. */
+uint8_t cesr_text_to_binary(const uint8_t *src, size_t src_len, uint8_t *dst, size_t dst_len, size_t *answer);
+
+/* B to T: 1, 2, 3. Room asked is 4 characters a unit. *answer: the characters written, or 0. Refused, dst stays as it was. */
+uint8_t cesr_binary_to_text(const uint8_t *src, size_t src_len, uint8_t *dst, size_t dst_len, size_t *answer);
+
+/* The report of a text: items (offset 4 bytes, size 4, verdict 1), refusals (item's index 4, number 1, place 4), remainder (offset 4,
+ * number 1), each section after its count in 4 bytes, all big-endian. Refused 1, then 3 exactly if out_len is below 17 + 18 x items.
+ * *answer: the length written, or 0. Bytes of out behind the report stay; refused, all of out stays as it was. */
+uint8_t cesr_report_text(const uint8_t *stream, size_t stream_len, uint8_t *out, size_t out_len, size_t *answer);
+
+/* The same of a binary. */
+uint8_t cesr_report_binary(const uint8_t *stream, size_t stream_len, uint8_t *out, size_t out_len, size_t *answer);
+
+/* A code is two numbers. chars: 1, 2 or 4 for a fixed code of so many characters, 5 for a small variable, 6 for a large one. letter:
+ * the code's last character, or the variable's type. */
+
+/* What info holds after an accepted read. */
+enum cesr_info {
+    CESR_INFO_CHARS = 0,
+    CESR_INFO_LETTER = 1,
+    CESR_INFO_SIZE = 2,  /* full size in units */
+    CESR_INFO_START = 3, /* where the raw value starts, in bytes of the item's binary form */
+    CESR_INFO_RAW = 4,   /* raw length in bytes */
+    CESR_INFO_TAGS = 5   /* number of tag characters */
+};
+
+/* Reads the primitive of a text at an offset: 1, 4 at or past the end, framing (never 7), 14, judging, 3. The raw value is copied to
+ * out; room asked is its length. The tag characters go to tag, unused places 0. *answer: the raw length, or the place. Refused, out,
+ * tag and info stay as they were; accepted, bytes of out behind the raw value stay. */
+uint8_t cesr_read_text(const uint8_t *stream, size_t stream_len, size_t at, uint8_t *out, size_t out_len, uint8_t tag[11],
+                       size_t info[6], size_t *answer);
+
+/* Reads the primitive of a binary at an offset: 1, 4 at or past the end, framing (never 7), 14, judging. The raw value isn't copied:
+ * it is the part of the stream of info[4] bytes from at + info[3] on. *answer: the raw length, or the place. Refused, tag and info
+ * stay as they were. */
+uint8_t cesr_read_binary(const uint8_t *stream, size_t stream_len, size_t at, uint8_t tag[11], size_t info[6], size_t *answer);
+
+/* Writes a primitive as text: 6 (any code that isn't a primitive's), 12, 5 (tags), 3. tags: how many places of tag count; the others
+ * are ignored. Room asked is the exact size. *answer: the characters written, or the place. Refused, out stays as it was; accepted,
+ * bytes behind the item stay. A second item goes into the rest of the buffer: out + *answer, out_len - *answer. */
+uint8_t cesr_write_text(uint8_t chars, uint8_t letter, const uint8_t tag[11], size_t tags, const uint8_t *raw, size_t raw_len,
+                        uint8_t *out, size_t out_len, size_t *answer);
+
+/* The same as binary. */
+uint8_t cesr_write_binary(uint8_t chars, uint8_t letter, const uint8_t tag[11], size_t tags, const uint8_t *raw, size_t raw_len,
+                          uint8_t *out, size_t out_len, size_t *answer);
+
+/* The walk's state: the ends of at most sixteen open groups, outermost first, unused slots 0; the number open; the position; whether
+ * the next item is first in an overrideable group (0 or 1; any other value is 13). Ends and position count units, in T and in B.
+ * Nineteen zeros are the start of every stream. */
+enum cesr_state { CESR_STATE_ENDS = 0, CESR_STATE_OPEN = 16, CESR_STATE_POSITION = 17, CESR_STATE_FIRST = 18, CESR_STATE = 19 };
+
+/* What item holds after a step that yielded one. */
+enum cesr_item {
+    CESR_ITEM_OFFSET = 0,
+    CESR_ITEM_SIZE = 1,
+    CESR_ITEM_DEPTH = 2,  /* the number of groups it stands within */
+    CESR_ITEM_CHARS = 3,  /* as above, or 7 for a small group, 8 for a large one, 9 for a genus/version */
+    CESR_ITEM_LETTER = 4, /* 0 for a genus/version */
+    CESR_ITEM_LEAD = 5    /* lead bytes of a variable, which tell its selector; else 0 */
+};
+
+/* A step of the walk over a text: 0 with an item and the next state, 255 at the end, else the first refusal: 1, 13, then as the item is
+ * framed and judged. *answer: the place of a refusal, else 0. At a refusal or the end state and item stay as they were. */
+uint8_t cesr_walk_text(const uint8_t *stream, size_t stream_len, size_t state[19], size_t item[6], size_t *answer);
+
+/* The same over a binary. */
+uint8_t cesr_walk_binary(const uint8_t *stream, size_t stream_len, size_t state[19], size_t item[6], size_t *answer);
+
+#ifdef __cplusplus
+}
+#endif
+
+#endif

@@ -1,0 +1,108 @@
+//! The calls as the archive has them; `include/cesr.h` says what each does.
+
+use crate::{Info, Item, State, Tag};
+
+/// Stream, its length, buffer, its length, and where the answer goes: the
+/// length written if 0 is returned, else the place that goes with the number.
+pub type Call = unsafe extern "C" fn(*const u8, usize, *mut u8, usize, *mut usize) -> u8;
+
+/// Code, tag characters and their number, raw value, buffer and answer.
+pub type Write = unsafe extern "C" fn(
+    u8,
+    u8,
+    *const Tag,
+    usize,
+    *const u8,
+    usize,
+    *mut u8,
+    usize,
+    *mut usize,
+) -> u8;
+
+/// Stream, its length, state, item and answer.
+pub type Walk = unsafe extern "C" fn(*const u8, usize, *mut State, *mut Item, *mut usize) -> u8;
+
+extern "C" {
+    pub fn cesr_text_to_binary(
+        source: *const u8,
+        length: usize,
+        out: *mut u8,
+        room: usize,
+        answer: *mut usize,
+    ) -> u8;
+    pub fn cesr_binary_to_text(
+        source: *const u8,
+        length: usize,
+        out: *mut u8,
+        room: usize,
+        answer: *mut usize,
+    ) -> u8;
+    pub fn cesr_report_text(
+        stream: *const u8,
+        length: usize,
+        out: *mut u8,
+        room: usize,
+        answer: *mut usize,
+    ) -> u8;
+    pub fn cesr_report_binary(
+        stream: *const u8,
+        length: usize,
+        out: *mut u8,
+        room: usize,
+        answer: *mut usize,
+    ) -> u8;
+    pub fn cesr_read_text(
+        stream: *const u8,
+        length: usize,
+        at: usize,
+        out: *mut u8,
+        room: usize,
+        tag: *mut Tag,
+        info: *mut Info,
+        answer: *mut usize,
+    ) -> u8;
+    pub fn cesr_read_binary(
+        stream: *const u8,
+        length: usize,
+        at: usize,
+        tag: *mut Tag,
+        info: *mut Info,
+        answer: *mut usize,
+    ) -> u8;
+    pub fn cesr_write_text(
+        chars: u8,
+        letter: u8,
+        tag: *const Tag,
+        tags: usize,
+        raw: *const u8,
+        length: usize,
+        out: *mut u8,
+        room: usize,
+        answer: *mut usize,
+    ) -> u8;
+    pub fn cesr_write_binary(
+        chars: u8,
+        letter: u8,
+        tag: *const Tag,
+        tags: usize,
+        raw: *const u8,
+        length: usize,
+        out: *mut u8,
+        room: usize,
+        answer: *mut usize,
+    ) -> u8;
+    pub fn cesr_walk_text(
+        stream: *const u8,
+        length: usize,
+        state: *mut State,
+        item: *mut Item,
+        answer: *mut usize,
+    ) -> u8;
+    pub fn cesr_walk_binary(
+        stream: *const u8,
+        length: usize,
+        state: *mut State,
+        item: *mut Item,
+        answer: *mut usize,
+    ) -> u8;
+}

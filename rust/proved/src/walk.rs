@@ -1,0 +1,44 @@
+//! The walk over a state that the caller keeps.
+
+use crate::{declared, Refusal};
+
+/// Sixteen ends of open groups, the number open, the position, and the
+/// first-item mark, 0 or 1; ends and position in units. Nineteen zeros are the
+/// start of every stream.
+pub type State = [usize; 19];
+
+/// Offset and size in the stream's own measure, depth, and the code: chars as
+/// in `Info` or 7 for a small group, 8 for a large one, 9 for a genus/version;
+/// the letter (0 for a genus/version); a variable's lead bytes.
+pub type Item = [usize; 6];
+
+/// The number that stands for the stream's end.
+const END: u8 = 255;
+
+/// One step over a text: true with the next state and the item, false at the
+/// end, or a refusal; these two change neither state nor item.
+pub fn walk_text(text: &[u8], state: &mut State, item: &mut Item) -> Result<bool, Refusal> {
+    step(declared::cesr_walk_text, text, state, item)
+}
+
+/// The same over a binary.
+pub fn walk_binary(binary: &[u8], state: &mut State, item: &mut Item) -> Result<bool, Refusal> {
+    step(declared::cesr_walk_binary, binary, state, item)
+}
+
+fn step(
+    call: declared::Walk,
+    stream: &[u8],
+    state: &mut State,
+    item: &mut Item,
+) -> Result<bool, Refusal> {
+    let mut place = 0;
+    // SAFETY: the stream is valid for its length; state, item and place are
+    // places of their own, of the lengths that the library reads and writes.
+    let number = unsafe { call(stream.as_ptr(), stream.len(), state, item, &mut place) };
+    match number {
+        0 => Ok(true),
+        END => Ok(false),
+        _ => Err(Refusal { number, place }),
+    }
+}

@@ -1,0 +1,118 @@
+//! Primitives written by both, as text and as binary.
+
+use crate::judges::{by_oracle, by_proved, lent, Check};
+use oracle::primitive::{write, Named};
+use proved::{Primitive, Tag};
+use streams::table::{FIXED, TYPES};
+use streams::Random;
+
+/// The code's characters; none where the numbers name no fixed code.
+fn fixed(chars: u8, letter: u8) -> Vec<u8> {
+    match chars {
+        1 => vec![letter],
+        2 => vec![b'0', letter],
+        4 => vec![b'1', b'A', b'A', letter],
+        _ => vec![],
+    }
+}
+
+/// One primitive by both, into every room.
+pub fn alike(item: &Primitive) -> Check {
+    let characters = fixed(item.chars, item.letter);
+    let named = match item.chars {
+        5 | 6 => Named::Variable {
+            letter: item.letter,
+            large: item.chars == 6,
+        },
+        _ => Named::Fixed(&characters),
+    };
+    let tag = oracle::primitive::Tag {
+        number: item.tags,
+        characters: item.tag,
+    };
+    for form in [oracle::Form::Text, oracle::Form::Binary] {
+        let mut long = vec![0; 2 * item.raw.len() + 40];
+        let size = write(named, &tag, item.raw, form, &mut long).unwrap_or(0);
+        let call = match form {
+            oracle::Form::Text => proved::write_text,
+            oracle::Form::Binary => proved::write_binary,
+        };
+        lent(
+            "write",
+            size,
+            |out| by_proved(call(item, out)),
+            |out| by_oracle(write(named, &tag, item.raw, form, out)),
+        )
+        .map_err(|why| format!("{item:02X?} as {form:?}, {why}"))?;
+    }
+    Ok(())
+}
+
+/// Known codes and others, with lengths that fit and others.
+pub fn any(random: &mut Random) -> Check {
+    let mut item = match random.below(3) {
+        0 => variable(random),
+        _ => fixed_code(random),
+    };
+    if random.once_in(6) {
+        item.0 = random.below(9) as u8;
+    }
+    if random.once_in(6) {
+        item.1 = random.byte();
+    }
+    let (chars, letter, tags, raw) = item;
+    let tag = any_tag(random);
+    alike(&Primitive {
+        chars,
+        letter,
+        tag,
+        tags: unfit(random, tags),
+        raw: &raw_of(random, raw),
+    })
+}
+
+/// chars, letter, number of tag characters, raw length.
+type Shape = (u8, u8, usize, usize);
+
+fn variable(random: &mut Random) -> Shape {
+    let chars = 5 + random.below(2) as u8;
+    let long = random.once_in(8);
+    let length = random.below(if long { 13_000 } else { 40 });
+    (chars, *random.pick(TYPES), 0, length)
+}
+
+fn fixed_code(random: &mut Random) -> Shape {
+    let (code, _, _) = *random.pick(&FIXED);
+    let row = oracle::registry::fixed(code.as_bytes()).unwrap();
+    let letter = code.as_bytes()[code.len() - 1];
+    (code.len() as u8, letter, row.tag, row.raw())
+}
+
+/// Now and then another number near it, or one far off.
+fn unfit(random: &mut Random, number: usize) -> usize {
+    match random.below(12) {
+        0 => number + 1,
+        1 => number.saturating_sub(1),
+        2 => *random.pick(&[11, 12, 13, 256, usize::MAX]),
+        _ => number,
+    }
+}
+
+fn raw_of(random: &mut Random, length: usize) -> Vec<u8> {
+    let length = match random.below(10) {
+        0 => length + 1,
+        1 => length.saturating_sub(1),
+        _ => length,
+    };
+    random.bytes(length)
+}
+
+/// In the alphabet, or with strangers among them.
+fn any_tag(random: &mut Random) -> Tag {
+    let mut tag = [0; 11];
+    tag.fill_with(|| random.character());
+    if random.once_in(3) {
+        tag[random.below(11)] = random.byte();
+    }
+    tag
+}

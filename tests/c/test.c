@@ -1,0 +1,262 @@
+/* The C interface on cases of 01's deck: answers, places, and buffers that must stay. Exits with 1 if any differs. */
+#include "cesr.h"
+
+#include <stdio.h>
+#include <string.h>
+
+enum { ROOM = 64, HELD = 0xAA };
+
+static int failures = 0;
+static int checks = 0;
+
+static void check(int holds, const char *what, const char *of) {
+    checks++;
+    if (!holds) {
+        failures++;
+        fprintf(stderr, "%s: %s\n", of, what);
+    }
+}
+
+/* All bytes from one on are as they were. */
+static int held(const uint8_t *buffer, size_t from, size_t size) {
+    for (size_t i = from; i < size; i++) {
+        if (buffer[i] != HELD) {
+            return 0;
+        }
+    }
+    return 1;
+}
+
+static int all(const size_t *numbers, size_t size, size_t value) {
+    for (size_t i = 0; i < size; i++) {
+        if (numbers[i] != value) {
+            return 0;
+        }
+    }
+    return 1;
+}
+
+static const uint8_t *bytes(const char *text) {
+    return (const uint8_t *)text;
+}
+
+/* ---- the report */
+
+static const uint8_t ACCEPTED[] = {0, 0, 0, 1, 0, 0, 0, 0, 0, 0, 0, 4, 0, 0, 0, 0, 0, 0, 0, 0, 0};
+static const uint8_t REFUSED_8[] = {0, 0, 0, 1, 0, 0, 0, 0, 0, 0, 0, 4, 8, 0, 0, 0, 1, 0, 0, 0, 0, 8, 0, 0, 0, 0, 0, 0, 0, 0};
+static const uint8_t REST_4[] = {0, 0, 0, 0, 0, 0, 0, 0, 0, 0, 0, 1, 0, 0, 0, 0, 4};
+static const uint8_t REST_6[] = {0, 0, 0, 0, 0, 0, 0, 0, 0, 0, 0, 1, 0, 0, 0, 0, 6};
+static const uint8_t INNER_7[] = {0, 0, 0, 1, 0, 0, 0, 0, 0, 0, 0, 12, 7, 0, 0, 0, 1, 0, 0, 0, 0, 7, 0, 0, 0, 4, 0, 0, 0, 0};
+static const uint8_t NOTHING[12] = {0};
+/* `-AAB0AAAMAAB`: 00000002, 00000000 00000008 04, 00000008 00000004 00; 00000001, 00000000 04 00000004; 00000000. */
+static const uint8_t LONG[] = {0, 0, 0, 2, 0, 0, 0, 0, 0, 0, 0, 8, 4, 0, 0, 0, 8, 0, 0, 0,
+                               4, 0, 0, 0, 0, 1, 0, 0, 0, 0, 4, 0, 0, 0, 4, 0, 0, 0, 0};
+
+static void report(const char *text, size_t items, const uint8_t *told, size_t length) {
+    uint8_t out[ROOM];
+    size_t answer = 99;
+    size_t room = 17 + 18 * items;
+    memset(out, HELD, ROOM);
+    check(cesr_report_text(bytes(text), strlen(text), out, room, &answer) == 0, "report accepted", text);
+    check(answer == length && memcmp(out, told, length) == 0, "report as told", text);
+    check(held(out, length, ROOM), "bytes behind the report stay", text);
+    memset(out, HELD, ROOM);
+    check(cesr_report_text(bytes(text), strlen(text), out, room - 1, &answer) == CESR_ROOM, "one short is 3", text);
+    check(answer == 0 && held(out, 0, ROOM), "3 leaves the buffer", text);
+}
+
+static void reports(void) {
+    report("", 0, NOTHING, sizeof NOTHING);
+    report("MAAB", 1, ACCEPTED, sizeof ACCEPTED);
+    report("MP__", 1, ACCEPTED, sizeof ACCEPTED);
+    report("MQAA", 1, REFUSED_8, sizeof REFUSED_8);
+    report("-AACMAAB", 0, REST_4, sizeof REST_4);
+    report("-0AA", 0, REST_6, sizeof REST_6);
+    report("-AAC-_AAABAA", 1, INNER_7, sizeof INNER_7);
+    report("-AAB0AAAMAAB", 2, LONG, sizeof LONG);
+}
+
+static void binary_report(void) {
+    static const uint8_t stream[] = {0xD4, 0x00, 0x0C}; /* `1AAM` in B */
+    static const uint8_t told[] = {0, 0, 0, 1, 0, 0, 0, 0, 0, 0, 0, 3, 0, 0, 0, 0, 0, 0, 0, 0, 0};
+    uint8_t out[ROOM];
+    size_t answer = 99;
+    memset(out, HELD, ROOM);
+    check(cesr_report_binary(stream, 3, out, 35, &answer) == 0, "report accepted", "D4000C");
+    check(answer == sizeof told && memcmp(out, told, sizeof told) == 0, "report as told", "D4000C");
+    check(held(out, sizeof told, ROOM), "bytes behind the report stay", "D4000C");
+}
+
+/* ---- the longest streams */
+
+static uint8_t longest[4194305];
+
+static void limits(void) {
+    uint8_t out[ROOM];
+    size_t answer = 99;
+    memset(longest, 'A', sizeof longest);
+    memset(out, HELD, ROOM);
+    check(cesr_report_text(longest, 4194305, out, ROOM, &answer) == CESR_TOO_LONG, "one more is 1", "text");
+    check(cesr_report_binary(longest, 3145729, out, ROOM, &answer) == CESR_TOO_LONG, "one more is 1", "binary");
+    check(cesr_text_to_binary(longest, 4194305, out, ROOM, &answer) == CESR_TOO_LONG, "one more is 1", "text to binary");
+    check(cesr_binary_to_text(longest, 3145729, out, ROOM, &answer) == CESR_TOO_LONG, "one more is 1", "binary to text");
+    check(cesr_text_to_binary(longest, 4194304, out, ROOM, &answer) == CESR_ROOM, "the limit is read", "text to binary");
+    check(answer == 0 && held(out, 0, ROOM), "1 and 3 leave the buffer", "limits");
+}
+
+/* ---- conversion */
+
+static void conversion(void) {
+    static const uint8_t told[] = {0xD4, 0x00, 0x0C};
+    uint8_t out[ROOM];
+    size_t answer = 99;
+    memset(out, HELD, ROOM);
+    check(cesr_text_to_binary(bytes("1AAM"), 4, out, 3, &answer) == 0 && answer == 3, "accepted", "1AAM");
+    check(memcmp(out, told, 3) == 0 && held(out, 3, ROOM), "D4 00 0C", "1AAM");
+    memset(out, HELD, ROOM);
+    check(cesr_binary_to_text(told, 3, out, 4, &answer) == 0 && answer == 4, "accepted", "D4000C");
+    check(memcmp(out, "1AAM", 4) == 0 && held(out, 4, ROOM), "1AAM", "D4000C");
+    memset(out, HELD, ROOM);
+    check(cesr_text_to_binary(bytes("MAABM"), 5, out, ROOM, &answer) == 2 && answer == 0, "2 at 0", "MAABM");
+    check(cesr_text_to_binary(bytes("MAABMA=B"), 8, out, ROOM, &answer) == 5 && answer == 6, "5 at 6", "MAABMA=B");
+    check(cesr_text_to_binary(bytes("MAAB"), 4, out, 2, &answer) == 3 && answer == 0, "3 at 0", "MAAB");
+    check(cesr_binary_to_text(told, 3, out, 3, &answer) == 3 && answer == 0, "3 at 0", "D4000C");
+    check(held(out, 0, ROOM), "refusals leave the buffer", "conversion");
+}
+
+/* ---- reading and writing */
+
+/* The raw value at offset 0, and that one byte less of room is 3. */
+static void reads(const char *text, size_t chars, const char *raw, size_t length) {
+    uint8_t out[ROOM], tag[11];
+    size_t info[6], answer = 99;
+    memset(out, HELD, ROOM);
+    check(cesr_read_text(bytes(text), strlen(text), 0, out, length, tag, info, &answer) == 0, "read accepted", text);
+    check(answer == length && memcmp(out, raw, length) == 0 && held(out, length, ROOM), "raw", text);
+    check(info[CESR_INFO_CHARS] == chars && info[CESR_INFO_SIZE] * 4 == strlen(text), "code and size", text);
+    check(info[CESR_INFO_START] + length == info[CESR_INFO_SIZE] * 3, "raw ends the item", text);
+    check(info[CESR_INFO_RAW] == length && info[CESR_INFO_TAGS] == 0, "lengths", text);
+    if (length > 0) {
+        memset(out, HELD, ROOM);
+        check(cesr_read_text(bytes(text), strlen(text), 0, out, length - 1, tag, info, &answer) == 3, "3", text);
+        check(answer == 0 && held(out, 0, ROOM), "3 leaves the buffer", text);
+    }
+}
+
+static void not_read(const char *text, size_t at, uint8_t number, size_t place) {
+    uint8_t out[ROOM], tag[11];
+    size_t info[6] = {7, 7, 7, 7, 7, 7}, answer = 99;
+    memset(out, HELD, ROOM);
+    memset(tag, HELD, sizeof tag);
+    check(cesr_read_text(bytes(text), strlen(text), at, out, ROOM, tag, info, &answer) == number, "number", text);
+    check(answer == place, "place", text);
+    check(held(out, 0, ROOM) && held(tag, 0, 11) && all(info, 6, 7), "a refused read writes nothing", text);
+}
+
+static void reading(void) {
+    static const uint8_t binary[] = {0x58, 0x68, 0x69}; /* `WGhp` */
+    static const uint8_t tagged[11] = {'A'};
+    uint8_t out[1], tag[11];
+    size_t info[6], answer = 99;
+    reads("MAAB", 1, "\0\1", 2);
+    reads("VABh", 1, "a", 1);
+    reads("WGhp", 1, "hi", 2);
+    reads("4BAA", 5, "", 0);
+    reads("5BABAGhp", 5, "hi", 2);
+    reads("6BABAABh", 5, "a", 1);
+    not_read("MQAA", 0, 8, 0);
+    not_read("0JAA", 0, 10, 0);
+    not_read("-AAA", 0, 14, 0);
+    not_read("MAAB", 4, 4, 4);
+    not_read("MAABb!!A", 4, 5, 5);
+    check(cesr_read_text(bytes("0J_A"), 4, 0, out, 0, tag, info, &answer) == 0 && info[5] == 1, "one tag character", "0J_A");
+    check(memcmp(tag, tagged, 11) == 0, "tag A, unused places 0", "0J_A");
+    check(cesr_read_binary(binary, 3, 0, tag, info, &answer) == 0 && answer == 2, "read accepted", "586869");
+    check(info[CESR_INFO_START] == 1 && info[CESR_INFO_RAW] == 2, "part 68 69", "586869");
+    check(info[CESR_INFO_LETTER] == 'W', "letter W", "586869");
+}
+
+static void writing(void) {
+    static const uint8_t tag[11] = {'A', '!'};
+    uint8_t out[ROOM];
+    size_t answer = 99;
+    memset(out, HELD, ROOM);
+    check(cesr_write_text(1, 'W', tag, 0, bytes("hi"), 2, out, 4, &answer) == 0 && answer == 4, "written", "WGhp");
+    check(cesr_write_text(5, 'B', tag, 0, bytes("a"), 1, out + 4, 8, &answer) == 0 && answer == 8, "second", "6BABAABh");
+    check(memcmp(out, "WGhp6BABAABh", 12) == 0 && held(out, 12, ROOM), "two items", "WGhp6BABAABh");
+    memset(out, HELD, ROOM);
+    check(cesr_write_binary(1, 'W', tag, 0, bytes("hi"), 2, out, 3, &answer) == 0 && answer == 3, "written", "586869");
+    check(memcmp(out, "Xhi", 3) == 0 && held(out, 3, ROOM), "58 68 69", "586869");
+    memset(out, HELD, ROOM);
+    check(cesr_write_text(2, 'J', tag, 1, bytes(""), 0, out, 4, &answer) == 0 && memcmp(out, "0J_A", 4) == 0, "tag", "0J_A");
+    memset(out, HELD, ROOM);
+    check(cesr_write_text(1, 'b', tag, 0, bytes(""), 0, out, ROOM, &answer) == 6 && answer == 0, "6 at 0", "b");
+    check(cesr_write_text(1, 'W', tag, 0, bytes("h"), 1, out, ROOM, &answer) == 12 && answer == 0, "12 at 0", "W");
+    check(cesr_write_text(2, 'J', tag, 12, bytes(""), 0, out, ROOM, &answer) == 12 && answer == 0, "12 at 0", "0J");
+    check(cesr_write_text(2, 'K', tag, 2, bytes(""), 0, out, ROOM, &answer) == 5 && answer == 1, "5 at 1", "0K");
+    check(cesr_write_text(1, 'W', tag, 0, bytes("hi"), 2, out, 3, &answer) == 3 && answer == 0, "3 at 0", "W");
+    check(held(out, 0, ROOM), "refusals leave the buffer", "writing");
+}
+
+/* ---- the walk */
+
+static void step(const char *text, size_t *state, size_t offset, size_t size, size_t depth, size_t chars, size_t letter) {
+    size_t item[6], answer = 99;
+    check(cesr_walk_text(bytes(text), strlen(text), state, item, &answer) == 0 && answer == 0, "an item", text);
+    check(item[0] == offset && item[1] == size && item[2] == depth, "offset, size, depth", text);
+    check(item[3] == chars && item[4] == letter && item[5] == 0, "code", text);
+}
+
+static void no_step(const char *text, const size_t *before, uint8_t number, size_t place) {
+    size_t state[CESR_STATE], item[6] = {7, 7, 7, 7, 7, 7}, answer = 99;
+    memcpy(state, before, sizeof state);
+    check(cesr_walk_text(bytes(text), strlen(text), state, item, &answer) == number, "number", text);
+    check(answer == place, "place", text);
+    check(memcmp(state, before, sizeof state) == 0 && all(item, 6, 7), "state and item stay", text);
+}
+
+static void walking(void) {
+    size_t state[CESR_STATE] = {0};
+    step("-AABMAABMAAB", state, 0, 8, 0, 7, 'A');
+    check(state[0] == 2 && state[16] == 1 && state[17] == 1 && state[18] == 1, "one open, the mark set", "-AAB");
+    step("-AABMAABMAAB", state, 4, 4, 1, 1, 'M');
+    check(all(state, 17, 0) && state[17] == 2 && state[18] == 0, "closed again", "-AAB");
+    step("-AABMAABMAAB", state, 8, 4, 0, 1, 'M');
+    no_step("-AABMAABMAAB", state, CESR_END, 0);
+    memset(state, 0, sizeof state);
+    no_step("-AACMAAB", state, 4, 0);
+    step("-AAC-_AAABAA", state, 0, 12, 0, 7, 'A');
+    no_step("-AAC-_AAABAA", state, 7, 4);
+    memset(state, 0, sizeof state);
+    state[18] = 1;
+    no_step("MAAB", state, 13, 0);
+    state[18] = 2;
+    no_step("MAAB", state, 13, 0);
+    state[18] = 0;
+    state[16] = 17;
+    no_step("MAAB", state, 13, 0);
+    state[16] = 0;
+    state[17] = 2;
+    no_step("MAAB", state, 13, 0);
+}
+
+static void binary_walk(void) {
+    static const uint8_t stream[] = {0xF8, 0x00, 0x01, 0x30, 0x00, 0x01}; /* `-AABMAAB` */
+    size_t state[CESR_STATE] = {0}, item[6], answer = 99;
+    check(cesr_walk_binary(stream, 6, state, item, &answer) == 0 && item[0] == 0 && item[1] == 6, "group", "F80001");
+    check(cesr_walk_binary(stream, 6, state, item, &answer) == 0 && item[0] == 3 && item[2] == 1, "inner", "300001");
+    check(cesr_walk_binary(stream, 6, state, item, &answer) == CESR_END && item[0] == 3, "end", "300001");
+}
+
+int main(void) {
+    reports();
+    binary_report();
+    limits();
+    conversion();
+    reading();
+    writing();
+    walking();
+    binary_walk();
+    printf("%d checks, %d failed\n", checks, failures);
+    return failures != 0;
+}
