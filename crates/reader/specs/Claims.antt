@@ -30,6 +30,6 @@ pub record ReaderClaims : Type 0 where
   -- the walk's step, and beside it is what the step found. That a refusal or the end leaves it as it was is Reading's definition.
   pub text-next : (r : Reader) → textTaken r ≡ textAt r (textStep (now (r .src)) (r .walk))
   pub binary-next : (r : Reader) → binaryTaken r ≡ binaryAt r (binaryStep (now (r .src)) (r .walk))
-  -- the issue: "the number of items of a stream and how the walk ended"
+  -- "the number of items of a stream and how the walk ended"
   pub of-text : (xs : List ℕ) → CountClaims text xs
   pub of-binary : (xs : List ℕ) → CountClaims binary xs

@@ -1,6 +1,5 @@
--- Single primitives there and back, over the definitions of format. Statements only, a field a sentence, below the words in
--- quotes of the issue on reading and writing single primitives (01's where they say so). `RoundTrip` is proved in Proved.
--- Assumes nothing.
+-- Single primitives there and back, over the definitions of format. Statements only, a field a sentence, each below what is asked in
+-- words (01's where they say so). `RoundTrip` is proved in Proved. Assumes nothing.
 use Prim.Native.Nat.{ℕ, _*_, _≤_}
 use mathlib.Core.Path.{_≡_}
 use mathlib.Core.List.{List, _++_}

@@ -39,7 +39,7 @@ pub record StreamClaims (d : Domain) (xs : List ℕ) : Type 0 where
       → stepIn d xs w ≡ record { next = w; found = F.Refused 13 0 }
   pub only-thirteen : (w : Walk) (p : ℕ) → stepIn d xs w .found ≡ F.Refused 13 p
       → (length xs ≤ d .limit) × (isFit w (unitsIn d xs) ≡ false)
-  -- the issue: "From the start state, every state that steps give is fit (no 13 on the way)"
+  -- "From the start state, every state that steps give is fit (no 13 on the way)"
   pub fit-on-the-way : (k : ℕ) → isFit (after d xs k) (unitsIn d xs) ≡ true
   -- and so is every state that a step gives from a fit one, whoever made it
   pub keeps-fit : (w : Walk) → length (w .ends) ≡ maxDepth → isFit w (unitsIn d xs) ≡ true
@@ -49,15 +49,15 @@ pub record StreamClaims (d : Domain) (xs : List ℕ) : Type 0 where
   -- "each with offset, size, depth (the number of groups it stands within)": the item stands at the position, and the next
   -- position and mark are those behind it
   pub yields : (w : Walk) (o n e h : ℕ) (k : Kind) → stepIn d xs w .found ≡ F.Item o n e k h → Behind d w o n e k h (stepIn d xs w .next)
-  -- the issue: "the position never falls", and an item moves it on by a unit at least
+  -- "the position never falls", and an item moves it on by a unit at least
   pub never-back : (w : Walk) → w .at ≤ stepIn d xs w .next .at
   pub moves-on : (w : Walk) → Yields (stepIn d xs w .found) → w .at < stepIn d xs w .next .at
-  -- the issue: "and the walk ends: a number of steps bounded by the stream's units": after as many steps as it has whole units,
+  -- "and the walk ends: a number of steps bounded by the stream's units": after as many steps as it has whole units,
   -- or more, there is no item left
   pub ends : (k : ℕ) → unitsIn d xs ≤ k → Stops (foundAt d xs k)
   -- and it stays ended
   pub ended : (k : ℕ) → Stops (foundAt d xs k) → (j : ℕ) → after d xs (k + j) ≡ after d xs k
-  -- the issue: "the items yielded at depth 0 up to the first refusal are the report's items": those up to the first refused
+  -- "the items yielded at depth 0 up to the first refusal are the report's items": those up to the first refused
   -- one, which is yielded itself if it is a group that is opened
   pub outer : length xs ≤ d .limit → (k : ℕ) → Stops (foundAt d xs k) → outerItems d xs k ≡ upToRefusal d xs (rowsIn d xs)
   -- they are the first of the report's, in order, and all of them where none is refused
@@ -68,7 +68,7 @@ pub record StreamClaims (d : Domain) (xs : List ℕ) : Type 0 where
   pub first : length xs ≤ d .limit → (k : ℕ) → Stops (foundAt d xs k) → foundAt d xs k ≡ foundOf (firstRefusal d xs)
   -- in the report's rows: the first refused item's number and place, else the remainder's number, else it ends
   pub last : length xs ≤ d .limit → (k : ℕ) → Stops (foundAt d xs k) → Last (rowsIn d xs) (remainderIn d xs) (foundAt d xs k)
-  -- the issue: "running the walk over a framed item's own bytes ends without refusal exactly when judging accepts it, and else
+  -- "running the walk over a framed item's own bytes ends without refusal exactly when judging accepts it, and else
   -- gives judging's number and place"
   pub item : (k : Kind) (h : ℕ) → length xs ≤ d .limit → frameIn d xs ≡ Item k h (length xs) → (j : ℕ) → Stops (foundAt d xs j)
       → foundAt d xs j ≡ foundOf (judgeIn d xs)
@@ -76,7 +76,7 @@ pub record StreamClaims (d : Domain) (xs : List ℕ) : Type 0 where
 -- ---- of text and binary together
 
 pub record FormClaims : Type 0 where
-  -- the issue: "The same stream in text and binary yields the same items step by step in the ratio four to three (demand 2's
+  -- "The same stream in text and binary yields the same items step by step in the ratio four to three (demand 2's
   -- premise)": from every state, and so all along the walk from the start
   pub text-step : (t : List ℕ) → WholeText t → (w : Walk) → SameStep (stepIn text t w) (stepIn binary (toBinary t) w)
   pub binary-step : (b : List ℕ) → WholeBinary b → (w : Walk) → SameStep (stepIn text (toText b) w) (stepIn binary b w)
