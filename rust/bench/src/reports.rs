@@ -10,11 +10,13 @@ use streams::{Form, Random};
 #[rustfmt::skip]
 static TEXT: &[Contender] = &[
     contender("baseline", text_report),
+    contender("proved", |text, out| proved::report_text(text, out).unwrap_or(REFUSED)),
 ];
 
 #[rustfmt::skip]
 static BINARY: &[Contender] = &[
     contender("baseline", binary_report),
+    contender("proved", |binary, out| proved::report_binary(binary, out).unwrap_or(REFUSED)),
 ];
 
 type Call = fn(&[u8], &mut [u8]) -> usize;
