@@ -1,7 +1,7 @@
 -- What holds at each turn of the counting loops, and what a turn does to it: once for both forms, then in each form's own types.
 -- Assumes nothing.
 use Prim.Native.Nat.{ℕ, suc, _+_, _-_, _/_, _≤_, _<_}
-use mathlib.Core.Path.{_≡_, refl, sym, ap, _∙_, subst}
+use mathlib.Core.Path.{_≡_, refl, sym, ap, _∙_}
 use mathlib.Core.List.{List}
 use native.Mathlib.Nat.{zero-add, add-zero, sub-zero}
 use native.Mathlib.Omega.{arith}
@@ -22,13 +22,11 @@ use Rattle.walk.specs.Walking.{stepIn, textItem, textStep, binaryItem, binarySt
 use Rattle.walk_claims.specs.Words.{unitsIn, Yields, Stops}
 use Rattle.walk_claims.specs.Claims.{StreamClaims}
 use Rattle.walk_claims.specs.Proved.{proved}
-use Rattle.reader.specs.declared.TextTally.{TextTally}
 use Rattle.reader.specs.declared.TextEnd.{TextEnd}
 use Rattle.reader.specs.declared.TextEnd.the-variants as TE
-use Rattle.reader.specs.declared.BinaryTally.{BinaryTally}
 use Rattle.reader.specs.declared.BinaryEnd.{BinaryEnd}
 use Rattle.reader.specs.declared.BinaryEnd.the-variants as BE
-use Rattle.reader.specs.Counting.{Tally, none, plus, runIn, restIn, textEnd, textTally, binaryEnd, binaryTally}
+use Rattle.reader.specs.Counting.{Tally, plus, runIn, restIn, textEnd, textTally, binaryEnd, binaryTally}
 use Rattle.reader.specs.Runs.{run-stopped, run-yields, yields-inside, yields-full}
 
 -- n items behind the first state: what is left, counted on, is what was left at first

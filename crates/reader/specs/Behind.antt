@@ -1,5 +1,4 @@
 -- The reader behind a step stands at the step's next state, whatever it found. Assumes nothing.
-use Prim.Native.Nat.{ℕ}
 use mathlib.Core.Path.{_≡_, refl, sym, ap}
 use denote.Ref.{now}
 use Rattle.format.specs.Units.{text, binary}

@@ -1,15 +1,17 @@
 // A reader that keeps the stream it was opened over beside its place in the walk. Its methods take it apart and call the walk's
 // by-value step; each is proved by a walk of its MIR by hand. One struct serves both forms: next_text reads the stream as text,
 // next_binary as binary. At a refusal or the end a step hands the state back as it was, so the reader handed back is the same.
-// Callers that want no walk by hand count the items of a stream by functions with plain parameters.
+// Callers that want no walk by hand step and count by functions with plain parameters.
 use format::BinaryOffset;
 use format::TextOffset;
 use walk::BinaryItem;
+use walk::BinaryStep;
 use walk::TextItem;
+use walk::TextStep;
 use walk::Walk;
 ghost use mathlib.Core.Path.{_≡_};
 ghost use Rattle.format.specs.Units.{text, binary};
-ghost use Rattle.walk.specs.Walking.{start};
+ghost use Rattle.walk.specs.Walking.{start, textStep, binaryStep};
 ghost use Rattle.reader.specs.Reading.{opened, resumedAt, textTaken, binaryTaken};
 ghost use Rattle.reader.specs.Counting.{restIn, textTally, binaryTally};
 
@@ -89,6 +91,28 @@ impl<'a> Reader<'a> {
             },
             found: stepped.found,
         }
+    }
+}
+
+// A step of a text through a reader, for callers with plain parameters.
+pub fn step_text(s: &[u8], walk: Walk) -> TextStep
+    ensures { λ r. ⌜ r ≡ textStep (now (s .entry)) walk ⌝ }
+{
+    let taken = Reader { src: s, walk }.next_text();
+    TextStep {
+        next: taken.reader.walk,
+        found: taken.found,
+    }
+}
+
+// The same of a binary.
+pub fn step_binary(s: &[u8], walk: Walk) -> BinaryStep
+    ensures { λ r. ⌜ r ≡ binaryStep (now (s .entry)) walk ⌝ }
+{
+    let taken = Reader { src: s, walk }.next_binary();
+    BinaryStep {
+        next: taken.reader.walk,
+        found: taken.found,
     }
 }
 

@@ -3,10 +3,6 @@ use mathlib.Core.Path.{_∙_}
 use borrow.Author.Needs.{needs}
 use Rattle.reader.proofs.items_binary.Statement.{statement}
 use Rattle.reader.proofs.items_binary.Tie as tie
-use Rattle.reader.proofs.items_binary.Reads as reads
-use Rattle.reader.proofs.items_binary.Lts as lts
-use Rattle.reader.proofs.rest_binary.Reads as rest-binary-reads
-use Rattle.walk.proofs.Walk.new.Reads as new-reads
 
 new-requires : tie.Need-new-requires
 new-requires c κs = search needs

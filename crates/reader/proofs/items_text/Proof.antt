@@ -3,10 +3,6 @@ use mathlib.Core.Path.{_∙_}
 use borrow.Author.Needs.{needs}
 use Rattle.reader.proofs.items_text.Statement.{statement}
 use Rattle.reader.proofs.items_text.Tie as tie
-use Rattle.reader.proofs.items_text.Reads as reads
-use Rattle.reader.proofs.items_text.Lts as lts
-use Rattle.reader.proofs.rest_text.Reads as rest-text-reads
-use Rattle.walk.proofs.Walk.new.Reads as new-reads
 
 new-requires : tie.Need-new-requires
 new-requires c κs = search needs

@@ -8,9 +8,6 @@ use Rattle.format.specs.Units.{binary}
 use Rattle.reader.proofs.Running.{Going, begin, binary-refused, binary-ended, binary-inside, binary-less, binary-again}
 use Rattle.reader.proofs.rest_binary.Statement.{statement}
 use Rattle.reader.proofs.rest_binary.Tie as tie
-use Rattle.reader.proofs.rest_binary.Reads as reads
-use Rattle.reader.proofs.rest_binary.Lts as lts
-use Rattle.walk.proofs.Walk.step_binary.Reads as step-binary-reads
 
 abbrev Inv-loop : tie.InvT-loop
 Inv-loop s w₀ items₀ w items = Going binary s w₀ w items

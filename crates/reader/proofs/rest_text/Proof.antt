@@ -8,9 +8,6 @@ use Rattle.format.specs.Units.{text}
 use Rattle.reader.proofs.Running.{Going, begin, text-refused, text-ended, text-inside, text-less, text-again}
 use Rattle.reader.proofs.rest_text.Statement.{statement}
 use Rattle.reader.proofs.rest_text.Tie as tie
-use Rattle.reader.proofs.rest_text.Reads as reads
-use Rattle.reader.proofs.rest_text.Lts as lts
-use Rattle.walk.proofs.Walk.step_text.Reads as step-text-reads
 
 abbrev Inv-loop : tie.InvT-loop
 Inv-loop s w₀ items₀ w items = Going text s w₀ w items
