@@ -70,21 +70,23 @@ pub fn text_to_binary(src: &[u8], dst: &mut [u8]) -> ToBinary
 
 // ---- binary to text
 
-fn quadlet_at(characters: &[u8; 64], s: &[u8], at: usize) -> [u8; 4]
-    requires { ⌜ (now characters ≡ characterTable) × (at + 3 ≤ length (now s)) ⌝ }
-    ensures { λ r. ⌜ r ≡ quadletOf (take 3 (drop at (now (s .entry)))) ⌝ }
+fn triplet_of(s: &[u8], at: usize) -> [u8; 3]
+    requires { ⌜ at + 3 ≤ length (now s) ⌝ }
+    ensures { λ r. ⌜ r ≡ take 3 (drop at (now (s .entry))) ⌝ }
 {
-    units::quadlet(characters, [s[at], s[at + 1], s[at + 2]])
+    [s[at], s[at + 1], s[at + 2]]
 }
 
-fn put_quadlet(d: &mut [u8], at: usize, q: [u8; 4])
-    requires { ⌜ at + 4 ≤ length (now d) ⌝ }
-    ensures { λ _. ⌜ now (d .exit) ≡ take at (now (d .entry)) ++ q ++ drop (at + 4) (now (d .entry)) ⌝ }
+// Each character is stored as it is found: an array of four by value would be built up in a register first.
+fn put_quadlet(characters: &[u8; 64], d: &mut [u8], at: usize, t: [u8; 3])
+    requires { ⌜ (now characters ≡ characterTable) × (at + 4 ≤ length (now d)) ⌝ }
+    ensures { λ _. ⌜ now (d .exit) ≡ take at (now (d .entry)) ++ quadletOf t ++ drop (at + 4) (now (d .entry)) ⌝ }
 {
-    d[at] = q[0];
-    d[at + 1] = q[1];
-    d[at + 2] = q[2];
-    d[at + 3] = q[3];
+    let q = units::unpack(t);
+    d[at] = characters[q[0] as usize];
+    d[at + 1] = characters[q[1] as usize];
+    d[at + 2] = characters[q[2] as usize];
+    d[at + 3] = characters[q[3] as usize];
 }
 
 fn fill_text(characters: &[u8; 64], src: &[u8], dst: &mut [u8], n: usize)
@@ -93,8 +95,8 @@ fn fill_text(characters: &[u8; 64], src: &[u8], dst: &mut [u8], n: usize)
 {
     let mut i = 0;
     while i < n {
-        let q = quadlet_at(characters, src, 3 * i);
-        put_quadlet(dst, 4 * i, q);
+        let t = triplet_of(src, 3 * i);
+        put_quadlet(characters, dst, 4 * i, t);
         i += 1;
     }
 }
