@@ -50,6 +50,16 @@ fn run(call: u8, src: &[u8], out: &mut [u8]) {
     if call == 2 {
         let number = exports::cesr_binary_to_text(src, out, &mut value);
         show(call, number, value, out);
+        return;
+    }
+    if call == 3 {
+        let number = exports::cesr_report_text(src, out, &mut value);
+        show(call, number, value, out);
+        return;
+    }
+    if call == 4 {
+        let number = exports::cesr_report_binary(src, out, &mut value);
+        show(call, number, value, out);
     }
 }
 

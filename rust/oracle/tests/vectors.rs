@@ -5,11 +5,15 @@
 
 use oracle::convert;
 use oracle::refusal::Refusal;
+use oracle::report::write_report;
+use oracle::Form;
 use std::fmt::Write as _;
 use std::path::PathBuf;
 
 const TO_BINARY: u8 = 1;
 const TO_TEXT: u8 = 2;
+const REPORT_TEXT: u8 = 3;
+const REPORT_BINARY: u8 = 4;
 
 /// A call with its input and the room lent.
 struct Record {
@@ -40,7 +44,9 @@ impl Record {
         let mut out = vec![0xAA; self.room];
         let answer = match self.call {
             TO_BINARY => convert::to_binary(&self.input, &mut out),
-            _ => convert::to_text(&self.input, &mut out),
+            TO_TEXT => convert::to_text(&self.input, &mut out),
+            REPORT_TEXT => write_report(&self.input, Form::Text, &mut out),
+            _ => write_report(&self.input, Form::Binary, &mut out),
         };
         line(self.call, answer, &out)
     }
@@ -125,6 +131,137 @@ fn around_blocks(records: &mut Vec<Record>) {
     records.push(Record::new(TO_BINARY, 145, &[b'k'; 192]));
 }
 
+/// 01's deck as streams, with its verdicts: the number of the first item's
+/// refusal, or of the remainder.
+const DECK: [(&str, u8); 25] = [
+    ("", 0),
+    ("MAAB", 0),
+    ("MP__", 0),
+    ("MQAA", 8),
+    ("0HD_____", 0),
+    ("0HEAAAAA", 8),
+    ("VABh", 0),
+    ("WGhp", 0),
+    ("1AAM", 0),
+    ("4BAA", 0),
+    ("5BAA", 9),
+    ("5BABAGhp", 0),
+    ("6BABAABh", 0),
+    ("5BABAPAA", 0),
+    ("5BABAQAA", 8),
+    ("0J_A", 0),
+    ("0JAA", 10),
+    ("-0AA", 6),
+    ("-AAA", 0),
+    ("-AABMAAB", 0),
+    ("-AACMAAB", 4),
+    ("-AAC-_AAABAA", 7),
+    ("-JAC-_AAABAA", 0),
+    ("--AAABAA", 4),
+    ("E8wYuBjhslETYaLZcxMkWrhVbMcA8RS1pKYl7nJ77ntA", 8),
+];
+
+/// 01: the report of `-AAB0AAAMAAB`.
+const BROKEN: &[u8] = b"-AAB0AAAMAAB";
+const REPORTED: [u8; 39] = [
+    0, 0, 0, 2, 0, 0, 0, 0, 0, 0, 0, 8, 4, 0, 0, 0, 8, 0, 0, 0, 4, 0, 0, 0, 0, 1, 0, 0, 0, 0, 4, 0,
+    0, 0, 4, 0, 0, 0, 0,
+];
+
+/// Groups within groups, the innermost empty.
+fn nested(groups: usize, letter: char) -> Vec<u8> {
+    let digits = b"ABCDEFGHIJKLMNOPQ";
+    let headers = (0..groups).rev().flat_map(|inner| {
+        let digit = digits[inner] as char;
+        format!("-{letter}A{digit}").into_bytes()
+    });
+    headers.collect()
+}
+
+fn in_binary(text: &[u8]) -> Option<Vec<u8>> {
+    let mut out = vec![0; text.len() / 4 * 3];
+    convert::to_binary(text, &mut out).ok()?;
+    Some(out)
+}
+
+/// The report of a text with this room, and of its binary if it has one.
+fn report_both(records: &mut Vec<Record>, room: usize, text: &[u8]) {
+    records.push(Record::new(REPORT_TEXT, room, text));
+    if let Some(binary) = in_binary(text) {
+        records.push(Record::new(REPORT_BINARY, room, &binary));
+    }
+}
+
+fn reports(records: &mut Vec<Record>) {
+    for (text, _) in DECK {
+        report_both(records, 40, text.as_bytes());
+    }
+    for room in [17, 16] {
+        report_both(records, room, b"");
+    }
+    for room in [54, 53, 52] {
+        report_both(records, room, BROKEN);
+    }
+    for groups in [15, 16, 17] {
+        for letter in ['A', 'J', 'c'] {
+            report_both(records, 36, &nested(groups, letter));
+        }
+    }
+    remainders(records);
+    noise(records);
+}
+
+/// Partial units, strangers at the top and within groups, opaque groups.
+fn remainders(records: &mut Vec<Record>) {
+    for text in [
+        &b"MAAB\n"[..],
+        b"MAABM",
+        b"MAABMA",
+        b"MAABMA!",
+        b"MAAB\nMAAB",
+        b"MAABMA!!",
+        b"-AAB_AAA-AABMA!A-AAC-_AAABAAMAAB",
+        b"-KAB_AAAMAAB",
+        b"-LAB_A!AMAAB",
+        b"-_AAACAA-_AAABAA",
+        b"--AAAAABMAAB",
+        b"--AAAAAB",
+        b"-DAC0HEAAAAAMQAAMAAB",
+        b"_AAAMAAB",
+        b"7AABAAAAMAAB",
+        b"8AABAAAAMAAB",
+        b"9AAB",
+    ] {
+        report_both(records, 17 + 18 * 4, text);
+    }
+    for length in 1..=5 {
+        let binary = &[0x30, 0, 1, 0x30, 0, 1][..length];
+        records.push(Record::new(REPORT_BINARY, 53, binary));
+    }
+}
+
+/// Streams of items and noise from a fixed sequence.
+fn noise(records: &mut Vec<Record>) {
+    let mut state: u32 = 20_240_601;
+    let mut next = |below: usize| {
+        state = state.wrapping_mul(1_664_525).wrapping_add(1_013_904_223);
+        (state >> 8) as usize % below
+    };
+    for _ in 0..60 {
+        let mut text = Vec::new();
+        for _ in 0..next(6) {
+            let pick = DECK[next(DECK.len())].0.as_bytes();
+            text.extend(&[b"-AAC", b"-JAB", b"-BAB", b"-KAB"][next(4)][..next(2) * 4]);
+            text.extend(pick);
+        }
+        if next(3) == 0 && !text.is_empty() {
+            let place = next(text.len());
+            text[place] = b"AB0159_-!="[next(10)];
+        }
+        report_both(records, 17 + 18 * (3 + next(9)), &text);
+    }
+}
+
 fn records() -> Vec<Record> {
     let mut records = Vec::new();
     for (text, binary) in WORKED {
@@ -135,6 +272,7 @@ fn records() -> Vec<Record> {
     every_byte(&mut records);
     orders(&mut records);
     around_blocks(&mut records);
+    reports(&mut records);
     records
 }
 
@@ -154,6 +292,27 @@ fn worked_examples() {
         assert_eq!(convert::to_text(binary, &mut out), Ok(text.len()));
         assert_eq!((&out[..text.len()], out[text.len()]), (text, 0xAA));
     }
+}
+
+/// 01's verdicts and the report that it gives in bytes.
+#[test]
+fn the_deck() {
+    for (text, number) in DECK {
+        let report = oracle::report::report(text.as_bytes(), Form::Text).unwrap();
+        let refused = report.refusals.first().map(|row| row.number);
+        let found = refused.or(report.remainder.map(|row| row.number));
+        assert_eq!(found.unwrap_or(0), number, "{text}");
+    }
+    let mut out = [0xAA; 53];
+    assert_eq!(write_report(BROKEN, Form::Text, &mut out), Ok(39));
+    assert_eq!((&out[..39], &out[39..]), (&REPORTED[..], &[0xAA; 14][..]));
+    let line = Record::new(REPORT_TEXT, 52, BROKEN).line();
+    assert_eq!(line, format!("3 3 0 {}", "aa".repeat(52)));
+    let line = Record::new(REPORT_TEXT, 17, b"").line();
+    assert_eq!(
+        line,
+        format!("3 0 12 {}{}", "00".repeat(12), "aa".repeat(5))
+    );
 }
 
 #[test]
