@@ -2,7 +2,9 @@
 // independent program in rust/oracle and by RFC 4648; nothing here was.
 //
 // A record: the call (1 byte), the room lent (2 bytes, big-endian), the input's length (2), the input. A line of output: the call,
-// the number (0: accepted), the length or place, and the whole lent buffer in hexadecimal, which held AA before.
+// the number (0: accepted), the length or place, and the whole lent buffer in hexadecimal, which held AA before. To read a primitive
+// the input is the offset (2 bytes) and the stream, and a second line has the tag places and the six numbers of the item. To write one
+// it is chars, letter and number of tag characters (1 byte each), eleven tag places and the raw value.
 use libc::STDIN_FILENO;
 use libc::STDOUT_FILENO;
 ghost use mathlib.Core.Path.{_≡_};
@@ -40,7 +42,105 @@ fn show(call: u8, number: u8, value: usize, out: &[u8]) {
     io::write_all(STDOUT_FILENO, b"\n");
 }
 
+fn show_number(n: usize) {
+    io::write_all(STDOUT_FILENO, b" ");
+    io::print_decimal(STDOUT_FILENO, n as u64);
+}
+
+fn show_tag(t: [u8; 11]) {
+    show_byte(t[0]);
+    show_byte(t[1]);
+    show_byte(t[2]);
+    show_byte(t[3]);
+    show_byte(t[4]);
+    show_byte(t[5]);
+    show_byte(t[6]);
+    show_byte(t[7]);
+    show_byte(t[8]);
+    show_byte(t[9]);
+    show_byte(t[10]);
+}
+
+fn show_item(t: [u8; 11], n: [usize; 6]) {
+    show_tag(t);
+    show_number(n[0]);
+    show_number(n[1]);
+    show_number(n[2]);
+    show_number(n[3]);
+    show_number(n[4]);
+    show_number(n[5]);
+    io::write_all(STDOUT_FILENO, b"\n");
+}
+
+fn read(call: u8, stream: &[u8], at: usize, out: &mut [u8]) {
+    let mut value = 0;
+    let mut tag: [u8; 11] = [170; 11];
+    let mut info: [usize; 6] = [170; 6];
+    if call == 5 {
+        let number = exports::cesr_read_text(stream, at, out, &mut tag, &mut info, &mut value);
+        show(call, number, value, out);
+        show_item(tag, info);
+        return;
+    }
+    let number = exports::cesr_read_binary(stream, at, &mut tag, &mut info, &mut value);
+    show(call, number, value, out);
+    show_item(tag, info);
+}
+
+fn read_at(call: u8, src: &[u8], out: &mut [u8]) {
+    let n = src.len();
+    if 2 <= n {
+        let at = number(src[0], src[1]);
+        read(call, &src[2..n], at, out);
+    }
+}
+
+fn write(call: u8, head: [u8; 3], tag: [u8; 11], raw: &[u8], out: &mut [u8]) {
+    let mut value = 0;
+    let tags = wide(head[2]);
+    if call == 7 {
+        let number = exports::cesr_write_text(head[0], head[1], &tag, tags, raw, out, &mut value);
+        show(call, number, value, out);
+        return;
+    }
+    let number = exports::cesr_write_binary(head[0], head[1], &tag, tags, raw, out, &mut value);
+    show(call, number, value, out);
+}
+
+fn write_from(call: u8, src: &[u8], out: &mut [u8]) {
+    let n = src.len();
+    if 14 <= n {
+        let head = [src[0], src[1], src[2]];
+        let tag = [
+            src[3],
+            src[4],
+            src[5],
+            src[6],
+            src[7],
+            src[8],
+            src[9],
+            src[10],
+            src[11],
+            src[12],
+            src[13],
+        ];
+        write(call, head, tag, &src[14..n], out);
+    }
+}
+
 fn run(call: u8, src: &[u8], out: &mut [u8]) {
+    if call < 5 {
+        whole(call, src, out);
+        return;
+    }
+    if call < 7 {
+        read_at(call, src, out);
+        return;
+    }
+    write_from(call, src, out);
+}
+
+fn whole(call: u8, src: &[u8], out: &mut [u8]) {
     let mut value = 0;
     if call == 1 {
         let number = exports::cesr_text_to_binary(src, out, &mut value);
@@ -49,6 +149,16 @@ fn run(call: u8, src: &[u8], out: &mut [u8]) {
     }
     if call == 2 {
         let number = exports::cesr_binary_to_text(src, out, &mut value);
+        show(call, number, value, out);
+        return;
+    }
+    if call == 3 {
+        let number = exports::cesr_report_text(src, out, &mut value);
+        show(call, number, value, out);
+        return;
+    }
+    if call == 4 {
+        let number = exports::cesr_report_binary(src, out, &mut value);
         show(call, number, value, out);
     }
 }

@@ -4,12 +4,22 @@
 //! files anew; without it the files must be what they would be.
 
 use oracle::convert;
+use oracle::primitive::{self, Named, Primitive, Tag};
 use oracle::refusal::Refusal;
+use oracle::registry::{Code, FIXED, VARIABLE};
+use oracle::report::write_report;
+use oracle::Form;
 use std::fmt::Write as _;
 use std::path::PathBuf;
 
 const TO_BINARY: u8 = 1;
 const TO_TEXT: u8 = 2;
+const REPORT_TEXT: u8 = 3;
+const REPORT_BINARY: u8 = 4;
+const READ_TEXT: u8 = 5;
+const READ_BINARY: u8 = 6;
+const WRITE_TEXT: u8 = 7;
+const WRITE_BINARY: u8 = 8;
 
 /// A call with its input and the room lent.
 struct Record {
@@ -40,9 +50,35 @@ impl Record {
         let mut out = vec![0xAA; self.room];
         let answer = match self.call {
             TO_BINARY => convert::to_binary(&self.input, &mut out),
-            _ => convert::to_text(&self.input, &mut out),
+            TO_TEXT => convert::to_text(&self.input, &mut out),
+            REPORT_TEXT => write_report(&self.input, Form::Text, &mut out),
+            REPORT_BINARY => write_report(&self.input, Form::Binary, &mut out),
+            READ_TEXT | READ_BINARY => return self.read_lines(),
+            WRITE_TEXT => write(&self.input, Form::Text, &mut out),
+            _ => write(&self.input, Form::Binary, &mut out),
         };
         line(self.call, answer, &out)
+    }
+
+    /// A read's second line: the tag places and the six numbers.
+    fn read_lines(&self) -> String {
+        let at = usize::from(u16::from_be_bytes([self.input[0], self.input[1]]));
+        let stream = &self.input[2..];
+        let mut out = vec![0xAA; self.room];
+        let (found, unit) = match self.call {
+            READ_TEXT => (primitive::read_text(stream, at, &mut out), 4),
+            _ => (primitive::read_binary(stream, at).map(|found| found.0), 3),
+        };
+        let mut lines = line(self.call, found.map(|item| item.raw), &out);
+        let (tag, numbers) = match found {
+            Ok(item) => (item.tag.characters, numbers(&item, unit)),
+            Err(_) => ([0xAA; 11], [0xAA; 6]),
+        };
+        write!(lines, "\n{}", hex(&tag)).unwrap();
+        for number in numbers {
+            write!(lines, " {number}").unwrap();
+        }
+        lines
     }
 }
 
@@ -51,11 +87,53 @@ fn line(call: u8, answer: Result<usize, Refusal>, out: &[u8]) -> String {
         Ok(length) => (0, length),
         Err(refusal) => (refusal.number, refusal.place),
     };
-    let mut line = format!("{call} {number} {value} ");
-    for byte in out {
-        write!(line, "{byte:02x}").unwrap();
-    }
-    line
+    format!("{call} {number} {value} {}", hex(out))
+}
+
+fn hex(bytes: &[u8]) -> String {
+    bytes.iter().map(|byte| format!("{byte:02x}")).collect()
+}
+
+/// An item's six numbers: the code's two, its units, where its raw value starts
+/// in bytes, the raw value's length, the number of tag characters.
+fn numbers(item: &Primitive, unit: usize) -> [usize; 6] {
+    let (chars, letter) = match item.code {
+        Code::Fixed(row) => named(row.code),
+        Code::Variable { selector, letter } => (5 + u8::from(selector > b'6'), letter),
+        _ => unreachable!("no primitive"),
+    };
+    let units = item.size / unit;
+    let start = units * 3 - item.raw;
+    let tags = item.tag.number;
+    [chars.into(), letter.into(), units, start, item.raw, tags]
+}
+
+/// A fixed code as two numbers: its length and its last character.
+fn named(code: &str) -> (u8, u8) {
+    (code.len() as u8, code.as_bytes()[code.len() - 1])
+}
+
+/// A write as recorded: the code's two numbers, the tag characters, the raw value.
+fn write(input: &[u8], form: Form, out: &mut [u8]) -> Result<usize, Refusal> {
+    let (chars, letter) = (input[0], input[1]);
+    let tag = Tag {
+        number: input[2].into(),
+        characters: input[3..14].try_into().unwrap(),
+    };
+    let code = match chars {
+        1 => vec![letter],
+        2 => vec![b'0', letter],
+        4 => vec![b'1', b'A', b'A', letter],
+        _ => Vec::new(),
+    };
+    let named = match chars {
+        5 | 6 => Named::Variable {
+            letter,
+            large: chars == 6,
+        },
+        _ => Named::Fixed(&code),
+    };
+    primitive::write(named, &tag, &input[14..], form, out)
 }
 
 /// RFC 4648, sections 9 and 10, in the URL-safe alphabet, whole units only;
@@ -125,6 +203,256 @@ fn around_blocks(records: &mut Vec<Record>) {
     records.push(Record::new(TO_BINARY, 145, &[b'k'; 192]));
 }
 
+/// 01's deck as streams, with its verdicts: the number of the first item's
+/// refusal, or of the remainder.
+const DECK: [(&str, u8); 25] = [
+    ("", 0),
+    ("MAAB", 0),
+    ("MP__", 0),
+    ("MQAA", 8),
+    ("0HD_____", 0),
+    ("0HEAAAAA", 8),
+    ("VABh", 0),
+    ("WGhp", 0),
+    ("1AAM", 0),
+    ("4BAA", 0),
+    ("5BAA", 9),
+    ("5BABAGhp", 0),
+    ("6BABAABh", 0),
+    ("5BABAPAA", 0),
+    ("5BABAQAA", 8),
+    ("0J_A", 0),
+    ("0JAA", 10),
+    ("-0AA", 6),
+    ("-AAA", 0),
+    ("-AABMAAB", 0),
+    ("-AACMAAB", 4),
+    ("-AAC-_AAABAA", 7),
+    ("-JAC-_AAABAA", 0),
+    ("--AAABAA", 4),
+    ("E8wYuBjhslETYaLZcxMkWrhVbMcA8RS1pKYl7nJ77ntA", 8),
+];
+
+/// 01: the report of `-AAB0AAAMAAB`.
+const BROKEN: &[u8] = b"-AAB0AAAMAAB";
+const REPORTED: [u8; 39] = [
+    0, 0, 0, 2, 0, 0, 0, 0, 0, 0, 0, 8, 4, 0, 0, 0, 8, 0, 0, 0, 4, 0, 0, 0, 0, 1, 0, 0, 0, 0, 4, 0,
+    0, 0, 4, 0, 0, 0, 0,
+];
+
+/// Groups within groups, the innermost empty.
+fn nested(groups: usize, letter: char) -> Vec<u8> {
+    let digits = b"ABCDEFGHIJKLMNOPQ";
+    let headers = (0..groups).rev().flat_map(|inner| {
+        let digit = digits[inner] as char;
+        format!("-{letter}A{digit}").into_bytes()
+    });
+    headers.collect()
+}
+
+fn in_binary(text: &[u8]) -> Option<Vec<u8>> {
+    let mut out = vec![0; text.len() / 4 * 3];
+    convert::to_binary(text, &mut out).ok()?;
+    Some(out)
+}
+
+/// The report of a text with this room, and of its binary if it has one.
+fn report_both(records: &mut Vec<Record>, room: usize, text: &[u8]) {
+    records.push(Record::new(REPORT_TEXT, room, text));
+    if let Some(binary) = in_binary(text) {
+        records.push(Record::new(REPORT_BINARY, room, &binary));
+    }
+}
+
+fn reports(records: &mut Vec<Record>) {
+    for (text, _) in DECK {
+        report_both(records, 40, text.as_bytes());
+    }
+    for room in [17, 16] {
+        report_both(records, room, b"");
+    }
+    for room in [54, 53, 52] {
+        report_both(records, room, BROKEN);
+    }
+    for groups in [15, 16, 17] {
+        for letter in ['A', 'J', 'c'] {
+            report_both(records, 36, &nested(groups, letter));
+        }
+    }
+    remainders(records);
+    noise(records);
+}
+
+/// Partial units, strangers at the top and within groups, opaque groups.
+fn remainders(records: &mut Vec<Record>) {
+    for text in [
+        &b"MAAB\n"[..],
+        b"MAABM",
+        b"MAABMA",
+        b"MAABMA!",
+        b"MAAB\nMAAB",
+        b"MAABMA!!",
+        b"-AAB_AAA-AABMA!A-AAC-_AAABAAMAAB",
+        b"-KAB_AAAMAAB",
+        b"-LAB_A!AMAAB",
+        b"-_AAACAA-_AAABAA",
+        b"--AAAAABMAAB",
+        b"--AAAAAB",
+        b"-DAC0HEAAAAAMQAAMAAB",
+        b"_AAAMAAB",
+        b"7AABAAAAMAAB",
+        b"8AABAAAAMAAB",
+        b"9AAB",
+    ] {
+        report_both(records, 17 + 18 * 4, text);
+    }
+    for length in 1..=5 {
+        let binary = &[0x30, 0, 1, 0x30, 0, 1][..length];
+        records.push(Record::new(REPORT_BINARY, 53, binary));
+    }
+}
+
+/// Streams of items and noise from a fixed sequence.
+fn noise(records: &mut Vec<Record>) {
+    let mut state: u32 = 20_240_601;
+    let mut next = |below: usize| {
+        state = state.wrapping_mul(1_664_525).wrapping_add(1_013_904_223);
+        (state >> 8) as usize % below
+    };
+    for _ in 0..60 {
+        let mut text = Vec::new();
+        for _ in 0..next(6) {
+            let pick = DECK[next(DECK.len())].0.as_bytes();
+            text.extend(&[b"-AAC", b"-JAB", b"-BAB", b"-KAB"][next(4)][..next(2) * 4]);
+            text.extend(pick);
+        }
+        if next(3) == 0 && !text.is_empty() {
+            let place = next(text.len());
+            text[place] = b"AB0159_-!="[next(10)];
+        }
+        report_both(records, 17 + 18 * (3 + next(9)), &text);
+    }
+}
+
+/// Raw bytes that show their order.
+fn raw(length: usize) -> Vec<u8> {
+    (0..length).map(|i| (i * 37 + 0xE1) as u8).collect()
+}
+
+/// A write to both forms, with room enough and one less, and what was written
+/// read back, with room enough and one less.
+fn write_both(records: &mut Vec<Record>, code: (u8, u8), tag: &[u8], raw: &[u8]) {
+    let mut input = vec![code.0, code.1, tag.len() as u8];
+    input.extend([tag, &[b'!'; 11]].concat().iter().take(11));
+    input.extend(raw);
+    let mut text = vec![0; 4096];
+    let written = write(&input, Form::Text, &mut text);
+    let units = written.map_or(1, |size| size / 4);
+    for (call, room) in [
+        (WRITE_TEXT, units * 4 + 1),
+        (WRITE_TEXT, units * 4 - 1),
+        (WRITE_BINARY, units * 3),
+        (WRITE_BINARY, units * 3 - 1),
+    ] {
+        records.push(Record::new(call, room, &input));
+    }
+    if let Ok(size) = written {
+        read_both(records, 0, raw.len() + 1, &text[..size]);
+        if !raw.is_empty() {
+            let input = [&[0, 0], &text[..size]].concat();
+            records.push(Record::new(READ_TEXT, raw.len() - 1, &input));
+        }
+    }
+}
+
+/// A text read at an offset in characters, and its binary at the same unit.
+fn read_both(records: &mut Vec<Record>, at: u16, room: usize, text: &[u8]) {
+    let input = [&at.to_be_bytes(), text].concat();
+    records.push(Record::new(READ_TEXT, room, &input));
+    if let Some(binary) = in_binary(text) {
+        let input = [&(at / 4 * 3).to_be_bytes(), &binary[..]].concat();
+        records.push(Record::new(READ_BINARY, 1, &input));
+    }
+}
+
+/// Each code of the registry.
+fn written(records: &mut Vec<Record>) {
+    for row in FIXED {
+        let tag = &b"Az9-_QwErTy"[..row.tag];
+        write_both(records, named(row.code), tag, &raw(row.raw()));
+    }
+    for (letter, _) in VARIABLE {
+        for chars in [5, 6] {
+            for length in 0..=3 {
+                write_both(records, (chars, letter), b"", &raw(length));
+            }
+        }
+    }
+    write_both(records, (5, b'B'), b"", &raw(193));
+    write_both(records, (6, b'H'), b"", &raw(194));
+}
+
+/// A writer's 6, 12 and 5, and their order.
+fn unwritten(records: &mut Vec<Record>) {
+    for (chars, letter) in [
+        (0, b'M'),
+        (1, b'-'),
+        (2, b'P'),
+        (3, b'M'),
+        (4, b'Q'),
+        (1, 0xFF),
+    ] {
+        write_both(records, (chars, letter), b"", &[0, 1]);
+    }
+    for (chars, letter) in [(5, b'G'), (6, b'I'), (7, b'A'), (255, b'M'), (5, 0)] {
+        write_both(records, (chars, letter), b"!", &[0, 1]);
+    }
+    for length in [0, 1, 3] {
+        write_both(records, (1, b'M'), b"", &raw(length));
+    }
+    for tag in [&b"A"[..], b"!", b"AAAAAAAAAAAA"] {
+        write_both(records, (1, b'M'), tag, &[0, 1]);
+        write_both(records, (5, b'B'), tag, b"");
+    }
+    for tag in [
+        &b"AB"[..],
+        b"ABCD",
+        b"!",
+        b"AB=",
+        b"A!=",
+        b"+AA",
+        b"AAAAAAAAAAAA",
+    ] {
+        write_both(records, (1, b'X'), tag, b"");
+    }
+    write_both(records, (1, b'X'), b"ABC", &[0]);
+    write_both(records, (1, b'Z'), b"ABCDEFGHIJ!", b"");
+}
+
+/// 01's deck read as primitives, and what a reader alone refuses.
+fn reads(records: &mut Vec<Record>) {
+    for (text, _) in DECK {
+        read_both(records, 0, 33, text.as_bytes());
+        let behind = [b"MAAB", text.as_bytes()].concat();
+        read_both(records, 4, 33, &behind);
+    }
+    for at in [4, 8, 12, 65535] {
+        read_both(records, at, 8, b"MAABMAAB");
+    }
+    for text in [
+        &b"-_AAACAA"[..],
+        b"-KAA",
+        b"--AAAAAA",
+        b"MA",
+        b"MA!B",
+        b"WG!p",
+        b"0H!_____",
+    ] {
+        read_both(records, 0, 8, text);
+    }
+    read_both(records, 5, 8, b"MAABxMAABx");
+}
+
 fn records() -> Vec<Record> {
     let mut records = Vec::new();
     for (text, binary) in WORKED {
@@ -135,6 +463,10 @@ fn records() -> Vec<Record> {
     every_byte(&mut records);
     orders(&mut records);
     around_blocks(&mut records);
+    reports(&mut records);
+    written(&mut records);
+    unwritten(&mut records);
+    reads(&mut records);
     records
 }
 
@@ -154,6 +486,27 @@ fn worked_examples() {
         assert_eq!(convert::to_text(binary, &mut out), Ok(text.len()));
         assert_eq!((&out[..text.len()], out[text.len()]), (text, 0xAA));
     }
+}
+
+/// 01's verdicts and the report that it gives in bytes.
+#[test]
+fn the_deck() {
+    for (text, number) in DECK {
+        let report = oracle::report::report(text.as_bytes(), Form::Text).unwrap();
+        let refused = report.refusals.first().map(|row| row.number);
+        let found = refused.or(report.remainder.map(|row| row.number));
+        assert_eq!(found.unwrap_or(0), number, "{text}");
+    }
+    let mut out = [0xAA; 53];
+    assert_eq!(write_report(BROKEN, Form::Text, &mut out), Ok(39));
+    assert_eq!((&out[..39], &out[39..]), (&REPORTED[..], &[0xAA; 14][..]));
+    let line = Record::new(REPORT_TEXT, 52, BROKEN).line();
+    assert_eq!(line, format!("3 3 0 {}", "aa".repeat(52)));
+    let line = Record::new(REPORT_TEXT, 17, b"").line();
+    assert_eq!(
+        line,
+        format!("3 0 12 {}{}", "00".repeat(12), "aa".repeat(5))
+    );
 }
 
 #[test]
