@@ -4,11 +4,12 @@
 // A record: the call (1 byte), the room lent (2 bytes, big-endian), the input's length (2), the input. A line of output: the call,
 // the number (0: accepted), the length or place, and the whole lent buffer in hexadecimal, which held AA before. To read a primitive
 // the input is the offset (2 bytes) and the stream, and a second line has the tag places and the six numbers of the item. To write one
-// it is chars, letter and number of tag characters (1 byte each), eleven tag places and the raw value.
+// it is chars, letter and number of tag characters (1 byte each), eleven tag places and the raw value. For a step of the walk it is the
+// nineteen numbers of the state (1 byte each) and the stream, and a second line has the state and the item's numbers afterwards.
 use libc::STDIN_FILENO;
 use libc::STDOUT_FILENO;
 ghost use mathlib.Core.Path.{_≡_};
-ghost use Prim.Native.Nat.{_<_};
+ghost use Prim.Native.Nat.{_<_, _≤_};
 ghost use lib.ListN.{length};
 
 fn wide(x: u8) -> usize
@@ -61,8 +62,7 @@ fn show_tag(t: [u8; 11]) {
     show_byte(t[10]);
 }
 
-fn show_item(t: [u8; 11], n: [usize; 6]) {
-    show_tag(t);
+fn show_six(n: [usize; 6]) {
     show_number(n[0]);
     show_number(n[1]);
     show_number(n[2]);
@@ -70,6 +70,34 @@ fn show_item(t: [u8; 11], n: [usize; 6]) {
     show_number(n[4]);
     show_number(n[5]);
     io::write_all(STDOUT_FILENO, b"\n");
+}
+
+fn show_item(t: [u8; 11], n: [usize; 6]) {
+    show_tag(t);
+    show_six(n);
+}
+
+fn show_step(s: [usize; 19], n: [usize; 6]) {
+    show_number(s[0]);
+    show_number(s[1]);
+    show_number(s[2]);
+    show_number(s[3]);
+    show_number(s[4]);
+    show_number(s[5]);
+    show_number(s[6]);
+    show_number(s[7]);
+    show_number(s[8]);
+    show_number(s[9]);
+    show_number(s[10]);
+    show_number(s[11]);
+    show_number(s[12]);
+    show_number(s[13]);
+    show_number(s[14]);
+    show_number(s[15]);
+    show_number(s[16]);
+    show_number(s[17]);
+    show_number(s[18]);
+    show_six(n);
 }
 
 fn read(call: u8, stream: &[u8], at: usize, out: &mut [u8]) {
@@ -128,6 +156,42 @@ fn write_from(call: u8, src: &[u8], out: &mut [u8]) {
     }
 }
 
+fn step(call: u8, stream: &[u8], before: [usize; 19], out: &mut [u8]) {
+    let mut value = 0;
+    let mut state = before;
+    let mut item: [usize; 6] = [170; 6];
+    if call == 9 {
+        let number = exports::cesr_walk_text(stream, &mut state, &mut item, &mut value);
+        show(call, number, value, out);
+        show_step(state, item);
+        return;
+    }
+    let number = exports::cesr_walk_binary(stream, &mut state, &mut item, &mut value);
+    show(call, number, value, out);
+    show_step(state, item);
+}
+
+// A walk's state, a number a byte.
+fn state_from(src: &[u8]) -> [usize; 19]
+    requires { ⌜ 19 ≤ length (now src) ⌝ }
+{
+    let mut state: [usize; 19] = [0; 19];
+    let mut i = 0;
+    while i < 19 {
+        state[i] = wide(src[i]);
+        i += 1;
+    }
+    state
+}
+
+fn step_from(call: u8, src: &[u8], out: &mut [u8]) {
+    let n = src.len();
+    if 19 <= n {
+        let before = state_from(src);
+        step(call, &src[19..n], before, out);
+    }
+}
+
 fn run(call: u8, src: &[u8], out: &mut [u8]) {
     if call < 5 {
         whole(call, src, out);
@@ -137,7 +201,11 @@ fn run(call: u8, src: &[u8], out: &mut [u8]) {
         read_at(call, src, out);
         return;
     }
-    write_from(call, src, out);
+    if call < 9 {
+        write_from(call, src, out);
+        return;
+    }
+    step_from(call, src, out);
 }
 
 fn whole(call: u8, src: &[u8], out: &mut [u8]) {

@@ -8,6 +8,7 @@ use oracle::primitive::{self, Named, Primitive, Tag};
 use oracle::refusal::Refusal;
 use oracle::registry::{Code, FIXED, VARIABLE};
 use oracle::report::write_report;
+use oracle::walk::{step, Found, Walk};
 use oracle::Form;
 use std::fmt::Write as _;
 use std::path::PathBuf;
@@ -20,6 +21,8 @@ const READ_TEXT: u8 = 5;
 const READ_BINARY: u8 = 6;
 const WRITE_TEXT: u8 = 7;
 const WRITE_BINARY: u8 = 8;
+const WALK_TEXT: u8 = 9;
+const WALK_BINARY: u8 = 10;
 
 /// A call with its input and the room lent.
 struct Record {
@@ -54,10 +57,36 @@ impl Record {
             REPORT_TEXT => write_report(&self.input, Form::Text, &mut out),
             REPORT_BINARY => write_report(&self.input, Form::Binary, &mut out),
             READ_TEXT | READ_BINARY => return self.read_lines(),
+            WALK_TEXT => return self.step_lines(Form::Text, 4),
+            WALK_BINARY => return self.step_lines(Form::Binary, 3),
             WRITE_TEXT => write(&self.input, Form::Text, &mut out),
             _ => write(&self.input, Form::Binary, &mut out),
         };
         line(self.call, answer, &out)
+    }
+
+    /// A step's second line: the state in units and the item's six numbers.
+    fn step_lines(&self, form: Form, unit: usize) -> String {
+        let (before, stream) = self.input.split_at(19);
+        let (next, found) = step(state_of(before, unit), stream, form);
+        let (answer, item) = match found {
+            Found::Item {
+                offset,
+                size,
+                depth,
+                code,
+            } => {
+                let [sort, sign, lead] = code_numbers(code);
+                ((0, 0), [offset, size, depth, sort, sign, lead])
+            }
+            Found::Refused { number, place } => ((number, place), [0xAA; 6]),
+            Found::End => ((255, 0), [0xAA; 6]),
+        };
+        let mut lines = format!("{} {} {} \n", self.call, answer.0, answer.1);
+        for number in numbers_of(&next, unit).iter().chain(&item) {
+            write!(lines, " {number}").unwrap();
+        }
+        lines
     }
 
     /// A read's second line: the tag places and the six numbers.
@@ -106,6 +135,37 @@ fn numbers(item: &Primitive, unit: usize) -> [usize; 6] {
     let start = units * 3 - item.raw;
     let tags = item.tag.number;
     [chars.into(), letter.into(), units, start, item.raw, tags]
+}
+
+/// An item's code in the walk: sort, letter, lead bytes.
+fn code_numbers(code: Code) -> [usize; 3] {
+    match code {
+        Code::Fixed(row) => [row.code.len(), named(row.code).1.into(), 0],
+        Code::Variable { selector, letter } => {
+            let large = usize::from(selector > b'6');
+            [5 + large, letter.into(), code.lead()]
+        }
+        Code::Group { letter, large } => [7 + usize::from(large), letter.into(), 0],
+        Code::Genus => [9, 0, 0],
+    }
+}
+
+/// Nineteen numbers in units as a state in the stream's own measure.
+fn state_of(numbers: &[u8], unit: usize) -> Walk {
+    let mut walk = Walk::start();
+    for (end, number) in walk.ends.iter_mut().zip(numbers) {
+        *end = usize::from(*number) * unit;
+    }
+    walk.open = numbers[16].into();
+    walk.position = usize::from(numbers[17]) * unit;
+    walk.first = numbers[18] == 1;
+    walk
+}
+
+fn numbers_of(walk: &Walk, unit: usize) -> Vec<usize> {
+    let mut numbers: Vec<usize> = walk.ends.iter().map(|end| end / unit).collect();
+    numbers.extend([walk.open, walk.position / unit, usize::from(walk.first)]);
+    numbers
 }
 
 /// A fixed code as two numbers: its length and its last character.
@@ -173,11 +233,11 @@ fn every_byte(records: &mut Vec<Record>) {
         }
     }
     for place in 0..3 {
+        let mut binary = [0x58, 0x68, 0x69].repeat(256);
         for byte in 0..=255 {
-            let mut binary = [0x30, 0x00, 0x01, 0x58, 0x68, 0x69];
-            binary[3 + place] = byte;
-            records.push(Record::new(TO_TEXT, 9, &binary));
+            binary[3 * usize::from(byte) + place] = byte;
         }
+        records.push(Record::new(TO_TEXT, 1025, &binary));
     }
 }
 
@@ -453,6 +513,68 @@ fn reads(records: &mut Vec<Record>) {
     read_both(records, 5, 8, b"MAABxMAABx");
 }
 
+/// Every step over a text and its binary, to the end or a refusal.
+fn walk_both(records: &mut Vec<Record>, from: [u8; 19], text: &[u8]) {
+    let binary = in_binary(text);
+    for (call, stream, unit) in [
+        (WALK_TEXT, Some(text), 4),
+        (WALK_BINARY, binary.as_deref(), 3),
+    ] {
+        let Some(stream) = stream else { continue };
+        let form = if unit == 4 { Form::Text } else { Form::Binary };
+        let mut numbers = from.to_vec();
+        loop {
+            records.push(Record::new(call, 0, &[&numbers, stream].concat()));
+            let (next, found) = step(state_of(&numbers, unit), stream, form);
+            if !matches!(found, Found::Item { .. }) {
+                break;
+            }
+            numbers = numbers_of(&next, unit).iter().map(|n| *n as u8).collect();
+        }
+    }
+}
+
+/// A state: ends, position, mark.
+fn state(ends: &[u8], at: u8, first: u8) -> [u8; 19] {
+    let mut numbers = [0; 19];
+    numbers[..ends.len()].copy_from_slice(ends);
+    numbers[16..].copy_from_slice(&[ends.len() as u8, at, first]);
+    numbers
+}
+
+fn walks(records: &mut Vec<Record>) {
+    walk_both(records, [0; 19], &nested(16, 'A'));
+    walk_both(records, [0; 19], &nested(17, 'J'));
+    for text in [
+        &b""[..],
+        b"-AAB-AAAMAAB",
+        b"-KAB_AAA-LAB_A!A",
+        b"-_AAABAA",
+        b"-AAC-_AAABAA",
+        b"-JAC-_AAABAA",
+        b"--AAAAAC-_AAACAA5BABAGhp",
+    ] {
+        walk_both(records, [0; 19], text);
+    }
+    let mut many = state(&[3; 16], 0, 0);
+    many[16] = 17;
+    let mut slot = state(&[3], 0, 0);
+    slot[15] = 1;
+    for from in [
+        many,
+        slot,
+        state(&[2], 2, 0),
+        state(&[], 4, 0),
+        state(&[2, 3], 1, 0),
+        state(&[4], 1, 0),
+        state(&[], 0, 1),
+        state(&[], 3, 1),
+        state(&[3, 3, 3], 2, 0),
+    ] {
+        walk_both(records, from, b"MAABMAABMAAB");
+    }
+}
+
 fn records() -> Vec<Record> {
     let mut records = Vec::new();
     for (text, binary) in WORKED {
@@ -467,6 +589,7 @@ fn records() -> Vec<Record> {
     written(&mut records);
     unwritten(&mut records);
     reads(&mut records);
+    walks(&mut records);
     records
 }
 
