@@ -3,6 +3,7 @@
 use format::Framed;
 use format::Kind;
 use format::Verdict;
+use judging::MAX_DEPTH;
 ghost use mathlib.Core.Path.{_≡_};
 ghost use Prim.Native.Nat.{_*_, _≤_};
 ghost use lib.ListN.{length};
@@ -177,7 +178,7 @@ pub fn judge_text(s: &[u8], at: usize, stop: usize) -> Verdict
     if stop < at {
         return Verdict::Accepted;
     }
-    level_text(s, 16, false, at, stop)
+    level_text(s, MAX_DEPTH, false, at, stop)
 }
 
 // The same of a binary.
@@ -193,5 +194,5 @@ pub fn judge_binary(s: &[u8], at: usize, stop: usize) -> Verdict
     if stop < at {
         return Verdict::Accepted;
     }
-    level_binary(s, 16, false, at, stop)
+    level_binary(s, MAX_DEPTH, false, at, stop)
 }

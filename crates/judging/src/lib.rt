@@ -14,6 +14,9 @@ ghost use Rattle.format.specs.Judging.{andThen, behind, hasLead, zeroBits, prep
 ghost use Rattle.framing.specs.Heads.{unitOf, headOf};
 ghost use Rattle.judging.specs.Own.{fixedChecks, variableChecks, groupOwn, ownBy, toldBy};
 
+// How many groups may be open, one in the other: 01's sixteen.
+pub const MAX_DEPTH: usize = 16;
+
 fn wide(x: u8) -> u32
     ensures { λ r. ⌜ (r ≡ x) × (r < 256) ⌝ }
 {

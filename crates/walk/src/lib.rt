@@ -5,6 +5,7 @@ use format::Framed;
 use format::Kind;
 use format::TextOffset;
 use format::Verdict;
+use judging::MAX_DEPTH;
 ghost use mathlib.Core.Path.{_≡_};
 ghost use mathlib.Core.Bool.{true};
 ghost use Prim.Native.Nat.{_+_, _*_, _/_, _%_, _<_, _≤_};
@@ -20,9 +21,6 @@ ghost use Rattle.walk.specs.Walking.{start, allBelow, slotFits, isFit, m
 ghost use Rattle.walk.specs.Walking.{textItem, textStep, binaryItem, binaryStep};
 ghost use Rattle.walk.specs.Stepping.{finished, entered, isEntered, isMarking, barredBy, frameHead, ownOf, behindOf};
 ghost use Rattle.walk.specs.Stepping.{foundBy, partStep, reach, Slotted, Ready, Within, InReach};
-
-// How many groups may be open: 01's sixteen.
-pub const MAX_DEPTH: usize = 16;
 
 // The longest streams: 1.
 const MAX_CHARACTERS: usize = 4194304;
