@@ -9,6 +9,11 @@ ghost use Rattle.io.specs.Counts.{Counts};
 ghost use Rattle.format.specs.Units.{text, binary};
 ghost use Rattle.programs.specs.Printed.{printedAnswer, printedLeft, Fits, Came};
 
+// The longest stream that is reported, and room for each such report: 17 + 18 x 2,730.
+const LONGEST: usize = 8192;
+
+const ROOM: usize = 49157;
+
 // What came from standard input: whole, so many bytes, or cut off by a read that failed.
 pub enum Input {
     Failed,
@@ -48,16 +53,16 @@ pub fn read_stream(buffer: &mut [u8]) -> Input
     Input::Whole(done)
 }
 
-// What the text program writes, at the start of out: room for 49,157 bytes serves every stream.
+// What the text program writes, at the start of out.
 pub fn answer_text(s: &[u8], out: &mut [u8]) -> usize
     ensures { λ r. ⌜ r ≡ printedAnswer text (now (s .entry)) (length (now (out .entry))) ⌝ }
     ensures { λ r. ⌜ now (out .exit) ≡ printedLeft text (now (s .entry)) (now (out .entry)) ⌝ }
     ensures { λ r. ⌜ Counts r (now (out .exit)) ⌝ }
 {
-    if out.len() < 49157 {
+    if out.len() < ROOM {
         return 0;
     }
-    if 8192 < s.len() {
+    if LONGEST < s.len() {
         out[0] = 1;
         return 1;
     }
@@ -73,10 +78,10 @@ pub fn answer_binary(s: &[u8], out: &mut [u8]) -> usize
     ensures { λ r. ⌜ now (out .exit) ≡ printedLeft binary (now (s .entry)) (now (out .entry)) ⌝ }
     ensures { λ r. ⌜ Counts r (now (out .exit)) ⌝ }
 {
-    if out.len() < 49157 {
+    if out.len() < ROOM {
         return 0;
     }
-    if 8192 < s.len() {
+    if LONGEST < s.len() {
         out[0] = 1;
         return 1;
     }
