@@ -80,10 +80,12 @@ fn any_byte(random: &mut Random, _: Form, stream: &mut Vec<u8>) {
 }
 
 /// Characters next to the alphabet's, and those of the ordinary one.
+pub const STRANGERS: &[u8] = b"+/=\n \t.,!@[^`{/:;\x00\x0D\x7F\x80\xC1\xFF";
+
 fn wrong_alphabet(random: &mut Random, _: Form, stream: &mut Vec<u8>) {
     let place = random.below(stream.len());
     if let Some(byte) = stream.get_mut(place) {
-        *byte = *random.pick(b"+/=\n \t.,!@[^`{/:;\x00\x0D\x7F\x80\xC1\xFF");
+        *byte = *random.pick(STRANGERS);
     }
 }
 
@@ -129,6 +131,17 @@ fn splice(random: &mut Random, _: Form, stream: &mut Vec<u8>) {
     stream.truncate(1 << 16);
 }
 
+/// The start of one stream and the end of another; mostly cut between units.
+pub fn cross(random: &mut Random, form: Form, one: &[u8], other: &[u8]) -> Vec<u8> {
+    let mut cut = |stream: &[u8]| {
+        if random.once_in(4) {
+            return random.below(stream.len() + 1);
+        }
+        unit_offset(random, form, stream)
+    };
+    [&one[..cut(one)], &other[cut(other)..]].concat()
+}
+
 /// A known, unknown or reserved head, over a unit or before it.
 fn another_head(random: &mut Random, form: Form, stream: &mut Vec<u8>) {
     let offset = unit_offset(random, form, stream);
@@ -158,10 +171,12 @@ fn another_count(random: &mut Random, form: Form, stream: &mut Vec<u8>) {
     form.put(stream, offset, bits & 0xFF_F000 | count & 0xFFF);
 }
 
+/// The genus/version that is read, and others that differ from it.
+pub const GENUS_CODES: [&str; 5] = ["-_AAACAA", "-_AAABAA", "-_BAACAA", "-_AAACAB", "-_ABACAA"];
+
 /// A genus/version of some kind before any unit, often the first of a group.
 fn genus_code(random: &mut Random, form: Form, stream: &mut Vec<u8>) {
-    let codes = ["-_AAACAA", "-_AAABAA", "-_BAACAA", "-_AAACAB", "-_ABACAA"];
-    let code = form.of_text(random.pick(&codes).as_bytes());
+    let code = form.of_text(random.pick(&GENUS_CODES).as_bytes());
     let headers = group_headers(form, stream);
     let offset = if headers.is_empty() || random.once_in(2) {
         unit_offset(random, form, stream)

@@ -64,25 +64,38 @@ pub fn group(random: &mut Random, letter: u8, large: bool, body: Vec<Item>) -> I
     }
 }
 
-/// One item of every fixed code, of every variable type under every selector,
-/// of every group letter, small and large, empty and not, and genus/versions.
+/// How many items `one_code` tells apart.
+pub const CODES: usize = FIXED.len() + VARIABLES + 4 * GROUPS.len() + 1;
+
+const VARIABLES: usize = TYPES.len() * SELECTORS.len();
+
+/// An item of the code with this index below `CODES`: every fixed code, every
+/// variable type under every selector, every group letter, small and large,
+/// empty and not, and the genus/version.
+pub fn one_code(random: &mut Random, index: usize) -> Item {
+    if let Some(row) = FIXED.get(index) {
+        return fixed(random, *row);
+    }
+    let index = index - FIXED.len();
+    if index < VARIABLES {
+        let n = random.below(5);
+        let selector = SELECTORS[index % SELECTORS.len()];
+        return variable(random, selector, TYPES[index / SELECTORS.len()], n);
+    }
+    let index = index - VARIABLES;
+    let Some(letter) = GROUPS.get(index / 4) else {
+        return Item::Genus(GENUS_VERSION);
+    };
+    let mut body = Vec::new();
+    if index % 2 == 1 {
+        body.extend([any_primitive(random), any_primitive(random)]);
+    }
+    group(random, *letter, index % 4 > 1, body)
+}
+
+/// All of them, one behind the other.
 pub fn every_code(random: &mut Random) -> Vec<Item> {
-    let mut items: Vec<Item> = FIXED.iter().map(|row| fixed(random, *row)).collect();
-    for letter in TYPES {
-        for selector in SELECTORS {
-            let n = random.below(5);
-            items.push(variable(random, *selector, *letter, n));
-        }
-    }
-    for letter in GROUPS {
-        for large in [false, true] {
-            items.push(group(random, *letter, large, Vec::new()));
-            let body = vec![any_primitive(random), any_primitive(random)];
-            items.push(group(random, *letter, large, body));
-        }
-    }
-    items.push(Item::Genus(GENUS_VERSION));
-    items
+    (0..CODES).map(|index| one_code(random, index)).collect()
 }
 
 pub fn any_primitive(random: &mut Random) -> Item {
@@ -196,6 +209,24 @@ mod tests {
             assert_eq!(text.len() % 4, 0);
             assert!(text.iter().all(|c| ALPHABET.contains(c)));
         }
+    }
+
+    #[test]
+    fn every_code_is_there_once() {
+        let items = every_code(&mut Random::new(1));
+        let heads = |item: &Item| stream(std::slice::from_ref(item))[..4].to_vec();
+        let primitives = FIXED.len() + VARIABLES;
+        let mut heads: Vec<_> = items[..primitives].iter().map(heads).collect();
+        heads.iter_mut().for_each(|head| match head[0] {
+            b'4'..=b'6' => head.truncate(2),
+            b'0' => head.truncate(2),
+            b'1' | b'7'..=b'9' => {}
+            _ => head.truncate(1),
+        });
+        heads.sort();
+        heads.dedup();
+        assert_eq!((heads.len(), items.len()), (primitives, CODES));
+        assert_eq!(items[CODES - 1], Item::Genus(GENUS_VERSION));
     }
 
     #[test]

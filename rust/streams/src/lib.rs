@@ -3,8 +3,9 @@
 //! `generate` makes items that 01 accepts, of every code, selector and
 //! nesting; `decks` the long streams that are timed; `damage` changes a stream
 //! in the ways that streams go wrong; `noise` makes streams that were never
-//! right; `shrink` makes a failing stream small. The codes are typed in from
-//! 003 (`table`), so nothing here is shared with the programs it tries.
+//! right; `papers` are the papers' own; `shrink` makes a failing stream small.
+//! The codes are typed in from 003 (`table`), so nothing here is shared with
+//! the programs it tries.
 //!
 //! All of it is made from a seed: the same seed gives the same streams.
 
@@ -16,6 +17,7 @@ pub mod form;
 pub mod generate;
 pub mod item;
 pub mod noise;
+pub mod papers;
 pub mod random;
 pub mod shrink;
 pub mod table;

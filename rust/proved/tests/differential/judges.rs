@@ -2,7 +2,7 @@
 //! answer and what they leave in the buffers must be the same.
 
 use crate::walks;
-use streams::Form;
+use streams::{Form, Random};
 
 /// Nothing, or which call differs and how.
 pub type Check = Result<(), String>;
@@ -36,9 +36,13 @@ pub fn oracle_form(form: Form) -> oracle::Form {
     }
 }
 
-/// Just enough, one less, none, and more.
-pub fn rooms(size: usize) -> [usize; 4] {
-    [size, size.saturating_sub(1), 0, size + 9]
+/// More than enough, just enough, one less, and none; each once.
+pub fn rooms(size: usize) -> impl Iterator<Item = usize> {
+    let one_less = size.checked_sub(1).filter(|less| *less > 0);
+    let none = (size > 0).then_some(0);
+    [Some(size + 9), Some(size), one_less, none]
+        .into_iter()
+        .flatten()
 }
 
 /// A call of both on a buffer of each room, which held AA before.
@@ -61,12 +65,31 @@ pub fn lent(
 pub fn alike(stream: &[u8], form: Form) -> Check {
     report(stream, form)?;
     conversion(stream, form)?;
-    let past = [stream.len(), stream.len() + 1, usize::MAX];
     let step = 1 + stream.len() / SMALL;
-    for at in (0..stream.len()).step_by(step).chain(past) {
-        read(stream, form, at)?;
-    }
-    walks::from_the_start(stream, form)
+    let offsets = (0..stream.len()).step_by(step);
+    reads(stream, form, offsets.chain(past(stream)))?;
+    walks::from_the_start(stream, form).map(drop)
+}
+
+/// Every call on one stream of very many: it is read where its items stand,
+/// where the walk stopped, at some other offsets, and past its end.
+pub fn alike_in_short(stream: &[u8], form: Form, seed: u64) -> Check {
+    report(stream, form)?;
+    conversion(stream, form)?;
+    let items = walks::from_the_start(stream, form)?;
+    let step = 1 + items.len() / SMALL;
+    let places = items.iter().copied().step_by(step);
+    let mut random = Random::new(seed);
+    let others = (0..8).map(|_| random.below(stream.len()));
+    reads(stream, form, places.chain(others).chain(past(stream)))
+}
+
+fn past(stream: &[u8]) -> [usize; 3] {
+    [stream.len(), stream.len() + 1, usize::MAX]
+}
+
+fn reads(stream: &[u8], form: Form, mut offsets: impl Iterator<Item = usize>) -> Check {
+    offsets.try_for_each(|at| read(stream, form, at))
 }
 
 pub fn report(stream: &[u8], form: Form) -> Check {
@@ -115,10 +138,15 @@ pub fn read(stream: &[u8], form: Form, at: usize) -> Check {
     }
 }
 
+/// The room that a read asks for.
+fn raw_length(text: &[u8], at: usize) -> usize {
+    let framed = oracle::frame::frame(text, oracle::Form::Text, at, text.len());
+    let mut long = vec![0; framed.map_or(0, |framed| framed.size)];
+    oracle::primitive::read_text(text, at, &mut long).map_or(0, |found| found.raw)
+}
+
 fn read_text(stream: &[u8], at: usize) -> Check {
-    let mut long = vec![0; stream.len()];
-    let found = oracle::primitive::read_text(stream, at, &mut long);
-    for room in rooms(found.map_or(0, |primitive| primitive.raw)) {
+    for room in rooms(raw_length(stream, at)) {
         let (mut ours, mut theirs) = (vec![0xAA; room], vec![0xAA; room]);
         let (mut tag, mut info) = BEFORE;
         let answer = proved::read_text(stream, at, &mut ours, &mut tag, &mut info);

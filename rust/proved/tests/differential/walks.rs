@@ -99,17 +99,21 @@ pub fn one_step(stream: &[u8], form: Form, state: &mut State) -> Result<bool, St
     Ok(answer == Ok(true))
 }
 
-/// Step by step to the end or the first refusal.
-pub fn from_the_start(stream: &[u8], form: Form) -> Check {
+/// Step by step to the end or the first refusal: the offsets of the items, and
+/// where it stopped.
+pub fn from_the_start(stream: &[u8], form: Form) -> Result<Vec<usize>, String> {
     from(stream, form, [0; 19], usize::MAX)
 }
 
-fn from(stream: &[u8], form: Form, mut state: State, most: usize) -> Check {
-    let mut steps = 0;
-    while steps < most && one_step(stream, form, &mut state)? {
-        steps += 1;
+fn from(stream: &[u8], form: Form, mut state: State, most: usize) -> Result<Vec<usize>, String> {
+    let mut places = Vec::new();
+    while places.len() < most {
+        places.push(state[17].saturating_mul(form.unit()));
+        if !one_step(stream, form, &mut state)? {
+            break;
+        }
     }
-    Ok(())
+    Ok(places)
 }
 
 /// A few steps from states that no walk gave, and of which many are 13.

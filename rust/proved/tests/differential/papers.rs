@@ -1,0 +1,151 @@
+//! The papers' streams: as they stand, cut short at every place, and damaged
+//! in every place; and what 01 itself answers.
+
+use crate::{deck, demand, demands, judges};
+use streams::damage::{GENUS_CODES, STRANGERS};
+use streams::form::FORMS;
+use streams::generate::{any_deck, nested};
+use streams::item::{stream, Item};
+use streams::{papers, Form, Random};
+
+/// All of them, and groups up to twenty deep.
+fn texts() -> Vec<Vec<u8>> {
+    let papers = [papers::DECK, papers::POINTS, papers::EXAMPLES].concat();
+    let mut texts: Vec<_> = papers.iter().map(|text| text.as_bytes().to_vec()).collect();
+    for deep in 0..=20 {
+        for letters in [&b"A"[..], b"J", b"AJCK", b"Z"] {
+            texts.push(stream(&nested(letters, deep, number())));
+        }
+    }
+    texts
+}
+
+fn number() -> Vec<Item> {
+    vec![Item::Primitive(b"MAAB".to_vec())]
+}
+
+#[test]
+fn whole_and_cut_short() {
+    for text in texts() {
+        for form in FORMS {
+            let made = form.of_text(&text);
+            for end in 0..=made.len() {
+                demand(&made[..end], form, |s| judges::alike(s, form));
+            }
+        }
+        demand(
+            &Form::Binary.of_text(&text),
+            Form::Binary,
+            demands::converted,
+        );
+    }
+}
+
+#[test]
+fn every_bit_flipped() {
+    for text in texts() {
+        for form in FORMS {
+            let mut made = form.of_text(&text);
+            for bit in 0..8 * made.len() {
+                made[bit / 8] ^= 1 << (bit % 8);
+                demand(&made, form, |s| judges::alike_in_short(s, form, bit as u64));
+                made[bit / 8] ^= 1 << (bit % 8);
+            }
+        }
+    }
+}
+
+#[test]
+fn a_stranger_in_every_place() {
+    for text in texts() {
+        for place in 0..text.len() {
+            let mut made = text.clone();
+            made[place] = STRANGERS[place % STRANGERS.len()];
+            demand(&made, Form::Text, |s| judges::alike(s, Form::Text));
+        }
+    }
+}
+
+/// Each small group counts more and less, in every place of a stream.
+#[test]
+fn every_count_pushed() {
+    for text in texts() {
+        for form in FORMS {
+            let made = form.of_text(&text);
+            for offset in (0..made.len()).step_by(form.unit()) {
+                let bits = form.bits(&made, offset);
+                for count in [bits.wrapping_add(1), bits.wrapping_sub(1), bits + 2, !0] {
+                    let mut pushed = made.clone();
+                    form.put(&mut pushed, offset, bits & 0xFF_F000 | count & 0xFFF);
+                    demand(&pushed, form, |s| judges::alike_in_short(s, form, 1));
+                }
+            }
+        }
+    }
+}
+
+#[test]
+fn genus_codes_in_every_place() {
+    let mut random = Random::new(0x6E05);
+    let decks = (0..30).map(|_| stream(&any_deck(&mut random, 3)));
+    for text in texts().into_iter().chain(decks.collect::<Vec<_>>()) {
+        for place in (0..=text.len().min(600)).step_by(4) {
+            for code in GENUS_CODES {
+                let place = place.min(text.len());
+                let made = [&text[..place], code.as_bytes(), &text[place..]].concat();
+                for form in FORMS {
+                    let made = form.of_text(&made);
+                    demand(&made, form, |s| judges::alike_in_short(s, form, 1));
+                }
+            }
+        }
+    }
+}
+
+#[test]
+fn reports_of_01() {
+    for (text, items, refusals, remainder) in deck::TOLD {
+        let found = demands::rows(text.as_bytes(), Form::Text);
+        let told = demands::Rows {
+            items: items.to_vec(),
+            refusals: refusals.to_vec(),
+            remainder: remainder.to_vec(),
+        };
+        assert_eq!(found, told, "{text}");
+    }
+    let (text, told, room) = deck::REPORT;
+    let mut out = [0xAA; 60];
+    let mut write =
+        |room: usize| judges::by_proved(proved::report_text(text.as_bytes(), &mut out[..room]));
+    assert_eq!(write(room - 1), Err((3, 0)));
+    assert_eq!(write(room), Ok(told.len()));
+    assert_eq!((&out[..39], &out[39..]), (&told[..], &[0xAA; 21][..]));
+}
+
+/// Sixteen nested groups accepted, seventeen 11.
+#[test]
+fn depths_of_01() {
+    for letter in b"AJZ" {
+        let verdict = |deep| {
+            let text = stream(&nested(&[*letter], deep, number()));
+            demands::rows(&text, Form::Text).items[0][2]
+        };
+        assert_eq!((verdict(16), verdict(17)), (0, 11));
+    }
+}
+
+#[test]
+fn raw_values_of_01() {
+    for (text, raw) in deck::RAW {
+        let (mut out, mut tag, mut info) = ([0xAA; 4], [0; 11], [0; 6]);
+        let read = proved::read_text(text.as_bytes(), 0, &mut out, &mut tag, &mut info);
+        assert_eq!(read, Ok(raw.len()), "{text}");
+        assert_eq!(&out[..raw.len()], *raw, "{text}");
+        let binary = Form::Binary.of_text(text.as_bytes());
+        assert_eq!(
+            proved::read_binary(&binary, 0, &mut tag, &mut info),
+            Ok(raw.len())
+        );
+        assert_eq!(&binary[info[3]..], *raw, "{text}");
+    }
+}
