@@ -1,0 +1,274 @@
+/* The C interface at the edges of its buffers: every stream, buffer, tag, info, item, state and answer is memory of just its size, so
+ * that valgrind or a sanitizer sees a byte too far. Room exact, one short, none and more; slices of length 0; lengths around the
+ * limit. Exits with 1 if an answer or an untouched byte differs. `edges.sh` runs it. */
+#include "cesr.h"
+
+#include <stdio.h>
+#include <stdlib.h>
+#include <string.h>
+
+enum { HELD = 0xAA, TEXT_LIMIT = 4194304, BINARY_LIMIT = 3145728 };
+
+static int failures = 0;
+static int checks = 0;
+static int calls = 0;
+
+static void check(int holds, const char *what, size_t of) {
+    checks++;
+    if (!holds) {
+        failures++;
+        fprintf(stderr, "%s, %zu\n", what, of);
+    }
+}
+
+/* Memory of just this size that holds HELD. For size 0 there is a pointer, and nothing behind it. */
+static void *exact(size_t size) {
+    void *memory = malloc(size);
+    if (memory == NULL) {
+        fprintf(stderr, "no memory\n");
+        exit(2);
+    }
+    memset(memory, HELD, size);
+    return memory;
+}
+
+static uint8_t *copied(const void *bytes, size_t size) {
+    uint8_t *memory = exact(size);
+    memcpy(memory, bytes, size);
+    return memory;
+}
+
+static int held(const void *memory, size_t from, size_t size) {
+    const uint8_t *bytes = memory;
+    for (size_t i = from; i < size; i++) {
+        if (bytes[i] != HELD) {
+            return 0;
+        }
+    }
+    return 1;
+}
+
+/* ---- calls with a stream and a buffer */
+
+typedef uint8_t lent(const uint8_t *, size_t, uint8_t *, size_t, size_t *);
+
+/* One call on memory of its own. The number must be as told; `written` bytes may differ from HELD, or none if refused. */
+static void lend(lent *call, const uint8_t *stream, size_t length, size_t room, uint8_t number, size_t written) {
+    uint8_t *source = copied(stream, length);
+    uint8_t *out = exact(room);
+    size_t *answer = exact(sizeof *answer);
+    calls++;
+    check(call(source, length, out, room, answer) == number, "number", length);
+    if (number == 0) {
+        check(*answer == written, "length written", length);
+        check(held(out, written, room), "bytes behind the answer stay", length);
+    } else {
+        check(held(out, 0, room), "a refused call writes nothing", length);
+    }
+    check(memcmp(source, stream, length) == 0, "the stream stays", length);
+    free(source);
+    free(out);
+    free(answer);
+}
+
+/* Just enough, more, one short and none. */
+static void rooms(lent *call, const uint8_t *stream, size_t length, size_t asked, size_t written) {
+    lend(call, stream, length, asked, 0, written);
+    lend(call, stream, length, asked + 1, 0, written);
+    lend(call, stream, length, asked + 100, 0, written);
+    if (asked > 0) {
+        lend(call, stream, length, asked - 1, CESR_ROOM, 0);
+        lend(call, stream, length, 0, CESR_ROOM, 0);
+    }
+}
+
+/* Text by the unit over and over; as binary its three bytes. */
+static uint8_t *repeated(const char *unit, size_t size, size_t length) {
+    uint8_t *stream = exact(length);
+    for (size_t i = 0; i < length; i++) {
+        stream[i] = (uint8_t)unit[i % size];
+    }
+    return stream;
+}
+
+static const char YES[] = "1AAM", YES_IN_BINARY[] = "\xD4\x00\x0C";
+
+/* `items` items of one unit: the report asks 17 + 18 and writes 12 + 9 for each. */
+static void streams_of(size_t items) {
+    uint8_t *text = repeated(YES, 4, 4 * items);
+    uint8_t *binary = repeated(YES_IN_BINARY, 3, 3 * items);
+    rooms(cesr_report_text, text, 4 * items, 17 + 18 * items, 12 + 9 * items);
+    rooms(cesr_report_binary, binary, 3 * items, 17 + 18 * items, 12 + 9 * items);
+    rooms(cesr_text_to_binary, text, 4 * items, 3 * items, 3 * items);
+    rooms(cesr_binary_to_text, binary, 3 * items, 4 * items, 4 * items);
+    free(text);
+    free(binary);
+}
+
+/* A stream cut short at each of its places, so that each header and value runs past the end of its memory. */
+static void cut_short(const char *whole) {
+    size_t size = strlen(whole);
+    for (size_t length = 0; length <= size; length++) {
+        uint8_t *out = exact(17 + 18 * (length / 4 + 1));
+        uint8_t *source = copied(whole, length);
+        size_t *answer = exact(sizeof *answer), *state = exact(CESR_STATE * sizeof *state), *item = exact(6 * sizeof *item);
+        calls += 2;
+        check(cesr_report_text(source, length, out, 17 + 18 * (length / 4 + 1), answer) == 0, "a report", length);
+        memset(state, 0, CESR_STATE * sizeof *state);
+        while (cesr_walk_text(source, length, state, item, answer) == 0) {
+            calls++;
+            check(item[CESR_ITEM_OFFSET] + item[CESR_ITEM_SIZE] <= length, "an item lies in the stream", length);
+        }
+        free(out);
+        free(source);
+        free(answer);
+        free(state);
+        free(item);
+    }
+}
+
+/* ---- reading */
+
+static void read_at(const char *text, size_t at, size_t room, uint8_t number, size_t raw) {
+    size_t length = strlen(text);
+    uint8_t *source = copied(text, length), *out = exact(room), *tag = exact(11);
+    size_t *info = exact(6 * sizeof *info), *answer = exact(sizeof *answer);
+    calls++;
+    check(cesr_read_text(source, length, at, out, room, tag, info, answer) == number, "number of a read", at);
+    if (number == 0) {
+        check(*answer == raw && held(out, raw, room), "bytes behind the raw value stay", at);
+    } else {
+        check(held(out, 0, room) && held(tag, 0, 11) && held(info, 0, 6 * sizeof *info), "a refused read writes nothing", at);
+    }
+    free(source);
+    free(out);
+    free(tag);
+    free(info);
+    free(answer);
+}
+
+static void reading(void) {
+    const char *digest = "MAABEBdXt3gIXOf2BBWNHdSXCJnFJL5OuQPyM5K0neuniccM";
+    read_at(digest, 4, 32, 0, 32);
+    read_at(digest, 4, 40, 0, 32);
+    read_at(digest, 4, 31, CESR_ROOM, 0);
+    read_at(digest, 4, 0, CESR_ROOM, 0);
+    read_at("4BAA", 0, 0, 0, 0);
+    read_at("0J_A", 0, 0, 0, 0);
+    read_at("", 0, 0, CESR_PAST_END, 0);
+    /* Less than a unit is left, then nothing. */
+    for (size_t at = 45; at <= 60; at++) {
+        read_at(digest, at, 0, CESR_PAST_END, 0);
+    }
+    read_at(digest, SIZE_MAX, 0, CESR_PAST_END, 0);
+}
+
+static void reading_binary(void) {
+    for (size_t length = 0; length <= 6; length++) {
+        uint8_t *source = copied("\x30\x00\x01\x58\x68\x69", length), *tag = exact(11);
+        size_t *info = exact(6 * sizeof *info), *answer = exact(sizeof *answer);
+        uint8_t told = length == 6 ? 0 : CESR_PAST_END;
+        calls++;
+        check(cesr_read_binary(source, length, 3, tag, info, answer) == told, "number of a binary read", length);
+        if (told == 0) {
+            check(source[3 + info[CESR_INFO_START]] == 'h' && info[CESR_INFO_RAW] == 2, "the part", length);
+        } else {
+            check(held(tag, 0, 11) && held(info, 0, 6 * sizeof *info), "a refused read writes nothing", length);
+        }
+        free(source);
+        free(tag);
+        free(info);
+        free(answer);
+    }
+}
+
+/* ---- writing */
+
+typedef uint8_t writes(uint8_t, uint8_t, const uint8_t *, size_t, const uint8_t *, size_t, uint8_t *, size_t, size_t *);
+
+static void write_to(writes *call, uint8_t chars, size_t raw_length, size_t room, uint8_t number, size_t written) {
+    uint8_t *raw = exact(raw_length), *tag = exact(11), *out = exact(room);
+    size_t *answer = exact(sizeof *answer);
+    calls++;
+    check(call(chars, 'B', tag, 0, raw, raw_length, out, room, answer) == number, "number of a write", raw_length);
+    if (number == 0) {
+        check(*answer == written && held(out, written, room), "bytes behind the item stay", raw_length);
+    } else {
+        check(held(out, 0, room), "a refused write writes nothing", raw_length);
+    }
+    free(raw);
+    free(tag);
+    free(out);
+    free(answer);
+}
+
+/* A value of the type `B`, small or large, with each lead, into each room. */
+static void written(uint8_t chars, size_t raw_length) {
+    size_t units = (chars == 6 ? 2 : 1) + (raw_length + 2) / 3;
+    write_to(cesr_write_text, chars, raw_length, 4 * units, 0, 4 * units);
+    write_to(cesr_write_text, chars, raw_length, 4 * units + 5, 0, 4 * units);
+    write_to(cesr_write_text, chars, raw_length, 4 * units - 1, CESR_ROOM, 0);
+    write_to(cesr_write_text, chars, raw_length, 0, CESR_ROOM, 0);
+    write_to(cesr_write_binary, chars, raw_length, 3 * units, 0, 3 * units);
+    write_to(cesr_write_binary, chars, raw_length, 3 * units - 1, CESR_ROOM, 0);
+    write_to(cesr_write_binary, chars, raw_length, 0, CESR_ROOM, 0);
+}
+
+static void writing(void) {
+    for (size_t length = 0; length < 12; length++) {
+        written(5, length);
+        written(6, length);
+    }
+    written(5, 12285);
+    write_to(cesr_write_text, 5, 12286, 20000, CESR_UNFIT_LENGTH, 0);
+    written(6, 12286);
+    /* A fixed code takes just its length: `B` has 32 bytes. */
+    write_to(cesr_write_text, 1, 32, 44, 0, 44);
+    write_to(cesr_write_text, 1, 32, 43, CESR_ROOM, 0);
+    write_to(cesr_write_text, 1, 31, 44, CESR_UNFIT_LENGTH, 0);
+    write_to(cesr_write_binary, 1, 32, 33, 0, 33);
+    write_to(cesr_write_binary, 1, 32, 32, CESR_ROOM, 0);
+    write_to(cesr_write_text, 1, 0, 0, CESR_UNFIT_LENGTH, 0);
+    write_to(cesr_write_text, 0, 0, 0, CESR_UNKNOWN_CODE, 0);
+}
+
+/* ---- the limit's length */
+
+static void limits(void) {
+    uint8_t *text = repeated(YES, 4, TEXT_LIMIT + 1);
+    uint8_t *binary = repeated(YES_IN_BINARY, 3, BINARY_LIMIT + 1);
+    size_t items = TEXT_LIMIT / 4;
+    lend(cesr_report_text, text, TEXT_LIMIT, 17 + 18 * items, 0, 12 + 9 * items);
+    lend(cesr_report_text, text, TEXT_LIMIT, 16 + 18 * items, CESR_ROOM, 0);
+    lend(cesr_report_text, text, TEXT_LIMIT + 1, 17, CESR_TOO_LONG, 0);
+    lend(cesr_report_binary, binary, BINARY_LIMIT, 17 + 18 * items, 0, 12 + 9 * items);
+    lend(cesr_report_binary, binary, BINARY_LIMIT + 1, 17, CESR_TOO_LONG, 0);
+    lend(cesr_text_to_binary, text, TEXT_LIMIT, BINARY_LIMIT, 0, BINARY_LIMIT);
+    lend(cesr_text_to_binary, text, TEXT_LIMIT, BINARY_LIMIT - 1, CESR_ROOM, 0);
+    lend(cesr_text_to_binary, text, TEXT_LIMIT + 1, BINARY_LIMIT, CESR_TOO_LONG, 0);
+    lend(cesr_binary_to_text, binary, BINARY_LIMIT, TEXT_LIMIT, 0, TEXT_LIMIT);
+    lend(cesr_binary_to_text, binary, BINARY_LIMIT, TEXT_LIMIT - 1, CESR_ROOM, 0);
+    lend(cesr_binary_to_text, binary, BINARY_LIMIT + 1, TEXT_LIMIT, CESR_TOO_LONG, 0);
+    free(text);
+    free(binary);
+    /* The largest value: two units of header, and lead bytes before the rest. */
+    write_to(cesr_write_text, 6, 3145722, TEXT_LIMIT, 0, TEXT_LIMIT);
+    write_to(cesr_write_text, 6, 3145722, TEXT_LIMIT - 1, CESR_ROOM, 0);
+    write_to(cesr_write_binary, 6, 3145722, BINARY_LIMIT, 0, BINARY_LIMIT);
+    write_to(cesr_write_binary, 6, 3145723, BINARY_LIMIT, CESR_UNFIT_LENGTH, 0);
+}
+
+int main(void) {
+    for (size_t items = 0; items < 40; items++) {
+        streams_of(items);
+    }
+    streams_of(2048); /* 8,192 characters */
+    cut_short("-AAE-_AAACAA0J_AMAAB-JAC5BABAGhp--KAAAABAAAA9AABAAABAABh7AABAAAA");
+    cut_short("EBdXt3gIXOf2BBWNHdSXCJnFJL5OuQPyM5K0neuniccM1AAF____0HD_____");
+    reading();
+    reading_binary();
+    writing();
+    limits();
+    printf("%d calls, %d checks, %d failed\n", calls, checks, failures);
+    return failures != 0;
+}
