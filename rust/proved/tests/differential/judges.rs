@@ -7,7 +7,7 @@ use streams::{Form, Random};
 /// Nothing, or which call differs and how.
 pub type Check = Result<(), String>;
 
-/// The length or the value written, or number and place.
+/// The length written or read, or number and place.
 pub type Answer = Result<usize, (u8, usize)>;
 
 /// Streams up to this length are read at every offset.
@@ -21,7 +21,7 @@ pub fn same<T: PartialEq + std::fmt::Debug>(call: &str, proved: T, oracle: T) ->
     Err(shown.chars().take(2000).collect())
 }
 
-pub fn by_proved(answer: Result<usize, proved::Refusal>) -> Answer {
+pub fn by_proved<T>(answer: Result<T, proved::Refusal>) -> Result<T, (u8, usize)> {
     answer.map_err(|refused| (refused.number, refused.place))
 }
 
@@ -94,41 +94,40 @@ fn reads(stream: &[u8], form: Form, mut offsets: impl Iterator<Item = usize>) ->
 
 pub fn report(stream: &[u8], form: Form) -> Check {
     let found = oracle::report::report(stream, oracle_form(form));
-    let call = match form {
-        Form::Text => proved::report_text,
-        Form::Binary => proved::report_binary,
+    let room = found.map_or(17, |report| report.room());
+    let calls: [Call; 2] = match form {
+        Form::Text => [proved::report_text, beside::report_text],
+        Form::Binary => [proved::report_binary, beside::report_binary],
     };
-    lent(
-        "report",
-        found.map_or(17, |report| report.room()),
-        |out| by_proved(call(stream, out)),
-        |out| {
-            let written = oracle::report::write_report(stream, oracle_form(form), out);
-            by_oracle(written)
-        },
-    )
+    both("report", stream, room, calls)
 }
 
 pub fn conversion(stream: &[u8], form: Form) -> Check {
+    let size = stream.len();
     match form {
-        Form::Text => lent(
-            "text to binary",
-            stream.len() / 4 * 3,
-            |out| by_proved(proved::to_binary(stream, out)),
-            |out| by_oracle(oracle::convert::to_binary(stream, out)),
-        ),
-        Form::Binary => lent(
-            "binary to text",
-            stream.len() / 3 * 4,
-            |out| by_proved(proved::to_text(stream, out)),
-            |out| by_oracle(oracle::convert::to_text(stream, out)),
-        ),
+        Form::Text => {
+            let calls = [proved::to_binary, beside::to_binary];
+            both("text to binary", stream, size / 4 * 3, calls)
+        }
+        Form::Binary => {
+            let calls = [proved::to_text, beside::to_text];
+            both("binary to text", stream, size / 3 * 4, calls)
+        }
     }
 }
 
-/// Answer, tag and info, which held AA before.
-type Read = (Answer, proved::Tag, proved::Info);
+type Call = fn(&[u8], &mut [u8]) -> Result<usize, proved::Refusal>;
 
+fn both(name: &str, stream: &[u8], size: usize, [proved, oracle]: [Call; 2]) -> Check {
+    lent(
+        name,
+        size,
+        |out| by_proved(proved(stream, out)),
+        |out| by_proved(oracle(stream, out)),
+    )
+}
+
+/// Tag and info as they are before a read.
 const BEFORE: (proved::Tag, proved::Info) = ([0xAA; 11], [0xAA; 6]);
 
 pub fn read(stream: &[u8], form: Form, at: usize) -> Check {
@@ -149,43 +148,29 @@ fn read_text(stream: &[u8], at: usize) -> Check {
     for room in rooms(raw_length(stream, at)) {
         let (mut ours, mut theirs) = (vec![0xAA; room], vec![0xAA; room]);
         let (mut tag, mut info) = BEFORE;
+        let (mut told_tag, mut told_info) = BEFORE;
         let answer = proved::read_text(stream, at, &mut ours, &mut tag, &mut info);
-        let found = oracle::primitive::read_text(stream, at, &mut theirs);
-        let told = (expected(found, 4), theirs);
-        same("read", ((by_proved(answer), tag, info), ours), told)
-            .map_err(|why| format!("at {at}, room {room}, {why}"))?;
+        let told = beside::read_text(stream, at, &mut theirs, &mut told_tag, &mut told_info);
+        same(
+            "read",
+            (by_proved(answer), tag, info, ours),
+            (by_proved(told), told_tag, told_info, theirs),
+        )
+        .map_err(|why| format!("at {at}, room {room}, {why}"))?;
     }
     Ok(())
 }
 
+/// Nothing is copied out of binary; info says where the raw value lies.
 fn read_binary(stream: &[u8], at: usize) -> Check {
     let (mut tag, mut info) = BEFORE;
+    let (mut told_tag, mut told_info) = BEFORE;
     let answer = proved::read_binary(stream, at, &mut tag, &mut info);
-    let found = oracle::primitive::read_binary(stream, at);
-    let told = expected(found.map(|(primitive, _)| primitive), 3);
-    let part = match found {
-        Ok((_, part)) => part,
-        Err(_) => &[],
-    };
-    let ours = match answer {
-        Ok(raw) => &stream[at + info[3]..at + info[3] + raw],
-        Err(_) => &[],
-    };
-    same("read", ((by_proved(answer), tag, info), ours), (told, part))
-        .map_err(|why| format!("at {at}, {why}"))
-}
-
-/// What the oracle found, in the proved library's numbers.
-fn expected(found: Result<oracle::primitive::Primitive, oracle::Refusal>, unit: usize) -> Read {
-    match found {
-        Ok(primitive) => {
-            let (chars, letter, _) = walks::code(primitive.code);
-            let units = primitive.size / unit;
-            let start = 3 * units - primitive.raw;
-            let tag = primitive.tag;
-            let info = [chars, letter, units, start, primitive.raw, tag.number];
-            (Ok(primitive.raw), tag.characters, info)
-        }
-        Err(refused) => (Err((refused.number, refused.place)), BEFORE.0, BEFORE.1),
-    }
+    let told = beside::read_binary(stream, at, &mut told_tag, &mut told_info);
+    same(
+        "read",
+        (by_proved(answer), tag, info),
+        (by_proved(told), told_tag, told_info),
+    )
+    .map_err(|why| format!("at {at}, {why}"))
 }

@@ -1,102 +1,31 @@
-//! Steps of the walk by both, from the start and from made-up states. The
-//! oracle's state counts the stream's own elements, the proved one units.
+//! Steps of the walk by both, from the start and from made-up states.
 
-use crate::judges::{oracle_form, same, Check};
-use oracle::registry::Code;
-use oracle::walk::{step, Found, Walk};
+use crate::judges::{by_proved, same, Check};
 use proved::State;
 use streams::{Form, Random};
 
-/// chars, letter and lead bytes, as `include/cesr.h` numbers them.
-pub fn code(code: Code) -> (usize, usize, usize) {
-    match code {
-        Code::Fixed(row) => {
-            let characters = row.code.as_bytes();
-            let letter = characters[characters.len() - 1];
-            (characters.len(), usize::from(letter), 0)
-        }
-        Code::Variable { selector, letter } => {
-            let (large, lead) = ((selector - b'4') / 3, (selector - b'4') % 3);
-            (
-                usize::from(5 + large),
-                usize::from(letter),
-                usize::from(lead),
-            )
-        }
-        Code::Group { letter, large } => (7 + usize::from(large), usize::from(letter), 0),
-        Code::Genus => (9, 0, 0),
-    }
-}
-
-/// A proved state in the oracle's measure. A number too large for that is past
-/// every stream in both. Nothing for a mark that is no mark.
-fn oracle_state(state: &State, unit: usize) -> Option<Walk> {
-    let mut walk = Walk::start();
-    for (end, units) in walk.ends.iter_mut().zip(state) {
-        *end = units.saturating_mul(unit);
-    }
-    walk.open = state[16];
-    walk.position = state[17].saturating_mul(unit);
-    walk.first = state[18] == 1;
-    (state[18] < 2).then_some(walk)
-}
-
-fn proved_state(walk: &Walk, unit: usize) -> State {
-    let mut state = [0; 19];
-    for (units, end) in state.iter_mut().zip(walk.ends) {
-        *units = end / unit;
-    }
-    state[16] = walk.open;
-    state[17] = walk.position / unit;
-    state[18] = usize::from(walk.first);
-    state
-}
-
-/// What one step of the oracle should make of state and item.
-type Stepped = (Result<bool, (u8, usize)>, State, proved::Item);
-
-fn expected(stream: &[u8], form: Form, state: &State, item: &proved::Item) -> Stepped {
-    let Some(walk) = oracle_state(state, form.unit()) else {
-        let too_long = stream.len() > oracle_form(form).limit();
-        return (Err((if too_long { 1 } else { 13 }, 0)), *state, *item);
-    };
-    match step(walk, stream, oracle_form(form)) {
-        (_, Found::Refused { number, place }) => (Err((number, place)), *state, *item),
-        (_, Found::End) => (Ok(false), *state, *item),
-        (next, found) => {
-            let state = proved_state(&next, form.unit());
-            (Ok(true), state, item_of(found))
-        }
-    }
-}
-
-fn item_of(found: Found) -> proved::Item {
-    match found {
-        Found::Item {
-            offset,
-            size,
-            depth,
-            code: named,
-        } => {
-            let (chars, letter, lead) = code(named);
-            [offset, size, depth, chars, letter, lead]
-        }
-        _ => [0; 6],
-    }
-}
-
-/// One step of both; whether an item was found.
+/// One step of both; whether an item was found. State and item must be the
+/// same afterwards, also where they must stay.
 pub fn one_step(stream: &[u8], form: Form, state: &mut State) -> Result<bool, String> {
     let before = *state;
-    let mut item = [0xAA; 6];
-    let told = expected(stream, form, state, &item);
-    let answer = match form {
-        Form::Text => proved::walk_text(stream, state, &mut item),
-        Form::Binary => proved::walk_binary(stream, state, &mut item),
+    let (mut item, mut told_state, mut told_item) = ([0xAA; 6], *state, [0xAA; 6]);
+    let (ours, theirs) = match form {
+        Form::Text => (
+            proved::walk_text(stream, state, &mut item),
+            beside::walk_text(stream, &mut told_state, &mut told_item),
+        ),
+        Form::Binary => (
+            proved::walk_binary(stream, state, &mut item),
+            beside::walk_binary(stream, &mut told_state, &mut told_item),
+        ),
     };
-    let answer = answer.map_err(|refused| (refused.number, refused.place));
-    same("walk", (answer, *state, item), told).map_err(|why| format!("from {before:?}, {why}"))?;
-    Ok(answer == Ok(true))
+    same(
+        "walk",
+        (by_proved(ours), *state, item),
+        (by_proved(theirs), told_state, told_item),
+    )
+    .map_err(|why| format!("from {before:?}, {why}"))?;
+    Ok(ours == Ok(true))
 }
 
 /// Step by step to the end or the first refusal: the offsets of the items, and

@@ -1,0 +1,84 @@
+//! The walk. The oracle's state counts the stream's own elements, the
+//! library's counts units.
+
+use oracle::registry::Code;
+use oracle::walk::{step, Found, Walk};
+use oracle::Form;
+use proved::{Item, Refusal, State};
+
+/// chars, letter and lead bytes, as `include/cesr.h` numbers them.
+pub fn code(code: Code) -> (usize, usize, usize) {
+    match code {
+        Code::Fixed(row) => {
+            let characters = row.code.as_bytes();
+            let letter = characters[characters.len() - 1];
+            (characters.len(), usize::from(letter), 0)
+        }
+        Code::Variable { selector, letter } => {
+            let (large, lead) = ((selector - b'4') / 3, (selector - b'4') % 3);
+            (
+                usize::from(5 + large),
+                usize::from(letter),
+                usize::from(lead),
+            )
+        }
+        Code::Group { letter, large } => (7 + usize::from(large), usize::from(letter), 0),
+        Code::Genus => (9, 0, 0),
+    }
+}
+
+pub fn walk_text(text: &[u8], state: &mut State, item: &mut Item) -> Result<bool, Refusal> {
+    walk(text, Form::Text, state, item)
+}
+
+pub fn walk_binary(binary: &[u8], state: &mut State, item: &mut Item) -> Result<bool, Refusal> {
+    walk(binary, Form::Binary, state, item)
+}
+
+fn walk(stream: &[u8], form: Form, state: &mut State, item: &mut Item) -> Result<bool, Refusal> {
+    let Some(walk) = in_elements(state, form.unit()) else {
+        // A mark that is no mark: 13, and 1 comes before it.
+        let number = if stream.len() > form.limit() { 1 } else { 13 };
+        return Err(Refusal { number, place: 0 });
+    };
+    let (next, found) = step(walk, stream, form);
+    match found {
+        Found::Refused { number, place } => Err(Refusal { number, place }),
+        Found::End => Ok(false),
+        Found::Item {
+            offset,
+            size,
+            depth,
+            code: named,
+        } => {
+            let (chars, letter, lead) = code(named);
+            *item = [offset, size, depth, chars, letter, lead];
+            *state = in_units(&next, form.unit());
+            Ok(true)
+        }
+    }
+}
+
+/// A library's state in the oracle's measure. A number too large for that is
+/// past every stream in both. Nothing for a mark that is no mark.
+fn in_elements(state: &State, unit: usize) -> Option<Walk> {
+    let mut walk = Walk::start();
+    for (end, units) in walk.ends.iter_mut().zip(state) {
+        *end = units.saturating_mul(unit);
+    }
+    walk.open = state[16];
+    walk.position = state[17].saturating_mul(unit);
+    walk.first = state[18] == 1;
+    (state[18] < 2).then_some(walk)
+}
+
+fn in_units(walk: &Walk, unit: usize) -> State {
+    let mut state = [0; 19];
+    for (units, end) in state.iter_mut().zip(walk.ends) {
+        *units = end / unit;
+    }
+    state[16] = walk.open;
+    state[17] = walk.position / unit;
+    state[18] = usize::from(walk.first);
+    state
+}

@@ -1,0 +1,194 @@
+//! One input before both: the proved library with its buffers at the fence,
+//! the oracle with ordinary ones.
+
+use crate::fence::{Edge, Fence, LONGEST};
+use crate::input::{Call, Front, Room};
+use crate::long;
+use proved::{Primitive, Refusal, State, Tag};
+use std::cell::RefCell;
+use streams::Form;
+
+/// What buffers hold before a call.
+pub const HELD: u8 = 0xAA;
+pub const NUMBER: usize = 0xAAAA;
+
+/// Fences for the stream, the buffer, the tag, and the numbers.
+struct Memory {
+    edge: Edge,
+    stream: Fence,
+    out: Fence,
+    tag: Fence,
+    state: Fence,
+    numbers: Fence,
+}
+
+thread_local! {
+    static MEMORY: RefCell<Memory> = RefCell::new(Memory {
+        edge: Edge::End,
+        stream: Fence::new(),
+        out: Fence::new(),
+        tag: Fence::new(),
+        state: Fence::new(),
+        numbers: Fence::new(),
+    });
+}
+
+/// Tries one input; a difference is a panic.
+pub fn one(input: &[u8]) {
+    MEMORY.with_borrow_mut(|memory| {
+        let mut front = Front(&input[..input.len().min(LONGEST / 8)]);
+        let (call, form, edge, too_long) = front.choice();
+        memory.edge = edge;
+        let room = front.room();
+        if too_long {
+            return long::one(call, form, room.of(20), front);
+        }
+        match call {
+            Call::Report => report(memory, form, room, front.0),
+            Call::Convert => convert(memory, form, room, front.0),
+            Call::Read => {
+                let at = front.number();
+                read(memory, form, room, front.0, at);
+            }
+            Call::Write => write(memory, form, room, front),
+            Call::Walk => drop(walk(memory, form, front.0, [0; 19], usize::MAX)),
+            Call::WalkFrom => {
+                let state = front.state();
+                walk(memory, form, front.0, state, 20);
+            }
+            Call::ReadItems => {
+                for at in walk(memory, form, front.0, [0; 19], 40) {
+                    read(memory, form, room, front.0, at);
+                }
+            }
+            Call::All => {
+                report(memory, form, room, front.0);
+                convert(memory, form, room, front.0);
+                walk(memory, form, front.0, [0; 19], usize::MAX);
+            }
+        }
+    });
+}
+
+/// A copy of the stream at the fence.
+fn placed<'a>(fence: &'a mut Fence, edge: Edge, stream: &[u8]) -> &'a [u8] {
+    let copy = fence.lend(edge, stream.len(), 0);
+    copy.copy_from_slice(stream);
+    copy
+}
+
+/// A call with a stream and a buffer.
+type Lent = fn(&[u8], &mut [u8]) -> Result<usize, Refusal>;
+
+/// Both on the same room; the stream stays as it was.
+fn lent(memory: &mut Memory, stream: &[u8], room: usize, [proved, oracle]: [Lent; 2]) {
+    let source = placed(&mut memory.stream, memory.edge, stream);
+    let ours = memory.out.lend(memory.edge, room, HELD);
+    let mut theirs = vec![HELD; room];
+    assert_eq!(proved(source, ours), oracle(stream, &mut theirs));
+    assert_eq!(ours, theirs);
+    assert_eq!(source, stream);
+}
+
+/// The room asked is 17 + 18 x items.
+fn report(memory: &mut Memory, form: Form, room: Room, stream: &[u8]) {
+    let calls: [Lent; 2] = match form {
+        Form::Text => [proved::report_text, beside::report_text],
+        Form::Binary => [proved::report_binary, beside::report_binary],
+    };
+    let mut long = vec![0; 17 + 18 * stream.len()];
+    let items = match calls[1](stream, &mut long) {
+        Ok(_) => u32::from_be_bytes([long[0], long[1], long[2], long[3]]),
+        Err(_) => 0,
+    };
+    lent(memory, stream, room.of(17 + 18 * items as usize), calls);
+}
+
+fn convert(memory: &mut Memory, form: Form, room: Room, stream: &[u8]) {
+    let size = stream.len();
+    let (asked, calls): (usize, [Lent; 2]) = match form {
+        Form::Text => (size / 4 * 3, [proved::to_binary, beside::to_binary]),
+        Form::Binary => (size / 3 * 4, [proved::to_text, beside::to_text]),
+    };
+    lent(memory, stream, room.of(asked), calls);
+}
+
+fn read(memory: &mut Memory, form: Form, room: Room, stream: &[u8], at: usize) {
+    let edge = memory.edge;
+    let source = placed(&mut memory.stream, edge, stream);
+    let tag: &mut Tag = memory.tag.lend(edge, 11, HELD).try_into().unwrap();
+    let info = memory.numbers.numbers(edge, [NUMBER; 6]);
+    let (mut told_tag, mut told_info) = ([HELD; 11], [NUMBER; 6]);
+    if form == Form::Binary {
+        let ours = proved::read_binary(source, at, tag, info);
+        let told = beside::read_binary(stream, at, &mut told_tag, &mut told_info);
+        assert_eq!(ours, told);
+    } else {
+        let mut long = vec![0; stream.len()];
+        let asked = beside::read_text(stream, at, &mut long, &mut [0; 11], &mut [0; 6]);
+        let room = room.of(asked.unwrap_or(0));
+        let out = memory.out.lend(edge, room, HELD);
+        let mut told_out = vec![HELD; room];
+        let ours = proved::read_text(source, at, out, tag, info);
+        let told = beside::read_text(stream, at, &mut told_out, &mut told_tag, &mut told_info);
+        assert_eq!(ours, told);
+        assert_eq!(out, told_out);
+    }
+    assert_eq!((&*tag, &*info), (&told_tag, &told_info));
+    assert_eq!(source, stream);
+}
+
+fn write(memory: &mut Memory, form: Form, room: Room, mut front: Front) {
+    let (chars, letter, tags, tag) = front.primitive();
+    let raw = front.raw();
+    let [proved, oracle] = match form {
+        Form::Text => [proved::write_text, beside::write_text],
+        Form::Binary => [proved::write_binary, beside::write_binary],
+    };
+    let item = |raw| Primitive {
+        chars,
+        letter,
+        tag,
+        tags,
+        raw,
+    };
+    let mut long = vec![0; 2 * raw.len() + 40];
+    let asked = oracle(&item(&raw), &mut long).unwrap_or(0);
+    let room = room.of(asked);
+    let placed = placed(&mut memory.stream, memory.edge, &raw);
+    let ours = memory.out.lend(memory.edge, room, HELD);
+    let mut theirs = vec![HELD; room];
+    let answers = (
+        proved(&item(placed), ours),
+        oracle(&item(&raw), &mut theirs),
+    );
+    assert_eq!(answers.0, answers.1);
+    assert_eq!(ours, theirs);
+    assert_eq!(placed, raw);
+}
+
+/// Steps of both until one yields nothing; the offsets come back.
+fn walk(memory: &mut Memory, form: Form, stream: &[u8], from: State, most: usize) -> Vec<usize> {
+    let [proved, oracle] = match form {
+        Form::Text => [proved::walk_text, beside::walk_text],
+        Form::Binary => [proved::walk_binary, beside::walk_binary],
+    };
+    let source = placed(&mut memory.stream, memory.edge, stream);
+    let state = memory.state.numbers(memory.edge, from);
+    let mut told_state = from;
+    let mut offsets = Vec::new();
+    while offsets.len() < most {
+        let item = memory.numbers.numbers(memory.edge, [NUMBER; 6]);
+        let mut told_item = [NUMBER; 6];
+        let ours = proved(source, state, item);
+        let told = oracle(stream, &mut told_state, &mut told_item);
+        assert_eq!(ours, told);
+        assert_eq!((&*state, &*item), (&told_state, &told_item));
+        if ours != Ok(true) {
+            break;
+        }
+        offsets.push(item[0]);
+    }
+    assert_eq!(source, stream);
+    offsets
+}

@@ -1,0 +1,144 @@
+//! An input taken apart. Every input means something: what is missing is 0.
+//!
+//! | Byte | Meaning |
+//! | --- | --- |
+//! | 0 | call (bits 0 to 2), binary (bit 3), buffers against the page before them (bit 4), one too long (bits 5 to 7 all set) |
+//! | 1 | room: just enough, one less, none, nine more, or the number itself |
+//! | then | read: two bytes of offset; walk from a state: the state; write: the primitive |
+//! | then | the stream, or the raw value |
+
+use crate::fence::{Edge, LONGEST};
+use proved::{State, Tag};
+use streams::Form;
+
+/// Which call is tried.
+#[derive(Clone, Copy, Debug, PartialEq, Eq)]
+pub enum Call {
+    Report,
+    Convert,
+    Read,
+    Write,
+    /// From the start to the end or the first refusal.
+    Walk,
+    /// A few steps from a state in the input.
+    WalkFrom,
+    /// The primitive at every item of the walk.
+    ReadItems,
+    /// Report, conversion and walk of one stream.
+    All,
+}
+
+pub const CALLS: [Call; 8] = [
+    Call::Report,
+    Call::Convert,
+    Call::Read,
+    Call::Write,
+    Call::Walk,
+    Call::WalkFrom,
+    Call::ReadItems,
+    Call::All,
+];
+
+/// How much room a buffer has.
+#[derive(Clone, Copy, Debug, PartialEq, Eq)]
+pub enum Room {
+    Exact,
+    OneLess,
+    More,
+    Bytes(usize),
+}
+
+impl Room {
+    /// The room where so much is asked for.
+    pub fn of(self, asked: usize) -> usize {
+        let room = match self {
+            Room::Exact => asked,
+            Room::OneLess => asked.saturating_sub(1),
+            Room::More => asked + 9,
+            Room::Bytes(bytes) => bytes,
+        };
+        room.min(LONGEST)
+    }
+}
+
+/// The front of an input, from which it is taken apart.
+pub struct Front<'a>(pub &'a [u8]);
+
+impl Front<'_> {
+    pub fn byte(&mut self) -> u8 {
+        match self.0.split_first() {
+            Some((first, rest)) => {
+                self.0 = rest;
+                *first
+            }
+            None => 0,
+        }
+    }
+
+    /// Two bytes; the highest numbers stand for some past every stream.
+    pub fn number(&mut self) -> usize {
+        match u16::from_be_bytes([self.byte(), self.byte()]) {
+            0xFFFF => usize::MAX,
+            0xFFFE => usize::MAX / 3,
+            0xFFFD => usize::MAX / 4 + 1,
+            small => usize::from(small),
+        }
+    }
+
+    /// Call, form, edge, and whether the stream is one element too long
+    /// whatever the input holds.
+    pub fn choice(&mut self) -> (Call, Form, Edge, bool) {
+        let first = self.byte();
+        let call = CALLS[usize::from(first % 8)];
+        let form = [Form::Text, Form::Binary][usize::from(first >> 3 & 1)];
+        let edge = [Edge::End, Edge::Start][usize::from(first >> 4 & 1)];
+        (call, form, edge, first >= 0xE0)
+    }
+
+    pub fn room(&mut self) -> Room {
+        match self.byte() {
+            0 => Room::Exact,
+            1 => Room::OneLess,
+            2 => Room::Bytes(0),
+            3 => Room::More,
+            number => Room::Bytes(usize::from(number)),
+        }
+    }
+
+    /// The number open, the position, the mark, and how many ends follow.
+    pub fn state(&mut self) -> State {
+        let mut state = [0; 19];
+        state[16] = match self.byte() {
+            255 => usize::MAX,
+            open => usize::from(open),
+        };
+        state[17] = self.number();
+        state[18] = usize::from(self.byte());
+        let ends = usize::from(self.byte() % 17);
+        state[..ends].fill_with(|| self.number());
+        state
+    }
+
+    /// chars, letter, the number of tag characters, and these.
+    pub fn primitive(&mut self) -> (u8, u8, usize, Tag) {
+        let (chars, letter) = (self.byte(), self.byte());
+        let tags = match self.byte() {
+            255 => usize::MAX,
+            tags => usize::from(tags),
+        };
+        (chars, letter, tags, std::array::from_fn(|_| self.byte()))
+    }
+
+    /// The raw value: a length of two bytes, if not 0, over and over what is
+    /// left; else what is left. The highest lengths stand for those around
+    /// 12,285, the most that a small variable holds.
+    pub fn raw(&mut self) -> Vec<u8> {
+        let length = match u16::from_be_bytes([self.byte(), self.byte()]) {
+            0 => return self.0.to_vec(),
+            near @ 0xFF00.. => 12_281 + usize::from(near & 7),
+            length => usize::from(length),
+        };
+        let rest: &[u8] = if self.0.is_empty() { &[0] } else { self.0 };
+        rest.iter().copied().cycle().take(length).collect()
+    }
+}

@@ -1,0 +1,94 @@
+//! Streams one element longer than the limit, and a raw value one byte longer
+//! than any. They are refused by their length alone, so one lot of zeros does
+//! for all, and nothing is copied.
+
+use crate::calls::{HELD, NUMBER};
+use crate::input::{Call, Front};
+use proved::{Primitive, Refusal};
+use std::sync::OnceLock;
+use streams::Form;
+
+static ZEROS: OnceLock<Vec<u8>> = OnceLock::new();
+
+fn zeros(length: usize) -> &'static [u8] {
+    &ZEROS.get_or_init(|| vec![0; 4_194_305])[..length]
+}
+
+pub fn one(call: Call, form: Form, room: usize, mut front: Front) {
+    let stream = match form {
+        Form::Text => zeros(4_194_305),
+        Form::Binary => zeros(3_145_729),
+    };
+    match call {
+        Call::Read | Call::ReadItems => read(form, stream, room, front.number()),
+        Call::Walk | Call::WalkFrom => walk(form, stream, front),
+        Call::Write => write(form, room, front),
+        Call::Report | Call::Convert | Call::All => lent(form, stream, room),
+    }
+}
+
+fn lent(form: Form, stream: &[u8], room: usize) {
+    type Lent = fn(&[u8], &mut [u8]) -> Result<usize, Refusal>;
+    let calls: [[Lent; 2]; 2] = match form {
+        Form::Text => [
+            [proved::report_text, beside::report_text],
+            [proved::to_binary, beside::to_binary],
+        ],
+        Form::Binary => [
+            [proved::report_binary, beside::report_binary],
+            [proved::to_text, beside::to_text],
+        ],
+    };
+    for [ours, theirs] in calls {
+        let (mut out, mut told) = (vec![HELD; room], vec![HELD; room]);
+        assert_eq!(ours(stream, &mut out), theirs(stream, &mut told));
+        assert_eq!(out, told);
+    }
+}
+
+fn read(form: Form, stream: &[u8], room: usize, at: usize) {
+    let (mut out, mut tag, mut info) = (vec![HELD; room], [HELD; 11], [NUMBER; 6]);
+    let (mut told_out, mut told_tag, mut told_info) = (out.clone(), tag, info);
+    let answers = match form {
+        Form::Text => (
+            proved::read_text(stream, at, &mut out, &mut tag, &mut info),
+            beside::read_text(stream, at, &mut told_out, &mut told_tag, &mut told_info),
+        ),
+        Form::Binary => (
+            proved::read_binary(stream, at, &mut tag, &mut info),
+            beside::read_binary(stream, at, &mut told_tag, &mut told_info),
+        ),
+    };
+    assert_eq!(answers.0, answers.1);
+    assert_eq!((out, tag, info), (told_out, told_tag, told_info));
+}
+
+fn walk(form: Form, stream: &[u8], mut front: Front) {
+    let (mut state, mut item) = (front.state(), [NUMBER; 6]);
+    let (mut told_state, mut told_item) = (state, item);
+    let [ours, theirs] = match form {
+        Form::Text => [proved::walk_text, beside::walk_text],
+        Form::Binary => [proved::walk_binary, beside::walk_binary],
+    };
+    let answer = ours(stream, &mut state, &mut item);
+    assert_eq!(answer, theirs(stream, &mut told_state, &mut told_item));
+    assert_eq!((state, item), (told_state, told_item));
+}
+
+fn write(form: Form, room: usize, mut front: Front) {
+    let (chars, letter, tags, tag) = front.primitive();
+    let item = Primitive {
+        chars,
+        letter,
+        tag,
+        tags,
+        raw: zeros(3_145_723),
+    };
+    let [ours, theirs] = match form {
+        Form::Text => [proved::write_text, beside::write_text],
+        Form::Binary => [proved::write_binary, beside::write_binary],
+    };
+    let (mut out, mut told) = (vec![HELD; room], vec![HELD; room]);
+    assert_eq!(ours(&item, &mut out), theirs(&item, &mut told));
+    assert_eq!(out, told);
+}

@@ -1,0 +1,119 @@
+//! Inputs to start from: the papers' streams, an item of every code, groups
+//! around the depth limit, a primitive of every code to write, some states.
+
+use crate::input::{Call, CALLS};
+use streams::damage::GENUS_CODES;
+use streams::form::FORMS;
+use streams::generate::{nested, one_code, CODES};
+use streams::item::{stream, Item};
+use streams::table::{Kind, FIXED, HEADS, TYPES};
+use streams::{papers, Form, Random};
+
+/// The first byte of an input.
+fn choice(call: Call, form: Form) -> u8 {
+    let place = CALLS.iter().position(|known| *known == call);
+    place.unwrap_or(0) as u8 | u8::from(form == Form::Binary) << 3
+}
+
+pub fn seeds() -> Vec<Vec<u8>> {
+    let mut seeds = Vec::new();
+    for text in texts() {
+        for form in FORMS {
+            let made = form.of_text(&text);
+            for call in [Call::All, Call::ReadItems] {
+                seeds.push([&[choice(call, form), 0], &made[..]].concat());
+            }
+        }
+    }
+    for form in FORMS {
+        seeds.extend(writes(form));
+        seeds.extend(states(form));
+    }
+    seeds
+}
+
+fn texts() -> Vec<Vec<u8>> {
+    let papers = [papers::DECK, papers::POINTS, papers::EXAMPLES].concat();
+    let mut texts: Vec<_> = papers.iter().map(|text| text.as_bytes().to_vec()).collect();
+    let mut random = Random::new(1);
+    texts.extend((0..CODES).map(|index| stream(&[one_code(&mut random, index)])));
+    for deep in [2, 15, 16, 17] {
+        let core = vec![Item::Primitive(b"MAAB".to_vec())];
+        texts.push(stream(&nested(b"AJ", deep, core)));
+    }
+    texts
+}
+
+/// chars, letter, tags, tag, raw: as `Front::primitive` and `Front::raw` take
+/// them apart.
+pub fn writes(form: Form) -> Vec<Vec<u8>> {
+    let start = [choice(Call::Write, form), 0];
+    let mut writes = Vec::new();
+    for (code, full, kind) in FIXED {
+        let letter = code.as_bytes()[code.len() - 1];
+        let value = full / 4 * 3 - code.len().min(3);
+        let (tags, raw) = match kind {
+            Kind::Raw => (0, value),
+            Kind::Label => (0, value - 1),
+            Kind::Tag => (full - code.len(), 0),
+            Kind::Prepad => (full - code.len() - 1, 0),
+        };
+        let head = [code.len() as u8, letter, tags as u8];
+        let raw = vec![0x5A; raw];
+        writes.push([&start[..], &head, b"ABCDEFGHIJK", &[0, 0], &raw].concat());
+    }
+    for letter in TYPES {
+        for chars in [5, 6] {
+            let head = [chars, *letter, 0];
+            writes.push([&start[..], &head, &[0; 11], &[0, 0], b"hello"].concat());
+        }
+    }
+    writes
+}
+
+/// Three units in a group, from inside it; and a state that does not fit.
+fn states(form: Form) -> Vec<Vec<u8>> {
+    let start = [choice(Call::WalkFrom, form), 0];
+    let made = form.of_text(b"-AADMAAB0J_A1AAKMAAB");
+    let state = |open, position, mark| [open, 0, position, mark, 1, 0, 4];
+    [state(1, 1, 1), state(1, 2, 0), state(2, 2, 0)]
+        .map(|state| [&start[..], &state, &made].concat())
+        .to_vec()
+}
+
+/// Words that a fuzzer may put anywhere: heads in both forms.
+pub fn dictionary() -> String {
+    let heads = HEADS.iter().chain(&GENUS_CODES);
+    let word = |bytes: Vec<u8>| {
+        let shown: String = bytes.iter().map(|b| format!("\\x{b:02X}")).collect();
+        format!("\"{shown}\"\n")
+    };
+    heads
+        .flat_map(|head| FORMS.map(|form| word(form.of_text(head.as_bytes()))))
+        .collect()
+}
+
+#[cfg(test)]
+mod tests {
+    use super::*;
+    use crate::input::Front;
+
+    #[test]
+    fn every_write_is_accepted() {
+        for form in FORMS {
+            for seed in writes(form) {
+                let mut front = Front(&seed[2..]);
+                let (chars, letter, tags, tag) = front.primitive();
+                let raw = &front.raw();
+                let item = proved::Primitive {
+                    chars,
+                    letter,
+                    tag,
+                    tags,
+                    raw,
+                };
+                assert!(proved::write_text(&item, &mut [0; 200]).is_ok(), "{item:?}");
+            }
+        }
+    }
+}
