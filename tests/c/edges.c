@@ -105,26 +105,57 @@ static void streams_of(size_t items) {
     free(binary);
 }
 
-/* A stream cut short at each of its places, so that each header and value runs past the end of its memory. */
-static void cut_short(const char *whole) {
-    size_t size = strlen(whole);
-    for (size_t length = 0; length <= size; length++) {
-        uint8_t *out = exact(17 + 18 * (length / 4 + 1));
-        uint8_t *source = copied(whole, length);
-        size_t *answer = exact(sizeof *answer), *state = exact(CESR_STATE * sizeof *state), *item = exact(6 * sizeof *item);
-        calls += 2;
-        check(cesr_report_text(source, length, out, 17 + 18 * (length / 4 + 1), answer) == 0, "a report", length);
-        memset(state, 0, CESR_STATE * sizeof *state);
-        while (cesr_walk_text(source, length, state, item, answer) == 0) {
-            calls++;
+/* ---- the walk */
+
+typedef uint8_t walks(const uint8_t *, size_t, size_t *, size_t *, size_t *);
+
+/* All steps from a position on: the number that the last one gave. */
+static uint8_t walk_from(walks *call, const uint8_t *source, size_t length, size_t position) {
+    size_t *state = exact(CESR_STATE * sizeof *state), *item = exact(6 * sizeof *item), *answer = exact(sizeof *answer);
+    uint8_t number = 0;
+    memset(state, 0, CESR_STATE * sizeof *state);
+    state[CESR_STATE_POSITION] = position;
+    while (number == 0) {
+        memset(item, HELD, 6 * sizeof *item);
+        number = call(source, length, state, item, answer);
+        calls++;
+        if (number == 0) {
             check(item[CESR_ITEM_OFFSET] + item[CESR_ITEM_SIZE] <= length, "an item lies in the stream", length);
+        } else {
+            check(held(item, 0, 6 * sizeof *item), "a step without an item writes none", length);
         }
+    }
+    free(state);
+    free(item);
+    free(answer);
+    return number;
+}
+
+/* A stream cut short at each of its places, so that each header and value runs past the end of its memory. */
+static void cut_short(lent *report, walks *walk, const uint8_t *whole, size_t size) {
+    for (size_t length = 0; length <= size; length++) {
+        size_t room = 17 + 18 * (length / 3);
+        uint8_t *out = exact(room), *source = copied(whole, length);
+        size_t *answer = exact(sizeof *answer);
+        calls++;
+        check(report(source, length, out, room, answer) == 0, "a report", length);
+        check(held(out, *answer, room), "bytes behind the report stay", length);
+        uint8_t last = walk_from(walk, source, length, 0);
+        check(last == CESR_END || last == CESR_PAST_END, "the end, or an item that passes it", length);
+        check(memcmp(source, whole, length) == 0, "the stream stays", length);
         free(out);
         free(source);
         free(answer);
-        free(state);
-        free(item);
     }
+}
+
+static void cut_in_both_forms(const char *text) {
+    size_t length = strlen(text), answer = 0;
+    uint8_t *binary = exact(length / 4 * 3);
+    check(cesr_text_to_binary((const uint8_t *)text, length, binary, length / 4 * 3, &answer) == 0, "whole units", length);
+    cut_short(cesr_report_text, cesr_walk_text, (const uint8_t *)text, length);
+    cut_short(cesr_report_binary, cesr_walk_binary, binary, length / 4 * 3);
+    free(binary);
 }
 
 /* ---- reading */
@@ -234,6 +265,18 @@ static void writing(void) {
 
 /* ---- the limit's length */
 
+/* The last unit, then the end; and a stream that is one longer. The memory is of just the length that is given. */
+static void walking_at_the_limit(const uint8_t *text, const uint8_t *binary) {
+    uint8_t *just_text = copied(text, TEXT_LIMIT), *just_binary = copied(binary, BINARY_LIMIT);
+    size_t last = TEXT_LIMIT / 4 - 1;
+    check(walk_from(cesr_walk_text, just_text, TEXT_LIMIT, last) == CESR_END, "the end of a text", TEXT_LIMIT);
+    check(walk_from(cesr_walk_binary, just_binary, BINARY_LIMIT, last) == CESR_END, "the end of a binary", BINARY_LIMIT);
+    check(walk_from(cesr_walk_text, text, TEXT_LIMIT + 1, last) == CESR_TOO_LONG, "too long a text", TEXT_LIMIT);
+    check(walk_from(cesr_walk_binary, binary, BINARY_LIMIT + 1, last) == CESR_TOO_LONG, "too long a binary", BINARY_LIMIT);
+    free(just_text);
+    free(just_binary);
+}
+
 static void limits(void) {
     uint8_t *text = repeated(YES, 4, TEXT_LIMIT + 1);
     uint8_t *binary = repeated(YES_IN_BINARY, 3, BINARY_LIMIT + 1);
@@ -249,6 +292,7 @@ static void limits(void) {
     lend(cesr_binary_to_text, binary, BINARY_LIMIT, TEXT_LIMIT, 0, TEXT_LIMIT);
     lend(cesr_binary_to_text, binary, BINARY_LIMIT, TEXT_LIMIT - 1, CESR_ROOM, 0);
     lend(cesr_binary_to_text, binary, BINARY_LIMIT + 1, TEXT_LIMIT, CESR_TOO_LONG, 0);
+    walking_at_the_limit(text, binary);
     free(text);
     free(binary);
     /* The largest value: two units of header, and lead bytes before the rest. */
@@ -263,8 +307,8 @@ int main(void) {
         streams_of(items);
     }
     streams_of(2048); /* 8,192 characters */
-    cut_short("-AAE-_AAACAA0J_AMAAB-JAC5BABAGhp--KAAAABAAAA9AABAAABAABh7AABAAAA");
-    cut_short("EBdXt3gIXOf2BBWNHdSXCJnFJL5OuQPyM5K0neuniccM1AAF____0HD_____");
+    cut_in_both_forms("-AAE-_AAACAA0J_AMAAB-JAC5BABAGhp--KAAAABAAAA9AABAAABAABh7AABAAAA");
+    cut_in_both_forms("EBdXt3gIXOf2BBWNHdSXCJnFJL5OuQPyM5K0neuniccM1AAF____0HD_____");
     reading();
     reading_binary();
     writing();
