@@ -24,9 +24,9 @@ time $work/both -max_total_time="$seconds" -max_len=512 -entropic=0 -dict=$work/
 grep -E '^Done|^stat::|panicked|ERROR' $work/log || true
 
 for part in proved oracle; do
-  printf 'coverage of the %s code: ' $part
-  $work/$part -runs=0 $work/live $work/seeds $work/kept 2>&1 |
-    sed -n -e 's/.*Loaded 1 modules *(\([0-9]*\) inline.*/of \1 counters, /p' -e 's/.*INITED cov: \([0-9]*\) ft: \([0-9]*\) .*/\1 reached (\2 with counts)/p' | tr -d '\n'
-  echo
+  $work/$part -runs=0 $work/live $work/seeds $work/kept >$work/reached 2>&1
+  all=$(sed -n 's/.*Loaded 1 modules *(\([0-9]*\) inline.*/\1/p' $work/reached)
+  reached=$(sed -n 's/.*INITED cov: \([0-9]*\) .*/\1/p' $work/reached)
+  echo "$part: $reached of $all counters reached"
 done
 exit $status

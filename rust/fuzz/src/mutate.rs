@@ -41,32 +41,69 @@ fn changed(random: &mut Random, input: &mut [u8], size: usize) -> Option<usize> 
     let mut front = Front(&input[..size]);
     let (call, form, _, too_long) = front.choice();
     front.room();
+    if too_long || size < 2 {
+        return None;
+    }
     match call {
-        Call::Write => return another_write(random, form, input, size),
-        Call::Read => drop(front.number()),
+        Call::Write => return another_write(random, form, input),
+        Call::WalkFrom if random.once_in(2) => {
+            front.state();
+            let made = [&another_state(random, form, front.0), front.0].concat();
+            return replaced(input, 2, &made);
+        }
         Call::WalkFrom => drop(front.state()),
+        Call::Read => drop(front.number()),
         _ => {}
     }
     let mut made = front.0.to_vec();
     let from = size - made.len();
-    if too_long || from < 2 {
-        return None;
-    }
     if random.once_in(3) {
         put_in(random, form, &mut made);
     } else {
         damage(random, form, &mut made);
     }
-    made.truncate(input.len() - from);
-    input[from..from + made.len()].copy_from_slice(&made);
-    Some(from + made.len())
+    replaced(input, from, &made)
+}
+
+/// The input from there on is what was made, as far as it has room.
+fn replaced(input: &mut [u8], from: usize, made: &[u8]) -> Option<usize> {
+    let room = input.get_mut(from..)?;
+    let length = made.len().min(room.len());
+    room[..length].copy_from_slice(&made[..length]);
+    Some(from + length)
+}
+
+/// A state that fits the stream, any number open, as `Front::state` takes it
+/// apart; or one that has one byte wrong.
+fn another_state(random: &mut Random, form: Form, stream: &[u8]) -> Vec<u8> {
+    let units = stream.len() / form.unit();
+    let open = random.below(17);
+    let mut ends = Vec::new();
+    let mut end = units;
+    for _ in 0..open {
+        end -= random.below(3).min(end);
+        ends.extend((end as u16).to_be_bytes());
+    }
+    let position = (random.below(end) as u16).to_be_bytes();
+    let mark = random.below(2).min(open);
+    let mut state = vec![open as u8, position[0], position[1], mark as u8, open as u8];
+    state.extend(ends);
+    if random.once_in(2) {
+        let place = random.below(state.len());
+        state[place] = match random.below(3) {
+            0 => state[place].wrapping_add(1),
+            1 => state[place].wrapping_sub(1),
+            _ => random.byte(),
+        };
+    }
+    state
 }
 
 /// Where an input to write has its raw value's length.
 const LENGTH: usize = 16;
 
 /// An accepted write of any code with one thing changed. Edge and room stay.
-fn another_write(random: &mut Random, form: Form, input: &mut [u8], size: usize) -> Option<usize> {
+fn another_write(random: &mut Random, form: Form, input: &mut [u8]) -> Option<usize> {
     let mut made = random.pick(&writes(form)).clone();
     match random.below(4) {
         0 => made[LENGTH..LENGTH + 2].copy_from_slice(&[0xFF, random.byte()]),
@@ -77,11 +114,7 @@ fn another_write(random: &mut Random, form: Form, input: &mut [u8], size: usize)
             made[place] = random.byte();
         }
     }
-    let fits = size >= 2 && made.len() <= input.len();
-    fits.then(|| {
-        input[2..made.len()].copy_from_slice(&made[2..]);
-        made.len()
-    })
+    replaced(input, 2, &made[2..])
 }
 
 /// An accepted item before any unit.

@@ -1,6 +1,7 @@
 //! Generated streams and primitives, as many as asked for.
 
 use crate::{demand, demands, judges, say, setting, walks, writes};
+use std::panic::{catch_unwind, resume_unwind, AssertUnwindSafe};
 use std::sync::atomic::{AtomicU64, Ordering};
 use streams::damage::{cross, damage};
 use streams::form::FORMS;
@@ -59,8 +60,10 @@ fn one_case(seed: u64, form: Form) {
         demand(&made, form, demands::converted);
     }
     if whole {
+        // Made small it would be another stream, and rightly refused.
         let found = demands::rows(&made, form);
-        assert!(found.refusals.is_empty() && found.remainder.is_empty());
+        let accepted = found.refusals.is_empty() && found.remainder.is_empty();
+        assert!(accepted, "{form:?} {made:02X?} {found:?}");
     }
 }
 
@@ -80,7 +83,12 @@ fn each(what: &str, one: impl Fn(u64) + Sync) {
         if from > 0 && from.is_multiple_of(1_000_000) {
             say(&format!("{from} {what} so far"));
         }
-        (from..cases.min(from + BLOCK)).for_each(&one);
+        let block = || (from..cases.min(from + BLOCK)).for_each(&one);
+        if let Err(why) = catch_unwind(AssertUnwindSafe(block)) {
+            // No more blocks for the others.
+            next.store(cases, Ordering::Relaxed);
+            resume_unwind(why);
+        }
     };
     // The scope ends when all have ended, and fails if one has.
     std::thread::scope(|scope| {
