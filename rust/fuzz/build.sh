@@ -62,8 +62,9 @@ if [ ! -f "$module" ] || [ ! -f "$archive" ] || [ "$archive" -nt "$module" ] ||
   keep_module
 fi
 instrument
+# libFuzzer asks for the mutator weakly, which takes nothing out of an archive.
 link() { # NAME FILE...
-  "${CC:-clang}" -fsanitize=fuzzer "${@:2}" -lpthread -ldl -lm -o "$out/$1"
+  "${CC:-clang}" -fsanitize=fuzzer "${@:2}" -Wl,--require-defined=LLVMFuzzerCustomMutator -lpthread -ldl -lm -o "$out/$1"
 }
 # proved.o stands before the archive, which then adds nothing for the calls it already has.
 rust_archive counted
