@@ -1,6 +1,6 @@
 //! The report of a stream, and its rows.
 
-use crate::{Form, Number, Refusal};
+use crate::{Form, Number, Refusal, State, Walk};
 use std::borrow::Cow;
 use std::iter::Enumerate;
 use std::slice::ChunksExact;
@@ -220,6 +220,28 @@ pub struct Remainder {
     pub offset: usize,
     /// Why nothing could be framed there: 4, 5, 6 or 7.
     pub number: Number,
+}
+
+impl Remainder {
+    /// The refusal with its place, which for 5 is the character and stands in
+    /// no report: the walk is asked from the remainder's start on. None for
+    /// another stream.
+    ///
+    /// ```
+    /// use cesr::{judge, Form};
+    /// let report = judge(Form::Text, b"MAABMA!!")?;
+    /// let rest = report.remainder().expect("a remainder");
+    /// assert_eq!((rest.offset, rest.number.get()), (4, 5));
+    /// let refusal = rest.refusal(Form::Text, b"MAABMA!!").expect("this stream");
+    /// assert_eq!(refusal.place, 6);
+    /// # Ok::<(), cesr::Refusal>(())
+    /// ```
+    pub fn refusal(&self, form: Form, stream: &[u8]) -> Option<Refusal> {
+        let state = State::at(form.units(self.offset));
+        let answer = Walk::resumed(form, stream, state).next()?;
+        let found = answer.err()?;
+        (found.number == self.number).then_some(found)
+    }
 }
 
 /// The items of a report in stream order.

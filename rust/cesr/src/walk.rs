@@ -18,6 +18,14 @@ impl State {
         State(numbers)
     }
 
+    /// At so many units, with no group open.
+    pub(crate) fn at(units: usize) -> State {
+        let mut numbers = [0; 19];
+        let [.., position, _] = &mut numbers;
+        *position = units;
+        State(numbers)
+    }
+
     /// The state's numbers.
     pub const fn numbers(&self) -> &[usize; 19] {
         &self.0

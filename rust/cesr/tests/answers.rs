@@ -91,6 +91,12 @@ fn every_byte_lies_in_an_item_or_the_remainder() {
         }
         let start = report.remainder().map_or(stream.len(), |rest| rest.offset);
         assert_eq!(start, end);
+        if let Some(rest) = report.remainder() {
+            let refusal = rest.refusal(form, stream).unwrap();
+            let inside = refusal.number == Number::CHARACTER && refusal.place < rest.offset + 8;
+            assert_eq!(refusal.number, rest.number);
+            assert!(refusal.place == rest.offset || inside);
+        }
         let clean = report.refused() == 0 && report.remainder().is_none();
         assert_eq!(report.accepts_all(stream.len()), clean);
         assert!(!report.accepts_all(stream.len() + 1));
