@@ -42,7 +42,7 @@ impl Form {
     }
 
     /// Tells the form from a stream's first sixteen bytes: text if each of
-    /// them is printable ASCII or white space, else binary.
+    /// them is printable ASCII, a tab or a line end, else binary.
     ///
     /// It is a guess for people and no verdict: a short binary stream may look
     /// like text (`WGhp` in binary is `Xhi`), and a program that knows the
@@ -57,7 +57,7 @@ impl Form {
     /// ```
     pub fn told_from(first: &[u8]) -> Form {
         let mut telling = first.iter().take(TELLING);
-        match telling.all(|byte| matches!(byte, 0x09..=0x0D | 0x20..=0x7E)) {
+        match telling.all(|byte| matches!(byte, b'\t' | b'\n' | b'\r' | 0x20..=0x7E)) {
             true => Form::Text,
             false => Form::Binary,
         }

@@ -11,7 +11,7 @@
 //! | judge a stream | [`judge`], [`judge_into`]: a [`Report`] with its rows |
 //! | convert a stream | [`to_binary`], [`to_text`] and their `_into` forms |
 //! | read one primitive | [`read`], [`read_text_into`], [`read_binary`] |
-//! | write one primitive | [`write`], [`write_into`] |
+//! | write one primitive | [`write()`], [`write_into`] |
 //! | go through all depths | [`Walk`], an iterator |
 //! | look at one item of any kind | [`item_at`] |
 //!
@@ -67,3 +67,8 @@ pub use report::{
     judge, judge_into, Item, Items, RefusalRow, Refusals, Remainder, Report, Verdict,
 };
 pub use walk::{item_at, State, Step, Walk};
+
+/// The guide's Rust examples run as tests of this crate.
+#[cfg(doctest)]
+#[doc = include_str!("../../../docs/GUIDE.md")]
+struct Guide;

@@ -182,7 +182,7 @@ pub fn write(form: Form, code: Code, tag: &[u8], raw: &[u8]) -> Result<Vec<u8>, 
     Ok(out)
 }
 
-/// Writes a primitive at the start of `out`: refused as [`write`], then 3 if
+/// Writes a primitive at the start of `out`: refused as [`write()`], then 3 if
 /// the room is below the item's size, else the length written. Refused, `out`
 /// stays as it was. A second item goes into the rest of the buffer.
 pub fn write_into(

@@ -5,9 +5,16 @@ use crate::outcome::{code_and_name, Found, Outcome};
 use cesr::{Item, Number, RefusalRow, Remainder, Report};
 use std::io::{self, Write};
 
-/// One line. Every stream has `stream` and `outcome`; what was judged has its
-/// sums, refusals and remainder, and with `all` its `rows`.
+/// One line, written at once: lines of calls that share a file stay whole.
 pub fn line(out: &mut dyn Write, outcome: &Outcome, all: bool) -> io::Result<()> {
+    let mut line = Vec::new();
+    object(&mut line, outcome, all)?;
+    out.write_all(&line)
+}
+
+/// Every stream has `stream` and `outcome`; what was judged has its sums,
+/// refusals and remainder, and with `all` its `rows`.
+fn object(out: &mut dyn Write, outcome: &Outcome, all: bool) -> io::Result<()> {
     let name = quoted(&outcome.name);
     let word = quoted(outcome.standing().word());
     write!(out, "{{\"stream\":{name},\"outcome\":{word}")?;
