@@ -224,23 +224,26 @@ pub struct Remainder {
 
 impl Remainder {
     /// The refusal with its place, which for 5 is the character and stands in
-    /// no report: the walk is asked from the remainder's start on. None for
-    /// another stream.
+    /// no report: the walk is asked from the remainder's start on. With
+    /// another stream than the report's the place is that start.
     ///
     /// ```
     /// use cesr::{judge, Form};
     /// let report = judge(Form::Text, b"MAABMA!!")?;
     /// let rest = report.remainder().expect("a remainder");
     /// assert_eq!((rest.offset, rest.number.get()), (4, 5));
-    /// let refusal = rest.refusal(Form::Text, b"MAABMA!!").expect("this stream");
-    /// assert_eq!(refusal.place, 6);
+    /// assert_eq!(rest.refusal(Form::Text, b"MAABMA!!").place, 6);
     /// # Ok::<(), cesr::Refusal>(())
     /// ```
-    pub fn refusal(&self, form: Form, stream: &[u8]) -> Option<Refusal> {
+    pub fn refusal(&self, form: Form, stream: &[u8]) -> Refusal {
         let state = State::at(form.units(self.offset));
-        let answer = Walk::resumed(form, stream, state).next()?;
-        let found = answer.err()?;
-        (found.number == self.number).then_some(found)
+        match Walk::resumed(form, stream, state).next() {
+            Some(Err(found)) if found.number == self.number => found,
+            _ => Refusal {
+                number: self.number,
+                place: self.offset,
+            },
+        }
     }
 }
 

@@ -92,10 +92,15 @@ fn every_byte_lies_in_an_item_or_the_remainder() {
         let start = report.remainder().map_or(stream.len(), |rest| rest.offset);
         assert_eq!(start, end);
         if let Some(rest) = report.remainder() {
-            let refusal = rest.refusal(form, stream).unwrap();
-            let inside = refusal.number == Number::CHARACTER && refusal.place < rest.offset + 8;
-            assert_eq!(refusal.number, rest.number);
-            assert!(refusal.place == rest.offset || inside);
+            let refusal = rest.refusal(form, stream);
+            let told = match refusal.number {
+                Number::CHARACTER => rest.offset..rest.offset + 8,
+                _ => rest.offset..rest.offset + 1,
+            };
+            assert!(told.contains(&refusal.place));
+            if refusal.number == Number::CHARACTER {
+                assert!(!stream[refusal.place].is_ascii_alphanumeric());
+            }
         }
         let clean = report.refused() == 0 && report.remainder().is_none();
         assert_eq!(report.accepts_all(stream.len()), clean);

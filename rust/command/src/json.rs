@@ -94,8 +94,7 @@ fn refusal(
 }
 
 fn remainder(out: &mut dyn Write, input: &Input, rest: Remainder) -> io::Result<()> {
-    let refusal = rest.refusal(input.form, &input.bytes);
-    let place = refusal.map_or(rest.offset, |refusal| refusal.place);
+    let place = rest.refusal(input.form, &input.bytes).place;
     let length = input.bytes.len().saturating_sub(rest.offset);
     let why = why(rest.number);
     write!(out, ",\"remainder\":{{\"offset\":{}", rest.offset)?;

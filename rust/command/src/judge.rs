@@ -47,7 +47,11 @@ fn one(task: &Judge, out: &mut dyn Write, outcome: &Outcome, paint: Paint) -> io
         },
         // Standard error has it already.
         _ if alone && outcome.complaint().is_some() => Ok(()),
-        Style::All => readable::block(out, outcome, true, paint),
+        Style::All if alone => readable::block(out, outcome, true, paint),
+        Style::All => {
+            readable::block(out, outcome, true, paint)?;
+            writeln!(out)
+        }
         Style::Plain if alone => readable::block(out, outcome, false, paint),
         Style::Plain => readable::line(out, outcome, paint),
     }

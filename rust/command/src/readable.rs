@@ -123,11 +123,7 @@ fn refused(
 
 fn remainder(out: &mut dyn Write, input: &Input, rest: Remainder, paint: Paint) -> io::Result<()> {
     let Remainder { offset, number } = rest;
-    let found = rest.refusal(input.form, &input.bytes);
-    let refusal = found.unwrap_or(Refusal {
-        number,
-        place: offset,
-    });
+    let refusal = rest.refusal(input.form, &input.bytes);
     let left = measured(input.form, input.bytes.len().saturating_sub(offset));
     let verdict = paint.bad(&format!("remainder {number} from {offset}"));
     writeln!(out, "\n{verdict}: {}", number.words())?;
@@ -153,14 +149,30 @@ pub fn bytes_at(
 
 /// What a person would ask next.
 pub fn note(input: &Input, number: Number, place: usize) -> Option<String> {
-    let byte = input.bytes.get(place)?;
+    let byte = *input.bytes.get(place)?;
     let ends_line = input.bytes.ends_with(b"\n");
     let last = place.saturating_add(2) >= input.bytes.len();
     match (number, input.form) {
-        (Number::CHARACTER, _) => Some(format!("the byte at {place} is {byte:02X} hexadecimal")),
+        (Number::CHARACTER, _) => {
+            let kind = kind_of(byte);
+            Some(format!(
+                "the byte at {place} is {byte:02X} hexadecimal{kind}"
+            ))
+        }
         (Number::PAST_END | Number::NOT_WHOLE_UNITS, Form::Text) if ends_line && last => {
             Some("the stream ends with a line feed, which is no character of it".to_string())
         }
         _ => None,
+    }
+}
+
+/// Strangers that are often met.
+fn kind_of(byte: u8) -> &'static str {
+    match byte {
+        b'\n' => ", a line feed",
+        b'\r' => ", a carriage return",
+        b' ' => ", a space",
+        b'+' | b'/' | b'=' => ", of ordinary Base64",
+        _ => "",
     }
 }

@@ -121,17 +121,15 @@ fn inside(out: &mut dyn Write, input: &Input, step: &Step) -> io::Result<Result<
 /// The report of the item's own bytes; places counted on from its offset.
 fn by_itself(input: &Input, item: &[u8], offset: usize) -> Result<(), Refusal> {
     let report = judge(input.form, item)?;
-    let counted_on = |refusal: Refusal| Refusal {
-        place: refusal.place.saturating_add(offset),
-        ..refusal
-    };
-    if let Some(row) = report.refusals().next() {
-        return Err(counted_on(row.refusal));
+    let first = report.refusals().next().map(|row| row.refusal);
+    let rest = || report.remainder();
+    match first.or_else(|| rest().map(|rest| rest.refusal(input.form, item))) {
+        None => Ok(()),
+        Some(refusal) => Err(Refusal {
+            place: refusal.place.saturating_add(offset),
+            ..refusal
+        }),
     }
-    let rest = report
-        .remainder()
-        .and_then(|rest| rest.refusal(input.form, item));
-    rest.map_or(Ok(()), |refusal| Err(counted_on(refusal)))
 }
 
 fn tell(

@@ -105,6 +105,25 @@ fn a_stranger_in_a_header() {
     told(&stream, 1, "the byte at 82 is 2A hexadecimal");
 }
 
+/// What a person would ask of a stranger that is often met.
+#[test]
+fn strangers_by_name() {
+    for (byte, kind) in [
+        (b"\n", "0A hexadecimal, a line feed\n"),
+        (b"\r", "0D hexadecimal, a carriage return\n"),
+        (b" ", "20 hexadecimal, a space\n"),
+        (b"=", "3D hexadecimal, of ordinary Base64\n"),
+        (b"\x00", "00 hexadecimal\n"),
+        (b"\xFF", "FF hexadecimal\n"),
+    ] {
+        told(
+            &damaged(123, byte),
+            1,
+            &format!("the byte at 123 is {kind}"),
+        );
+    }
+}
+
 /// A stranger anywhere is never passed over.
 #[test]
 fn a_stranger_at_every_place() {

@@ -58,6 +58,18 @@ fn many_streams_with_a_line_each_and_a_total() {
     compare(&[&["judge"], &names[..2]].concat(), 0, "many-clean.txt");
 }
 
+/// `--all` of many: each in full, a line between them, and the total.
+#[test]
+fn many_streams_in_full() {
+    let names = ["samples/first.cesr", "samples/clean.cesr"];
+    let ran = run(&["judge", "--all", names[0], names[1]]);
+    let each = names.map(|name| run(&["judge", "--all", name]).text());
+    let total = "2 streams: 1 passed, 1 failed, 0 not judged; \
+                 10 items, 9 accepted, 1 refused, 0 remainders\n";
+    assert_eq!(ran.text(), format!("{}\n{}\n{total}", each[0], each[1]));
+    assert_eq!(ran.status, 1);
+}
+
 #[test]
 fn standard_input_is_judged_as_a_file_is() {
     let file = run(&["judge", "samples/first.cesr"]);
