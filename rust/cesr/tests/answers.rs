@@ -3,8 +3,8 @@
 //! That the library's answers are right is for the differential test.
 
 use cesr::{
-    item_at, judge, judge_into, read, to_binary, to_text, write, Form, Number, Report, State,
-    Verdict, Walk,
+    item_at, judge, judge_into, read, read_text_into, to_binary, to_binary_into, to_text,
+    to_text_into, write, write_into, Form, Number, Report, State, Verdict, Walk,
 };
 use streams::generate::any_deck;
 use streams::item::stream;
@@ -215,6 +215,62 @@ fn the_limit_is_where_the_library_has_it() {
             Form::Binary => to_text(&stream),
         };
         assert_eq!(number(converted.map(|_| ())), too_long);
+    }
+}
+
+/// Lent room: enough is enough, and one less is 3 and leaves all as it was.
+#[test]
+fn lent_buffers() {
+    let mut out = [0xAA; 9];
+    let item = read_text_into(b"5BABAGhp", 0, &mut out[..2]).unwrap();
+    assert_eq!(&*item.raw, b"hi");
+    assert_eq!(out[2..], [0xAA; 7]);
+    let mut out = [0xAA; 9];
+    let refusal = read_text_into(b"5BABAGhp", 0, &mut out[..1]).unwrap_err();
+    assert_eq!((refusal.number, out), (Number::ROOM, [0xAA; 9]));
+
+    let code = cesr::Code::small(b'B');
+    let refusal = write_into(Form::Text, code, b"", b"hi", &mut out[..7]).unwrap_err();
+    assert_eq!((refusal.number, out), (Number::ROOM, [0xAA; 9]));
+    assert_eq!(write_into(Form::Text, code, b"", b"hi", &mut out), Ok(8));
+    assert_eq!(&out, b"5BABAGhp\xAA");
+
+    let mut out = [0xAA; 4];
+    let refusal = to_binary_into(b"1AAM", &mut out[..2]).unwrap_err();
+    assert_eq!((refusal.number, out), (Number::ROOM, [0xAA; 4]));
+    assert_eq!(to_binary_into(b"1AAM", &mut out), Ok(3));
+    assert_eq!(out, [0xD4, 0x00, 0x0C, 0xAA]);
+    let mut out = [0xAA; 4];
+    assert_eq!(to_text_into(b"\xD4\x00\x0C", &mut out), Ok(4));
+    assert_eq!(&out, b"1AAM");
+}
+
+/// A writer's refusals: an unknown code, a tag's length and a tag character.
+#[test]
+fn what_a_writer_refuses() {
+    let tag = cesr::Code::fixed(1, b'X');
+    for (code, tags, raw, number, place) in [
+        (
+            cesr::Code::GenusVersion,
+            &b""[..],
+            &b""[..],
+            Number::UNKNOWN_CODE,
+            0,
+        ),
+        (
+            cesr::Code::SmallGroup { letter: b'A' },
+            b"",
+            b"",
+            Number::UNKNOWN_CODE,
+            0,
+        ),
+        (tag, b"ab", b"", Number::UNFIT_LENGTH, 0),
+        (tag, b"abcdefghijklm", b"", Number::UNFIT_LENGTH, 0),
+        (tag, b"abc", b"1", Number::UNFIT_LENGTH, 0),
+        (tag, b"a+c", b"", Number::CHARACTER, 1),
+    ] {
+        let refusal = write(Form::Binary, code, tags, raw).unwrap_err();
+        assert_eq!((refusal.number, refusal.place), (number, place), "{code:?}");
     }
 }
 

@@ -61,18 +61,22 @@ pub fn read(source: &Source, form: Option<Form>, progress: &mut Progress) -> Res
     input.map_err(|error| words::of_error(&error))
 }
 
-/// A file that gives fewer bytes than it had when it was opened was changed on
-/// the way, and what was read is no stream that anyone wrote.
 fn whole(path: &PathBuf, form: Option<Form>, progress: &mut Progress) -> io::Result<Input> {
     let mut file = File::open(path)?;
     let told = file.metadata()?;
-    let input = limited(&mut file, form, progress)?;
+    let length = if told.is_file() { told.len() } else { 0 };
+    at_least(length, limited(&mut file, form, progress)?)
+}
+
+/// A file that gives fewer bytes than it had when it was opened was changed on
+/// the way, and what was read is no stream that anyone wrote.
+fn at_least(length: u64, input: Input) -> io::Result<Input> {
+    let length = usize::try_from(length).unwrap_or(usize::MAX);
     let most = input.form.limit().saturating_add(1);
-    let length = usize::try_from(told.len()).unwrap_or(usize::MAX);
-    if told.is_file() && input.bytes.len() < length.min(most) {
-        return Err(io::Error::other("changed while it was read"));
+    match input.bytes.len() < length.min(most) {
+        true => Err(io::Error::other("changed while it was read")),
+        false => Ok(input),
     }
-    Ok(input)
 }
 
 /// Up to one byte past the limit, which is enough for the library to refuse.
@@ -106,5 +110,30 @@ fn filled(
         if bytes.len() == before {
             return Ok(());
         }
+    }
+}
+
+#[cfg(test)]
+mod tests {
+    use super::*;
+
+    fn of(length: usize) -> Input {
+        Input {
+            bytes: vec![b'A'; length],
+            form: Form::Text,
+            told: false,
+        }
+    }
+
+    #[test]
+    fn a_file_that_shrinks_is_an_error() {
+        assert!(at_least(5, of(4)).is_err());
+        assert!(at_least(5, of(0)).is_err());
+        assert!(at_least(5, of(5)).is_ok());
+        // One that grows was read as it was found; one over the limit is not
+        // read to its end.
+        assert!(at_least(5, of(6)).is_ok());
+        assert!(at_least(u64::MAX, of(4_194_305)).is_ok());
+        assert!(at_least(u64::MAX, of(4_194_304)).is_err());
     }
 }
