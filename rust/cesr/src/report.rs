@@ -2,7 +2,7 @@
 
 use crate::{Form, Number, Refusal, State, Walk};
 use std::borrow::Cow;
-use std::iter::Enumerate;
+use std::iter::{Enumerate, FusedIterator};
 use std::slice::ChunksExact;
 
 /// Bytes of a row of items or refusals.
@@ -264,6 +264,9 @@ impl Iterator for Items<'_> {
     }
 }
 
+impl ExactSizeIterator for Items<'_> {}
+impl FusedIterator for Items<'_> {}
+
 fn item_of(index: usize, row: &[u8]) -> Option<Item> {
     let &[a, b, c, d, e, f, g, h, verdict] = row else {
         return None;
@@ -303,3 +306,6 @@ impl Iterator for Refusals<'_> {
         self.0.size_hint()
     }
 }
+
+impl ExactSizeIterator for Refusals<'_> {}
+impl FusedIterator for Refusals<'_> {}

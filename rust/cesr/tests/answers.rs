@@ -66,7 +66,8 @@ fn rows_are_the_bytes_of_the_report() {
         let report = judge(form, stream).unwrap();
         assert_eq!(bytes_of(&report), report.as_bytes());
         assert_eq!(report.accepted() + report.refused(), report.items().count());
-        assert_eq!(report.refused(), report.refusals().count());
+        assert_eq!(report.refused(), report.refusals().len());
+        assert_eq!(report.items().len(), report.items().count());
         for row in report.refusals() {
             let item = report.item(row.index).unwrap();
             assert_eq!(item.verdict, Verdict::Refused(row.refusal.number));

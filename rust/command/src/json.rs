@@ -37,7 +37,7 @@ fn form(out: &mut dyn Write, input: &Input) -> io::Result<()> {
 fn judged(out: &mut dyn Write, input: &Input, report: &Report, all: bool) -> io::Result<()> {
     form(out, input)?;
     write!(out, ",\"length\":{}", input.bytes.len())?;
-    write!(out, ",\"items\":{}", report.items().count())?;
+    write!(out, ",\"items\":{}", report.items().len())?;
     write!(out, ",\"accepted\":{}", report.accepted())?;
     write!(out, ",\"refused\":{}", report.refused())?;
     listed(out, "refusals", report.refusals(), |out, row| {

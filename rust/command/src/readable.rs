@@ -35,7 +35,7 @@ fn word(standing: Standing, paint: Paint) -> String {
 }
 
 fn sums(report: &Report) -> String {
-    let items = counted(report.items().count(), "item");
+    let items = counted(report.items().len(), "item");
     let (accepted, refused) = (report.accepted(), report.refused());
     let rest = match report.remainder() {
         Some(rest) => format!("remainder {} from {}", rest.number, rest.offset),
