@@ -34,6 +34,14 @@ pub fn show_number(n: usize) {
     io::print_decimal(STDOUT_FILENO, n as u64);
 }
 
+pub fn show_numbers(s: &[usize]) {
+    let mut i = 0;
+    while i < s.len() {
+        show_number(s[i]);
+        i += 1;
+    }
+}
+
 // The call, the number (0: accepted), the length or place.
 pub fn show_answer(call: u8, number: u8, value: usize) {
     io::print_decimal(STDOUT_FILENO, call as u64);
@@ -43,13 +51,4 @@ pub fn show_answer(call: u8, number: u8, value: usize) {
 
 pub fn end_line() {
     io::write_all(STDOUT_FILENO, b"\n");
-}
-
-pub fn show_six(n: [usize; 6]) {
-    show_number(n[0]);
-    show_number(n[1]);
-    show_number(n[2]);
-    show_number(n[3]);
-    show_number(n[4]);
-    show_number(n[5]);
 }

@@ -80,7 +80,7 @@ fn show_written(call: u8, number: u8, value: usize, out: &[u8]) {
 
 fn show_read(call: u8, number: u8, value: usize, info: [usize; 6], raw: &[u8], seed: u8) {
     recorded::show_answer(call, number, value);
-    recorded::show_six(info);
+    recorded::show_numbers(&info);
     show_number(raw.len());
     show_number(agreeing(raw, seed));
     recorded::end_line();

@@ -56,7 +56,7 @@ impl Record {
             TO_TEXT => convert::to_text(&self.input, &mut out),
             REPORT_TEXT => write_report(&self.input, Form::Text, &mut out),
             REPORT_BINARY => write_report(&self.input, Form::Binary, &mut out),
-            READ_TEXT | READ_BINARY => return self.read_lines(),
+            READ_TEXT | READ_BINARY => return self.read_line(),
             WALK_TEXT => return self.step_lines(Form::Text, 4),
             WALK_BINARY => return self.step_lines(Form::Binary, 3),
             WRITE_TEXT => write(&self.input, Form::Text, &mut out),
@@ -65,32 +65,29 @@ impl Record {
         line(self.call, answer, &out)
     }
 
-    /// A step's second line: the state in units and the item's six numbers.
+    /// A step: the state in units and the item's six numbers; then the same
+    /// as a reader's, and how many items are left and what stops the walk.
     fn step_lines(&self, form: Form, unit: usize) -> String {
         let (before, stream) = self.input.split_at(19);
-        let (next, found) = step(state_of(before, unit), stream, form);
-        let (answer, item) = match found {
-            Found::Item {
-                offset,
-                size,
-                depth,
-                code,
-            } => {
-                let [sort, sign, lead] = code_numbers(code);
-                ((0, 0), [offset, size, depth, sort, sign, lead])
-            }
-            Found::Refused { number, place } => ((number, place), [0xAA; 6]),
-            Found::End => ((255, 0), [0xAA; 6]),
-        };
-        let mut lines = format!("{} {} {} \n", self.call, answer.0, answer.1);
+        let from = state_of(before, unit);
+        let (next, found) = step(from, stream, form);
+        let (answer, item) = step_numbers(found);
+        let mut tail = String::new();
         for number in numbers_of(&next, unit).iter().chain(&item) {
-            write!(lines, " {number}").unwrap();
+            write!(tail, " {number}").unwrap();
         }
-        lines
+        let (call, read) = (self.call, self.call + 2);
+        let (items, last) = rest(from, stream, form);
+        [
+            format!("{call} {} {}{tail}", answer.0, answer.1),
+            format!("{read} {} {}{tail}", answer.0, answer.1),
+            format!("{read} {} {} {items}", last.0, last.1),
+        ]
+        .join("\n")
     }
 
-    /// A read's second line: the tag places and the six numbers.
-    fn read_lines(&self) -> String {
+    /// A read's line goes on with the tag places and the six numbers.
+    fn read_line(&self) -> String {
         let at = usize::from(u16::from_be_bytes([self.input[0], self.input[1]]));
         let stream = &self.input[2..];
         let mut out = vec![0xAA; self.room];
@@ -98,16 +95,16 @@ impl Record {
             READ_TEXT => (primitive::read_text(stream, at, &mut out), 4),
             _ => (primitive::read_binary(stream, at).map(|found| found.0), 3),
         };
-        let mut lines = line(self.call, found.map(|item| item.raw), &out);
+        let mut line = line(self.call, found.map(|item| item.raw), &out);
         let (tag, numbers) = match found {
             Ok(item) => (item.tag.characters, numbers(&item, unit)),
             Err(_) => ([0xAA; 11], [0xAA; 6]),
         };
-        write!(lines, "\n{}", hex(&tag)).unwrap();
+        write!(line, " {}", hex(&tag)).unwrap();
         for number in numbers {
-            write!(lines, " {number}").unwrap();
+            write!(line, " {number}").unwrap();
         }
-        lines
+        line
     }
 }
 
@@ -147,6 +144,35 @@ fn code_numbers(code: Code) -> [usize; 3] {
         }
         Code::Group { letter, large } => [7 + usize::from(large), letter.into(), 0],
         Code::Genus => [9, 0, 0],
+    }
+}
+
+/// What a step found: number and place, and the item's six numbers.
+fn step_numbers(found: Found) -> ((u8, usize), [usize; 6]) {
+    match found {
+        Found::Item {
+            offset,
+            size,
+            depth,
+            code,
+        } => {
+            let [sort, sign, lead] = code_numbers(code);
+            ((0, 0), [offset, size, depth, sort, sign, lead])
+        }
+        Found::Refused { number, place } => ((number, place), [0xAA; 6]),
+        Found::End => ((255, 0), [0xAA; 6]),
+    }
+}
+
+/// The items that steps yield from a state on, and what stops them.
+fn rest(from: Walk, stream: &[u8], form: Form) -> (usize, (u8, usize)) {
+    let (mut walk, mut items) = (from, 0);
+    loop {
+        let (next, found) = step(walk, stream, form);
+        if !matches!(found, Found::Item { .. }) {
+            return (items, step_numbers(found).0);
+        }
+        (walk, items) = (next, items + 1);
     }
 }
 

@@ -8,7 +8,7 @@ use Rattle.vectors.proofs.main.Lts as lts
 use Rattle.io.proofs.large_buffer.Reads as large-buffer-reads
 use Rattle.io.proofs.read_full.Reads as read-full-reads
 use Rattle.vectors.proofs.lend.Reads as lend-reads
-use Rattle.vectors.proofs.number.Reads as number-reads
+use Rattle.recorded.proofs.number.Reads as number-reads
 
 abbrev Inv-loop : tie.InvT-loop
 Inv-loop records n at₀ at = (at ≤ n) × (n ≤ length records)
