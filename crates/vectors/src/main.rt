@@ -56,6 +56,8 @@ fn read_at(call: u8, src: &[u8], out: &mut [u8]) {
     }
 }
 
+// ---- writing
+
 fn write(call: u8, head: [u8; 3], tag: [u8; 11], raw: &[u8], out: &mut [u8]) {
     let mut value = 0;
     let tags = wide(head[2]);
@@ -217,6 +219,8 @@ fn step_from(call: u8, src: &[u8]) {
     }
 }
 
+// ---- any call
+
 fn run(call: u8, src: &[u8], out: &mut [u8]) {
     if call < 5 {
         whole(call, src, out);
@@ -270,8 +274,15 @@ fn lend(call: u8, room: usize, src: &[u8]) {
     }
 }
 
+// Room for all the records.
+fn record_space() -> [u8; 131072]
+    ensures { λ r. ⌜ 131072 ≡ length r ⌝ }
+{
+    [0; 131072]
+}
+
 fn main() {
-    let mut records = io::large_buffer();
+    let mut records = record_space();
     let n = io::read_full(STDIN_FILENO, &mut records);
     let mut at = 0;
     while at < n {

@@ -3,6 +3,9 @@
 //! the program. `VECTORS_WRITE=1 cargo test -p oracle --test vectors` writes the
 //! files anew; without it the files must be what they would be.
 
+mod common;
+
+use common::papers::{DIGESTS_OF_001, NUMBER, POST_PADDED_OF_001, SAD_PATHS, SHORTS_OF_002};
 use oracle::convert;
 use oracle::primitive::{self, Named, Primitive, Tag};
 use oracle::refusal::Refusal;
@@ -539,6 +542,30 @@ fn reads(records: &mut Vec<Record>) {
     read_both(records, 5, 8, b"MAABxMAABx");
 }
 
+/// The primitives among the examples of 002 and 001: read, reported and, where
+/// their raw value is given, written again. 001's post-padded ones are refused.
+fn examples(records: &mut Vec<Record>) {
+    for (raw, text, _) in SHORTS_OF_002 {
+        read_both(records, 0, 33, text.as_bytes());
+        write_both(records, (1, b'M'), b"", &common::hex(raw));
+    }
+    for (text, _, raw) in SAD_PATHS {
+        read_both(records, 0, 33, text.as_bytes());
+        report_both(records, 35, text.as_bytes());
+        write_both(records, (5, b'A'), b"", &common::hex(raw));
+    }
+    let others = DIGESTS_OF_001.iter().chain(&POST_PADDED_OF_001);
+    for text in others.chain(&[&NUMBER[4..]]) {
+        read_both(records, 0, 33, text.as_bytes());
+        report_both(records, 35, text.as_bytes());
+    }
+    // 001's count of items, and 003's of units.
+    for text in [NUMBER, &NUMBER.replace("-EAB", "-EAG")] {
+        report_both(records, 53, text.as_bytes());
+        walk_both(records, [0; 19], text.as_bytes());
+    }
+}
+
 /// Every step over a text and its binary, to the end or a refusal.
 fn walk_both(records: &mut Vec<Record>, from: [u8; 19], text: &[u8]) {
     let binary = in_binary(text);
@@ -616,6 +643,7 @@ fn records() -> Vec<Record> {
     unwritten(&mut records);
     reads(&mut records);
     walks(&mut records);
+    examples(&mut records);
     records
 }
 
@@ -667,7 +695,7 @@ fn the_files_say_what_the_oracle_says() {
         std::fs::write(file("stdin"), &input).unwrap();
         std::fs::write(file("stdout"), &expected).unwrap();
     }
-    assert!(input.len() < 65536, "the program reads 65,536 bytes");
+    assert!(input.len() < 131_072, "the program reads 131,072 bytes");
     assert_eq!(std::fs::read(file("stdin")).unwrap(), input);
     assert_eq!(std::fs::read_to_string(file("stdout")).unwrap(), expected);
 }
