@@ -72,6 +72,9 @@ impl Record {
     /// as a reader's, and how many items are left and what stops the walk.
     fn step_lines(&self, form: Form, unit: usize) -> String {
         let (before, stream) = self.input.split_at(19);
+        if before[18] > 1 {
+            return self.no_mark(before);
+        }
         let from = state_of(before, unit);
         let (next, found) = step(from, stream, form);
         let (answer, item) = step_numbers(found);
@@ -87,6 +90,15 @@ impl Record {
             format!("{read} {} {} {items}", last.0, last.1),
         ]
         .join("\n")
+    }
+
+    /// A mark that is neither 0 nor 1 fits no stream, and is no reader's.
+    fn no_mark(&self, before: &[u8]) -> String {
+        let mut line = format!("{} 13 0", self.call);
+        for number in before.iter().chain(&[0xAA; 6]) {
+            write!(line, " {number}").unwrap();
+        }
+        line
     }
 
     /// A read's line goes on with the tag places and the six numbers.
@@ -625,6 +637,12 @@ fn walks(records: &mut Vec<Record>) {
         state(&[3, 3, 3], 2, 0),
     ] {
         walk_both(records, from, b"MAABMAABMAAB");
+    }
+    for mark in [2, 255] {
+        let numbers = state(&[1], 0, mark);
+        for (call, stream) in [(WALK_TEXT, &b"MAAB"[..]), (WALK_BINARY, &[0x30, 0, 1])] {
+            records.push(Record::new(call, 0, &[&numbers, stream].concat()));
+        }
     }
 }
 
