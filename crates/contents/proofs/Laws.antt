@@ -5,8 +5,10 @@ use mathlib.Core.List.{List, [], _∷_}
 use mathlib.Core.Logic.{⊎-elim}
 use Prim.Native.Nat.{ℕ, zero, suc, _+_, _-_, _*_, _/_, _<_, _≤_}
 use native.Mathlib.Omega.{arith}
+use lib.Dec.{ltb, eqb}
 use lib.ListN.{length, take, drop, length-take, length-map}
 use lib.Seq.{slice}
+use borrow.Author.Tests.{eqb-true, ltb-true}
 use Rattle.base.specs.Pick.{pick}
 use Rattle.base.specs.Cases.{whether}
 use Rattle.base.specs.Lists.{map-take, map-drop}
@@ -30,7 +32,7 @@ use Rattle.laws.specs.Levels.{part, part-length, part-drop, part-take, take-of-
 use Rattle.framing.proofs.Laws.{lawful}
 use Rattle.judging.specs.Own.{toldBy}
 use Rattle.judging.proofs.Bounds.{Head, frame-head, ruled-head, Near, own-near}
-use Rattle.contents.specs.Next.{ownOf, nextOwn, isEntered, isRuled}
+use Rattle.contents.specs.Next.{ownOf, nextOwn, isEntered, isRuled, isTail, Judged}
 
 -- ---- the next item
 
@@ -251,3 +253,46 @@ binary-part s at stop h r =
     let a : 4 * at ≡ at * 4 = omega arith in
     let b : 4 * stop ≡ stop * 4 = omega arith in
     rw (take-of-drop (3 * stop - 3 * at) (3 * at) s, z, y, binary-reader .dropped (take (stop * 3) s) at (omega (arith, length-take (stop * 3) s)), binary-reader .taken s stop (omega arith), a, b)
+
+-- ---- an item judged whole
+
+module _ (s : List ℕ) (l : ℕ) (first : Bool) (at stop : ℕ) (long : 4 * stop ≤ length s) (lt : at < stop) where
+  pub judged-refused : (m p : ℕ) → nextOwn first (part s at stop) l ≡ Unframed m p → Judged s l first at stop (Unframed m (4 * at + p))
+  judged-refused m p e = turn-refused s l first at stop long lt m p e
+
+  module _ (f : Framed) (k : Kind) (h n : ℕ) (e : f ≡ nextOwn first (part s at stop) l) (q : f ≡ Item k h n) where
+    own : Own first (part s at stop) l k h n
+    own = own-item first (part s at stop) l k h n (sym e ∙ q)
+
+    -- what a call for its contents asks
+    pub judged-sizes : (0 < h) × (h ≤ n) × (at + n ≤ stop)
+    judged-sizes = fits s l first at stop long lt k h n (own .framed)
+
+    pub judged-levels : isEntered k ≡ true → 0 < l
+    judged-levels = enters s l first at stop long lt k h n own
+
+    leaves : level s l first at stop ≡ level s l false (at + n) stop → Judged s l first at stop (Item k h n)
+    leaves w = let z = judged-sizes in (w, omega arith, z .2)
+
+    pub judged-plain : isEntered k ≡ false → Judged s l first at stop (Item k h n)
+    judged-plain n-in = leaves (turn-plain s l first at stop long lt k h n own n-in)
+
+    pub judged-entered : isEntered k ≡ true → (v : Verdict) → v ≡ level s (l - 1) (isRuled k) (at + h) (at + n) → (r : Framed) → r ≡ toldBy (Item k h n) v
+        → Judged s l first at stop r
+    unfolding toldBy
+    judged-entered i Accepted w r t = rw t (leaves (turn-entered s l first at stop long lt k h n own i Accepted w refl))
+    judged-entered i (Refused m p) w r t = rw t (turn-inner s l first at stop long lt k h n own i (Refused m p) w m p refl)
+
+-- ---- a group that is all there is
+
+pub tail-is : (g n l : ℕ) → isTail g n l ≡ true → (g ≡ n) × (0 < l)
+unfolding isTail
+tail-is g n l e = go (eqb g n) refl e
+  where
+    go : (b : Bool) → eqb g n ≡ b → pick b (ltb 0 l) false ≡ true → (g ≡ n) × (0 < l)
+    go true f q = (eqb-true g n f, ltb-true 0 l q)
+    go false f q = absurd (let y : _≡_ {A = ℕ} 0 1 = cc in omega arith)
+
+pub marked : (s : List ℕ) (l at stop x y : ℕ) → x ≡ y → level s l (isOverrideable y) at stop ≡ level s l (ltb x 3) at stop
+unfolding isOverrideable
+marked s l at stop x y e = rw e

@@ -1,8 +1,9 @@
 -- The next item of a group, framed and judged by its own checks. Assumes nothing.
-use Prim.Native.Nat.{ℕ, _*_, _/_}
+use Prim.Native.Nat.{ℕ, _+_, _*_, _/_, _<_, _≤_}
+use mathlib.Core.Path.{_≡_}
 use mathlib.Core.Bool.{Bool, true, false, not}
 use mathlib.Core.List.{List}
-use lib.Dec.{ltb}
+use lib.Dec.{ltb, eqb}
 use lib.ListN.{length, take}
 use Rattle.base.specs.Pick.{pick}
 use Rattle.format.specs.declared.CodeRow.{CodeRow}
@@ -11,7 +12,7 @@ use Rattle.format.specs.declared.Kind.the-variants.{Fixed, Variable, Group, Gen
 use Rattle.format.specs.declared.Framed.{Framed}
 use Rattle.format.specs.declared.Framed.the-variants.{Item, Unframed}
 use Rattle.format.specs.declared.Verdict.{Verdict}
-use Rattle.format.specs.declared.Verdict.the-variants.{Accepted}
+use Rattle.format.specs.declared.Verdict.the-variants.{Accepted, Refused}
 use Rattle.format.specs.Units.{Domain}
 use Rattle.format.specs.Registry.{isOpaque, isOverrideable}
 use Rattle.format.specs.Judging.{judgeKind, ownCheck, maxDepth}
@@ -38,6 +39,15 @@ isRuled (Fixed c) = false
 isRuled (Variable t l c) = false
 isRuled (Group letter) = isOverrideable letter
 isRuled Genus = false
+
+-- a group of so many units that are all there is, where one may be entered
+unfoldable pub isTail : ℕ → ℕ → ℕ → Bool
+isTail units all levels = pick (eqb units all) (ltb 0 levels) false
+
+-- what is said of the next item from a unit on: its refusal is the first, or it leaves the rest
+abbrev pub Judged : List ℕ → ℕ → Bool → ℕ → ℕ → Framed → Type 0
+Judged s l first at stop (Unframed m p) = Refused m p ≡ level s l first at stop
+Judged s l first at stop (Item k h n) = (level s l first at stop ≡ level s l false (at + n) stop) × (0 < n) × (at + n ≤ stop)
 
 -- the verdict on the items of a stream from one unit to another, with places in sextets of the stream; outside it there are none
 unfoldable pub judgedFrom : Domain → List ℕ → ℕ → ℕ → Verdict

@@ -5,11 +5,11 @@ use format::Kind;
 use format::Verdict;
 use judging::MAX_DEPTH;
 ghost use mathlib.Core.Path.{_≡_};
-ghost use Prim.Native.Nat.{_*_, _≤_};
+ghost use Prim.Native.Nat.{_*_, _≤_, _<_};
 ghost use lib.ListN.{length};
 ghost use Rattle.format.specs.Units.{textSextets, binarySextets, text, binary};
 ghost use Rattle.laws.specs.Levels.{level};
-ghost use Rattle.contents.specs.Next.{nextOwn, isEntered, isRuled, judgedFrom};
+ghost use Rattle.contents.specs.Next.{nextOwn, isEntered, isRuled, isTail, Judged, judgedFrom};
 
 // ---- the next item, framed, and judged by its own checks
 
@@ -84,39 +84,71 @@ fn is_ruled(kind: Kind) -> bool
     }
 }
 
-// The items from a unit to the end of their group, where so many more groups may be entered.
+// A group of so many units that are all there is, where one may be entered.
+fn is_tail(units: usize, all: usize, levels: usize) -> bool
+    ensures { λ r. ⌜ r ≡ isTail units all levels ⌝ }
+{
+    if units == all { 0 < levels } else { false }
+}
+
+// The next item from a unit on, framed and judged whole: its size, or its refusal, with the place in the stream.
+fn item_text(s: &[u8], levels: usize, first: bool, at: usize, stop: usize) -> Framed
+    requires { ⌜ (4 * stop ≤ length (now s)) × (at < stop) × (length (now s) ≤ 4194304) ⌝ }
+    ensures { λ r. ⌜ Judged (textSextets (now (s .entry))) levels first at stop r ⌝ }
+{
+    let from = 4 * at;
+    let to = 4 * stop;
+    let next = next_text(&s[from..to], first, levels);
+    match next {
+        Framed::Unframed { number, place } => Framed::Unframed {
+            number,
+            place: from + place,
+        },
+        Framed::Item { kind, head, size } => {
+            if is_entered(kind) {
+                let v = level_text(s, levels - 1, is_ruled(kind), at + head, at + size);
+                judging::told(next, v)
+            } else {
+                next
+            }
+        }
+    }
+}
+
+// The items from a unit to the end of their group, where so many more groups may be entered. Runs are passed at once, and a group
+// that ends with what is around it is entered in place.
 fn level_text(s: &[u8], levels: usize, first: bool, at: usize, stop: usize) -> Verdict
     requires { ⌜ (4 * stop ≤ length (now s)) × (at ≤ stop) × (length (now s) ≤ 4194304) ⌝ }
     ensures { λ r. ⌜ r ≡ level (textSextets (now (s .entry))) levels first at stop ⌝ }
 {
     let mut i = at;
     let mut ruled = first;
+    let mut left = levels;
     while i < stop {
-        let from = 4 * i;
-        let to = 4 * stop;
-        let next = next_text(&s[from..to], ruled, levels);
-        match next {
-            Framed::Unframed { number, place } => {
-                return Verdict::Refused {
-                    number,
-                    place: from + place,
-                };
-            }
-            Framed::Item { kind, head, size } => {
-                let end = i + size;
-                if is_entered(kind) {
-                    let v = level_text(s, levels - 1, is_ruled(kind), i + head, end);
-                    if let Verdict::Refused {
-                        number: _,
-                        place: _,
-                    } = v {
-                        return v;
+        let k = runs::plain_text(s, i);
+        let r = runs::clean_run_text(s, i, stop, k);
+        if 0 < r {
+            i = i + r * k;
+            ruled = false;
+        } else {
+            let g = runs::group_text(s, i);
+            if is_tail(g, stop - i, left) {
+                ruled = runs::letter_text(s, i) < 3;
+                i = i + 1;
+                left = left - 1;
+            } else {
+                match item_text(s, left, ruled, i, stop) {
+                    Framed::Unframed { number, place } => {
+                        return Verdict::Refused { number, place };
                     }
-                    i = end;
-                    ruled = false;
-                } else {
-                    i = end;
-                    ruled = false;
+                    Framed::Item {
+                        kind: _,
+                        head: _,
+                        size,
+                    } => {
+                        i = i + size;
+                        ruled = false;
+                    }
                 }
             }
         }
@@ -124,38 +156,64 @@ fn level_text(s: &[u8], levels: usize, first: bool, at: usize, stop: usize) -> V
     Verdict::Accepted
 }
 
+// The next item from a unit on, framed and judged whole: its size, or its refusal, with the place in the stream.
+fn item_binary(s: &[u8], levels: usize, first: bool, at: usize, stop: usize) -> Framed
+    requires { ⌜ (3 * stop ≤ length (now s)) × (at < stop) × (length (now s) ≤ 3145728) ⌝ }
+    ensures { λ r. ⌜ Judged (binarySextets (now (s .entry))) levels first at stop r ⌝ }
+{
+    let from = 3 * at;
+    let to = 3 * stop;
+    let next = next_binary(&s[from..to], first, levels);
+    match next {
+        Framed::Unframed { number, place } => Framed::Unframed {
+            number,
+            place: 4 * at + place,
+        },
+        Framed::Item { kind, head, size } => {
+            if is_entered(kind) {
+                let v = level_binary(s, levels - 1, is_ruled(kind), at + head, at + size);
+                judging::told(next, v)
+            } else {
+                next
+            }
+        }
+    }
+}
+
+// The items from a unit to the end of their group, where so many more groups may be entered. Runs are passed at once, and a group
+// that ends with what is around it is entered in place.
 fn level_binary(s: &[u8], levels: usize, first: bool, at: usize, stop: usize) -> Verdict
     requires { ⌜ (3 * stop ≤ length (now s)) × (at ≤ stop) × (length (now s) ≤ 3145728) ⌝ }
     ensures { λ r. ⌜ r ≡ level (binarySextets (now (s .entry))) levels first at stop ⌝ }
 {
     let mut i = at;
     let mut ruled = first;
+    let mut left = levels;
     while i < stop {
-        let from = 3 * i;
-        let to = 3 * stop;
-        let next = next_binary(&s[from..to], ruled, levels);
-        match next {
-            Framed::Unframed { number, place } => {
-                return Verdict::Refused {
-                    number,
-                    place: 4 * i + place,
-                };
-            }
-            Framed::Item { kind, head, size } => {
-                let end = i + size;
-                if is_entered(kind) {
-                    let v = level_binary(s, levels - 1, is_ruled(kind), i + head, end);
-                    if let Verdict::Refused {
-                        number: _,
-                        place: _,
-                    } = v {
-                        return v;
+        let k = runs::plain_binary(s, i);
+        let r = runs::run_binary(s, i, stop, k);
+        if 0 < r {
+            i = i + r * k;
+            ruled = false;
+        } else {
+            let g = runs::group_binary(s, i);
+            if is_tail(g, stop - i, left) {
+                ruled = runs::letter_binary(s, i) < 3;
+                i = i + 1;
+                left = left - 1;
+            } else {
+                match item_binary(s, left, ruled, i, stop) {
+                    Framed::Unframed { number, place } => {
+                        return Verdict::Refused { number, place };
                     }
-                    i = end;
-                    ruled = false;
-                } else {
-                    i = end;
-                    ruled = false;
+                    Framed::Item {
+                        kind: _,
+                        head: _,
+                        size,
+                    } => {
+                        i = i + size;
+                        ruled = false;
+                    }
                 }
             }
         }

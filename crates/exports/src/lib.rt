@@ -283,7 +283,7 @@ pub extern "C" fn cesr_write_binary(
     }
 }
 
-// ---- the walk over a lent state
+// ---- the walk over a lent state. What turns states and items into numbers is public for programs that compare with these calls.
 
 // A mark that is neither 0 nor 1 counts as seventeen open, which fits no stream.
 fn open_of(depth: usize, mark: usize) -> usize
@@ -292,7 +292,7 @@ fn open_of(depth: usize, mark: usize) -> usize
     if 1 < mark { 17 } else { depth }
 }
 
-fn walk_of(s: [usize; 19]) -> Walk
+pub fn walk_of(s: [usize; 19]) -> Walk
     ensures { λ r. ⌜ r ≡ walkOf s ⌝ }
 {
     let depth = open_of(s[16], s[18]);
@@ -327,7 +327,7 @@ fn mark_of(first: bool) -> usize
     if first { 1 } else { 0 }
 }
 
-fn state_of(w: Walk) -> [usize; 19]
+pub fn state_of(w: Walk) -> [usize; 19]
     ensures { λ r. ⌜ r ≡ stateOf w ⌝ }
 {
     let e = w.ends;
@@ -420,7 +420,7 @@ fn lead_of(kind: Kind) -> usize
     }
 }
 
-fn item_of(offset: usize, size: usize, depth: usize, kind: Kind, head: usize) -> [usize; 6]
+pub fn item_of(offset: usize, size: usize, depth: usize, kind: Kind, head: usize) -> [usize; 6]
     ensures { λ r. ⌜ r ≡ itemOf offset size depth kind head ⌝ }
 {
     let sort = sort_of(kind, head);

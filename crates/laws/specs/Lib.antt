@@ -10,3 +10,4 @@ pub mod Local
 pub mod Items
 pub mod Values
 pub mod Levels
+pub mod Scan

@@ -1,4 +1,4 @@
--- What is claimed of the reader and of the counted walk. Statements only, each below the words of 01 or of the reader's issue.
+-- What is claimed of the reader and of the counted walk. Statements only, each below the words of 01 or of what is asked of the reader.
 -- Proved in Proved. Assumes nothing.
 use Prim.Native.Nat.{ℕ, _<_, _≤_}
 use mathlib.Core.Path.{_≡_}

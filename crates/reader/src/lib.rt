@@ -94,13 +94,13 @@ impl<'a> Reader<'a> {
     }
 }
 
-// A step of a text through a reader, for callers with plain parameters.
+// A step of a text through a reader that is opened, set to a state and asked for its state, for callers with plain parameters.
 pub fn step_text(s: &[u8], walk: Walk) -> TextStep
     ensures { λ r. ⌜ r ≡ textStep (now (s .entry)) walk ⌝ }
 {
-    let taken = Reader { src: s, walk }.next_text();
+    let taken = Reader::new(s).resumed(walk).next_text();
     TextStep {
-        next: taken.reader.walk,
+        next: taken.reader.state(),
         found: taken.found,
     }
 }
@@ -109,9 +109,9 @@ pub fn step_text(s: &[u8], walk: Walk) -> TextStep
 pub fn step_binary(s: &[u8], walk: Walk) -> BinaryStep
     ensures { λ r. ⌜ r ≡ binaryStep (now (s .entry)) walk ⌝ }
 {
-    let taken = Reader { src: s, walk }.next_binary();
+    let taken = Reader::new(s).resumed(walk).next_binary();
     BinaryStep {
-        next: taken.reader.walk,
+        next: taken.reader.state(),
         found: taken.found,
     }
 }

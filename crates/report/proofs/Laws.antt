@@ -4,13 +4,14 @@ use mathlib.Core.Path.{_≡_, refl, sym, ap, _∙_, subst}
 use mathlib.Core.Bool.{Bool, true, false}
 use mathlib.Core.List.{List, [], _∷_, _++_}
 use native.Mathlib.Omega.{arith}
-use native.Mathlib.Nat.{add-mul, add-assoc, mul-comm, mul-add, le-div-iff-mul-le}
+use native.Mathlib.Nat.{add-mul, add-assoc, mul-comm, mul-add, mul-assoc, suc-mul, mul-le-mul-right, le-div-iff-mul-le}
 use lib.Dec.{ltb}
 use lib.ListN.{length, take, drop, length-append, length-drop, drop-of-length-le}
 use lib.Seq.{sets, sets-eq, slice, drop-drop}
 use borrow.Author.Tests.{lt-ltb, le-ltb}
 use Rattle.base.specs.Pick.{pick}
 use Rattle.format.specs.declared.Kind.{Kind}
+use Rattle.format.specs.declared.Kind.the-variants.{Fixed, Group}
 use Rattle.format.specs.declared.Framed.{Framed}
 use Rattle.format.specs.declared.Framed.the-variants.{Item, Unframed}
 use Rattle.format.specs.declared.Verdict.{Verdict}
@@ -28,8 +29,12 @@ use Rattle.laws.specs.Items.{rowsAt, leftAt, rows-nil, left-nil, rows-refused, 
 use Rattle.laws.specs.Levels.{part, take-of-drop, any-item, frame-own, judge-own, level, level-end, level-item}
 use Rattle.claims.specs.Claims.{Demand3}
 use Rattle.claims.specs.Room.{report-fits}
+use Rattle.base.specs.Digits.{Below}
+use Rattle.runs.specs.Plain.{plainAt, groupAt, letterAt}
+use Rattle.runs.specs.Levels.{Primitive, plain-drop, group-drop, plain-level, by-items}
+use Rattle.runs.specs.Runs.{Run, Clean, item-known}
 use Rattle.contents.specs.Next.{judgedFrom}
-use Rattle.report.specs.Filling.{rowWith, turn, Filled, filled-room, filled-more, filled-counts, filled-end, no-rest, one-rest, one-rest-long}
+use Rattle.report.specs.Filling.{rowWith, turn, Filled, filled-room, filled-more, filled-counts, filled-end, rowsOnto, stores-good, count-good, no-rest, one-rest, one-rest-long}
 
 -- ---- top-level framing, in elements
 
@@ -95,6 +100,10 @@ pub placed-text : (v : Verdict) → placed 4 v ≡ v
 unfolding placed
 placed-text Accepted = refl
 placed-text (Refused n p) = let z : p / 4 * 4 + p % 4 ≡ p = omega arith in rw z
+
+placed-accepted : (u : ℕ) → Accepted ≡ placed u Accepted
+unfolding placed
+placed-accepted u = refl
 
 -- ---- the count
 
@@ -199,3 +208,98 @@ module _ (d : Domain) (G : Reader d) (xs o : List ℕ) (n : ℕ) (is-n : n ≡ l
       let t : be4 0 ≡ section remainderBytes (leftAt d at (drop at xs)) = no-rest ∙ ap (section remainderBytes) (sym (left-end d G xs at l)) in
       let w = filled-end d xs o n is-n G at i k out φ (count-end d G xs at l) _ t in
       (omega (arith, w .1), c ∙ w .0)
+
+-- ---- rows of a run
+
+-- in elements, u to the unit
+pub run-bytes : (u a r m most : ℕ) → u * (a + r * m) ≤ most → u * a + r * (u * m) ≤ most
+run-bytes u a r m most h =
+    let z : u * (a + r * m) ≡ u * a + r * (u * m) = mul-add u a (r * m) ∙ ap (λ (x : ℕ). u * a + x) (sym (mul-assoc u r m) ∙ ap (λ (x : ℕ). x * m) (mul-comm u r) ∙ mul-assoc r u m) in
+    rw (← z) h
+
+pub onto-start : (i at size : ℕ) (out : List ℕ) → (at ≡ at + 0 * size) × (out ≡ rowsOnto i at size 0 out)
+unfolding rowsOnto
+onto-start i at size out = (omega arith, refl)
+
+pub onto-more : (i at size j : ℕ) (out mid after : List ℕ) (p : ℕ) → mid ≡ rowsOnto i at size j out → p ≡ at + j * size
+    → after ≡ sets mid (4 + 9 * (i + j)) (be4 p ++ (be4 size ++ (0 ∷ []))) → (p + size ≡ at + (j + 1) * size) × (after ≡ rowsOnto i at size (j + 1) out)
+unfolding rowsOnto
+onto-more i at size j out mid after p e q f =
+    let z : j + 1 ≡ suc j = omega arith in
+    (rw z (omega (arith, suc-mul j size)), rw (z, f, e, q))
+
+pub onto-room : (at size r j most : ℕ) → at + r * size ≤ most → j < r → at + j * size + size ≤ most
+onto-room at size r j most h l = let x : suc j * size ≤ r * size = mul-le-mul-right size l in omega (arith, suc-mul j size)
+
+-- ---- what a first unit alone decides, at top level
+
+module _ (d : Domain) (G : Reader d) (u : ℕ) (is-u : d .unit ≡ u) (xs : List ℕ) where
+  units-of : length (d .sextets xs) / 4 ≡ length xs / u
+  units-of = G .units xs ∙ rw is-u
+
+  top-drop : (a : ℕ) → u * a ≤ length xs → d .sextets (drop (u * a) xs) ≡ drop (4 * a) (d .sextets xs)
+  top-drop a h =
+      let x : u * a ≡ a * d .unit = mul-comm u a ∙ ap (λ (j : ℕ). a * j) (sym is-u) in
+      let y : 4 * a ≡ a * 4 = omega arith in
+      rw (x, y) (G .dropped xs a (omega arith))
+
+  in-units : (a : ℕ) → a ≤ length xs / u → u * a ≤ length xs
+  in-units a h = rw (mul-comm u a) (le-div-iff-mul-le {k = u} {x = a} {y = length xs} (rw is-u at (G .pos)) .0 h)
+
+  pub group-item : (a n l : ℕ) → n ≡ groupAt (d .sextets xs) a → 0 < n → u * a ≤ length xs → n ≤ length xs / u - a → l ≡ letterAt (d .sextets xs) a
+      → Item (Group l) 1 n ≡ frameRuled (d .sextets (drop (u * a) xs))
+  group-item a n l e p h r q =
+      rw (top-drop a h, q) (sym (group-drop (d .sextets xs) a n (sym e) p (omega (arith, units-of))))
+
+  module _ (k a r : ℕ) (R : Run (d .sextets xs) k (length xs / u) a r) where
+    -- the j-th item of a run, framed
+    nth : (j : ℕ) → j < r → Primitive (d .sextets (drop (u * (a + j * k)) xs)) k
+    nth j h =
+        let z = R .each j h in
+        rw (top-drop (a + j * k) (in-units (a + j * k) (omega arith)))
+        (plain-drop (d .sextets xs) (a + j * k) k (z .0) (R .some) (omega (arith, units-of)))
+
+    pub count-run : (i : ℕ) → length (rowsIn d xs) ≡ i + length (rowsAt d (u * a) (drop (u * a) xs))
+        → length (rowsIn d xs) ≡ i + r + length (rowsAt d (u * (a + r * k)) (drop (u * (a + r * k)) xs))
+    count-run i s =
+        by-items (λ (j : ℕ) (at : ℕ). length (rowsIn d xs) ≡ i + j + length (rowsAt d (u * at) (drop (u * at) xs))) k a r
+        (λ j h e.
+        let t = top-item d (drop (u * (a + j * k)) xs) _ refl _ _ _ (nth j h .framed true) in
+        let z : u * (a + j * k) + k * d .unit ≡ u * (a + j * k + k) = rw is-u (rw (mul-comm k u) (sym (mul-add u (a + j * k) k))) in
+        e ∙ rw (count-more d G xs (u * (a + j * k)) t, z) (omega arith)) (let z : i + 0 ≡ i = omega arith in rw z s)
+
+  -- the rows of a run
+  module _ (o : List ℕ) (n : ℕ) (is-n : n ≡ length (rowsIn d xs)) (short : length xs ≤ d .limit) (a i k : ℕ) (out : List ℕ) (φ : Filled d xs o n (u * a) i k out)
+      (m r : ℕ) (R : Run (d .sextets xs) m (length xs / u) a r) where
+    pub run-room : i + r ≤ n
+    run-room =
+        let e = ap length (φ .rows-are) ∙ length-append (φ .rs) (rowsAt d (u * a) (drop (u * a) xs)) in
+        let c = count-run m a r R i (e ∙ ap (λ (j : ℕ). j + length (rowsAt d (u * a) (drop (u * a) xs))) (φ .items)) in
+        omega arith
+
+    accepted : Below 64 (part (d .sextets xs) a (a + r * m)) → (j : ℕ) → j < r → Accepted ≡ judgedFrom d xs (a + j * m) (a + j * m + m)
+    unfolding judgedFrom
+    accepted b j h =
+        let z = R .each j h in
+        let s : List ℕ = d .sextets xs in
+        let at : ℕ = a + j * m in
+        let long : 4 * (at + m) ≤ length s = omega (arith, units-of) in
+        let inside : at + m ≤ length xs / d .unit = rw is-u (z .1) in
+        let v : level s maxDepth false at (at + m) ≡ Accepted =
+        plain-level s maxDepth (at + m) long false at m (z .0) (R .some) (omega arith) (item-known s m a r b j h) ∙ level-end s maxDepth false (at + m) in
+        rw (le-ltb (d .limit) (length xs) short, le-ltb (length xs / d .unit) (at + m) inside, le-ltb (at + m) at (omega arith), v)
+
+    pub fill-run : Below 64 (part (d .sextets xs) a (a + r * m)) → (out′ : List ℕ) → out′ ≡ rowsOnto i (u * a) (u * m) r out
+        → Filled d xs o n (u * (a + r * m)) (i + r) k out′
+    unfolding rowsOnto
+    fill-run b out′ e =
+        rw e
+        (by-items (λ (j : ℕ) (at : ℕ). Filled d xs o n (u * at) (i + j) k (rowsOnto i (u * a) (u * m) j out)) m a r
+        (λ j h ψ.
+        let z : u * a + j * (u * m) ≡ u * (a + j * m) = sym (mul-add u a (j * m) ∙ ap (λ (x : ℕ). u * a + x) (sym (mul-assoc u j m) ∙ ap (λ (x : ℕ). x * m) (mul-comm u j) ∙ mul-assoc j u m)) in
+        let y : i + suc j ≡ i + j + 1 = omega arith in
+        rw (y, z)
+        (turn-more d G u is-u xs o n is-n short (a + j * m) (i + j) k (rowsOnto i (u * a) (u * m) j out) ψ _ refl _ _ _ (nth m a r R j h .framed true)
+        (in-units (a + j * m) (omega (arith, R .each j h .1))) Accepted (accepted b j h) Accepted (placed-accepted u) k (count-good k (i + j)) _
+        (sym (stores-good n (i + j) k (u * (a + j * m)) (u * m) (rowsOnto i (u * a) (u * m) j out)))))
+        (let y : i + 0 ≡ i = omega arith in rw y φ))

@@ -97,6 +97,11 @@ rowWith at size v = record { offset = at; size = size; verdict = v }
 unfoldable pub turn : ℕ → ℕ → ℕ → ItemRow → List ℕ → List ℕ
 turn n i k r out = sets (sets out (4 + 9 * i) (rowBytes r)) (8 + 9 * n + 9 * k) (concat refusalBytes (refusal i (r .verdict)))
 
+-- the rows of r accepted items of one size that follow one another, from the i-th on
+unfoldable pub rowsOnto : ℕ → ℕ → ℕ → ℕ → List ℕ → List ℕ
+rowsOnto i at size zero out = out
+rowsOnto i at size (suc r) out = sets (rowsOnto i at size r out) (4 + 9 * (i + r)) (be4 (at + r * size) ++ (be4 size ++ (0 ∷ [])))
+
 pub record Filled (d : Domain) (xs o : List ℕ) (n at i k : ℕ) (out : List ℕ) : Type 0 where
   pub rs : List ItemRow
   pub rows-are : rowsIn d xs ≡ rs ++ rowsAt d at (drop at xs)

@@ -1,6 +1,7 @@
 // The report of a stream, text or binary, into a lent buffer: items, refusals, remainder, each after its count. A first pass counts
 // the items, since room is asked by them; a second judges each item once and stores its rows where they are to stand.
 use format::Framed;
+use format::Kind;
 use format::Reported;
 use format::Verdict;
 ghost use mathlib.Core.Path.{_≡_};
@@ -11,7 +12,7 @@ ghost use lib.Seq.{sets};
 ghost use Rattle.format.specs.Units.{text, binary, textSextets, binarySextets};
 ghost use Rattle.format.specs.Framing.{frameRuled};
 ghost use Rattle.format.specs.Report.{be4, rowsIn, report, refusal, placed, reportAnswer, reportLeft};
-ghost use Rattle.report.specs.Filling.{turn, rowWith};
+ghost use Rattle.report.specs.Filling.{turn, rowWith, rowsOnto};
 
 // ---- stores
 
@@ -70,6 +71,20 @@ fn put_item(
     }
 }
 
+// The rows of r accepted items of one size that follow one another, from the i-th on.
+fn put_rows(out: &mut [u8], i: usize, offset: usize, size: usize, r: usize)
+    requires { ⌜ (4 + 9 * (i + r) ≤ length (now out)) × (offset + r * size ≤ 4194304) ⌝ }
+    ensures { λ _. ⌜ now (out .exit) ≡ rowsOnto i offset size r (now (out .entry)) ⌝ }
+{
+    let mut at = offset;
+    let mut j = 0;
+    while j < r {
+        put_row(out, 4 + 9 * (i + j), at, size, 0);
+        at = at + size;
+        j = j + 1;
+    }
+}
+
 // The count of refusals, and no remainder: the report's length.
 fn finish(out: &mut [u8], n: usize, k: usize) -> usize
     requires { ⌜ (17 + 18 * n ≤ length (now out)) × (k ≤ n) ⌝ }
@@ -92,10 +107,23 @@ fn finish_rest(out: &mut [u8], n: usize, k: usize, offset: usize, number: u8) ->
 
 // ---- text
 
-fn next_text(s: &[u8], at: usize) -> Framed
-    requires { ⌜ at ≤ length (now s) ⌝ }
-    ensures { λ r. ⌜ r ≡ frameRuled (textSextets (drop at (now (s .entry)))) ⌝ }
+// The item at a unit, framed.
+fn next_text(s: &[u8], a: usize) -> Framed
+    requires { ⌜ 4 * a ≤ length (now s) ⌝ }
+    ensures { λ r. ⌜ r ≡ frameRuled (textSextets (drop (4 * a) (now (s .entry)))) ⌝ }
 {
+    let g = runs::group_text(s, a);
+    if 0 < g {
+        if g <= s.len() / 4 - a {
+            let letter = runs::letter_text(s, a);
+            return Framed::Item {
+                kind: Kind::Group { letter },
+                head: 1,
+                size: g,
+            };
+        }
+    }
+    let at = 4 * a;
     framing::frame_ruled_text(&s[at..])
 }
 
@@ -107,20 +135,27 @@ fn count_text(s: &[u8]) -> usize
     let mut a = 0;
     let mut i = 0;
     while 4 * a < s.len() {
-        match next_text(s, 4 * a) {
-            Framed::Unframed {
-                number: _,
-                place: _,
-            } => {
-                return i;
-            }
-            Framed::Item {
-                kind: _,
-                head: _,
-                size,
-            } => {
-                a = a + size;
-                i = i + 1;
+        let m = runs::plain_text(s, a);
+        let r = runs::run_text(s, a, s.len() / 4, m);
+        if 0 < r {
+            a = a + r * m;
+            i = i + r;
+        } else {
+            match next_text(s, a) {
+                Framed::Unframed {
+                    number: _,
+                    place: _,
+                } => {
+                    return i;
+                }
+                Framed::Item {
+                    kind: _,
+                    head: _,
+                    size,
+                } => {
+                    a = a + size;
+                    i = i + 1;
+                }
             }
         }
     }
@@ -137,19 +172,27 @@ fn fill_text(s: &[u8], out: &mut [u8], n: usize) -> usize
     let mut i = 0;
     let mut k = 0;
     while 4 * a < s.len() {
-        match next_text(s, 4 * a) {
-            Framed::Unframed { number, place: _ } => {
-                return finish_rest(out, n, k, 4 * a, number);
-            }
-            Framed::Item {
-                kind: _,
-                head: _,
-                size,
-            } => {
-                let v = contents::judge_text(s, a, a + size);
-                k = put_item(out, n, i, k, 4 * a, 4 * size, v);
-                a = a + size;
-                i = i + 1;
+        let m = runs::plain_text(s, a);
+        let r = runs::clean_run_text(s, a, s.len() / 4, m);
+        if 0 < r {
+            put_rows(out, i, 4 * a, 4 * m, r);
+            a = a + r * m;
+            i = i + r;
+        } else {
+            match next_text(s, a) {
+                Framed::Unframed { number, place: _ } => {
+                    return finish_rest(out, n, k, 4 * a, number);
+                }
+                Framed::Item {
+                    kind: _,
+                    head: _,
+                    size,
+                } => {
+                    let v = contents::judge_text(s, a, a + size);
+                    k = put_item(out, n, i, k, 4 * a, 4 * size, v);
+                    a = a + size;
+                    i = i + 1;
+                }
             }
         }
     }
@@ -187,10 +230,23 @@ fn placed_binary(v: Verdict) -> Verdict
     }
 }
 
-fn next_binary(s: &[u8], at: usize) -> Framed
-    requires { ⌜ at ≤ length (now s) ⌝ }
-    ensures { λ r. ⌜ r ≡ frameRuled (binarySextets (drop at (now (s .entry)))) ⌝ }
+// The item at a unit, framed.
+fn next_binary(s: &[u8], a: usize) -> Framed
+    requires { ⌜ 3 * a ≤ length (now s) ⌝ }
+    ensures { λ r. ⌜ r ≡ frameRuled (binarySextets (drop (3 * a) (now (s .entry)))) ⌝ }
 {
+    let g = runs::group_binary(s, a);
+    if 0 < g {
+        if g <= s.len() / 3 - a {
+            let letter = runs::letter_binary(s, a);
+            return Framed::Item {
+                kind: Kind::Group { letter },
+                head: 1,
+                size: g,
+            };
+        }
+    }
+    let at = 3 * a;
     framing::frame_ruled_binary(&s[at..])
 }
 
@@ -202,20 +258,27 @@ fn count_binary(s: &[u8]) -> usize
     let mut a = 0;
     let mut i = 0;
     while 3 * a < s.len() {
-        match next_binary(s, 3 * a) {
-            Framed::Unframed {
-                number: _,
-                place: _,
-            } => {
-                return i;
-            }
-            Framed::Item {
-                kind: _,
-                head: _,
-                size,
-            } => {
-                a = a + size;
-                i = i + 1;
+        let m = runs::plain_binary(s, a);
+        let r = runs::run_binary(s, a, s.len() / 3, m);
+        if 0 < r {
+            a = a + r * m;
+            i = i + r;
+        } else {
+            match next_binary(s, a) {
+                Framed::Unframed {
+                    number: _,
+                    place: _,
+                } => {
+                    return i;
+                }
+                Framed::Item {
+                    kind: _,
+                    head: _,
+                    size,
+                } => {
+                    a = a + size;
+                    i = i + 1;
+                }
             }
         }
     }
@@ -232,19 +295,27 @@ fn fill_binary(s: &[u8], out: &mut [u8], n: usize) -> usize
     let mut i = 0;
     let mut k = 0;
     while 3 * a < s.len() {
-        match next_binary(s, 3 * a) {
-            Framed::Unframed { number, place: _ } => {
-                return finish_rest(out, n, k, 3 * a, number);
-            }
-            Framed::Item {
-                kind: _,
-                head: _,
-                size,
-            } => {
-                let v = placed_binary(contents::judge_binary(s, a, a + size));
-                k = put_item(out, n, i, k, 3 * a, 3 * size, v);
-                a = a + size;
-                i = i + 1;
+        let m = runs::plain_binary(s, a);
+        let r = runs::run_binary(s, a, s.len() / 3, m);
+        if 0 < r {
+            put_rows(out, i, 3 * a, 3 * m, r);
+            a = a + r * m;
+            i = i + r;
+        } else {
+            match next_binary(s, a) {
+                Framed::Unframed { number, place: _ } => {
+                    return finish_rest(out, n, k, 3 * a, number);
+                }
+                Framed::Item {
+                    kind: _,
+                    head: _,
+                    size,
+                } => {
+                    let v = placed_binary(contents::judge_binary(s, a, a + size));
+                    k = put_item(out, n, i, k, 3 * a, 3 * size, v);
+                    a = a + size;
+                    i = i + 1;
+                }
             }
         }
     }

@@ -1,12 +1,16 @@
--- Single primitives there and back, over the definitions of format. Statements only, a field a sentence, each below what is asked in
+-- Single primitives there and back, and the limits of their sizes, over the definitions of format. Statements only, a field a sentence, each below what is asked in
 -- words (01's where they say so). `RoundTrip` is proved in Proved. Assumes nothing.
-use Prim.Native.Nat.{ℕ, _*_, _≤_}
+use Prim.Native.Nat.{ℕ, _+_, _*_, _^_, _<_, _≤_}
 use mathlib.Core.Path.{_≡_}
 use mathlib.Core.List.{List, _++_}
+use mathlib.Core.Bool.{true}
+use mathlib.Core.Logic.{_⊎_}
 use lib.ListN.{length, take, drop}
 use Rattle.base.specs.Digits.{Below}
 use Rattle.format.specs.declared.Kind.{Kind}
 use Rattle.format.specs.declared.Code.{Code}
+use Rattle.format.specs.declared.Code.the-variants as Code
+use Rattle.format.specs.declared.CodeRow.{CodeRow}
 use Rattle.format.specs.declared.Primitive.{Primitive}
 use Rattle.format.specs.declared.ToBinary.the-variants as ToBinary
 use Rattle.format.specs.declared.ToText.the-variants as ToText
@@ -14,12 +18,15 @@ use Rattle.format.specs.declared.TextFound.the-variants as TextFound
 use Rattle.format.specs.declared.BinaryFound.the-variants as BinaryFound
 use Rattle.format.specs.declared.TextWritten.the-variants as TextWritten
 use Rattle.format.specs.declared.BinaryWritten.the-variants as BinaryWritten
+use Rattle.format.specs.Alphabet.{sextetOf}
 use Rattle.format.specs.Units.{text, binary, textSextets, binarySextets}
 use Rattle.format.specs.Offsets.{textOffset, binaryOffset}
 use Rattle.format.specs.Conversion.{toBinary, toText, textToBinary, binaryToText}
+use Rattle.format.specs.Registry.{isType, zeroBitsOf, prepadOf}
+use Rattle.format.specs.Judging.{andThen, unless, hasLead, zeroBits, prepadRight}
 use Rattle.format.specs.Values.{bytesIn, rawOf, tagOf}
 use Rattle.format.specs.Reading.{codeOf, tagsOf, found, reading, padded, readText, rawLeft, readBinary, partAt}
-use Rattle.format.specs.Writing.{named, written, writing, writtenBytes, writeText, writeBinary, textItemLeft, binaryItemLeft}
+use Rattle.format.specs.Writing.{named, refused, written, writing, countFor, writtenBytes, writeText, writeBinary, textItemLeft, binaryItemLeft}
 
 -- ---- words
 
@@ -144,7 +151,43 @@ pub record ReadWrites : Type 0 where
       WritesBack (p .code) (readText xs at room .tag) (p .tags) raw (p .size) (toBinary (take (p .size * 4) (drop at xs)))
       × (toText (writtenBytes (p .code) (readText xs at room .tag) (p .tags) raw) ≡ take (p .size * 4) (drop at xs))
 
+-- ---- 01: "small holds at most 12,285 raw bytes, large 3,145,722"
+
+-- a variable code with a header of so many units holds at most so many raw bytes: the writer takes these where there is room, and
+-- gives 12 for more, in either form
+pub record Holds (code : ℕ → Code) (head most : ℕ) : Type 0 where
+  pub accepts : (u letter raw room : ℕ) (tag : List ℕ) → isType (sextetOf letter) ≡ true → raw ≤ most
+      → (head + countFor raw) * u ≤ room → writing u (named (code letter)) tag 0 raw room ≡ written (head + countFor raw)
+  pub refuses : (u letter raw room : ℕ) (tag : List ℕ) → isType (sextetOf letter) ≡ true → most < raw
+      → writing u (named (code letter)) tag 0 raw room ≡ refused 12 0
+
+pub record Limits : Type 0 where
+  pub small : Holds Code.Small 1 12285
+  pub large : Holds Code.Large 2 3145722
+  -- where the numbers come from: a small one is held exactly if two digits count its triplets, a large one exactly if its item is no
+  -- longer than a stream may be, in text and in binary
+  pub small-digits : (raw : ℕ) → raw ≤ 12285 → countFor raw < 64 ^ 2
+  pub small-most : (raw : ℕ) → countFor raw < 64 ^ 2 → raw ≤ 12285
+  pub large-fits : (raw : ℕ) → raw ≤ 3145722 → ((2 + countFor raw) * 4 ≤ text .limit) × ((2 + countFor raw) * 3 ≤ binary .limit)
+  pub large-text : (raw : ℕ) → (2 + countFor raw) * 4 ≤ text .limit → raw ≤ 3145722
+  pub large-binary : (raw : ℕ) → (2 + countFor raw) * 3 ≤ binary .limit → raw ≤ 3145722
+
+-- ---- 01: "Judging a framed primitive: 5 behind the header, 9, 8, 10": two of these orders no item can show
+
+pub record Orders : Type 0 where
+  -- no fixed code has both zero bits and a prepad, so 10 before 8 would give the same
+  pub zeros-or-prepad : (c : CodeRow) → (zeroBitsOf c ≡ 0) ⊎ (prepadOf c ≡ 0)
+  pub eight-ten : (c : CodeRow) (i : ℕ) (s : List ℕ) → Below 64 s
+      → let eight = unless 8 (zeroBits s i (zeroBitsOf c)) in let ten = unless 10 (prepadRight s i (prepadOf c)) in
+      andThen eight ten ≡ andThen ten eight
+  -- an item with n = 0 ends behind its header and has no lead byte that could be set, so 8 before 9 would give the same
+  pub nine-eight : (h lead count : ℕ) (s : List ℕ) → length s ≡ 4 * (h + count)
+      → let nine = unless 9 (hasLead lead count) in let eight = unless 8 (zeroBits s (4 * h) (8 * lead)) in
+      andThen nine eight ≡ andThen eight nine
+
 pub record RoundTrip : Type 0 where
   pub written-reads : WrittenReads
   pub written-converts : WrittenConverts
   pub read-writes : ReadWrites
+  pub limits : Limits
+  pub orders : Orders

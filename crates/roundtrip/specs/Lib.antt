@@ -11,4 +11,6 @@ pub mod Counts
 pub mod Writes
 pub mod Sextets
 pub mod Calls
+pub mod Limits
+pub mod Orders
 pub mod Proved

@@ -19,6 +19,8 @@ use Rattle.roundtrip.specs.Sextets as S
 use Rattle.roundtrip.specs.Calls as C
 use Rattle.roundtrip.specs.Claims.{Given, itemOf, Accepts, BinaryAccepts}
 use Rattle.roundtrip.specs.Claims.{TextAccepts, binaryBuffer, textBuffer, BinaryReads, TextReads}
+use Rattle.roundtrip.specs.Limits.{limits}
+use Rattle.roundtrip.specs.Orders.{orders}
 use Rattle.roundtrip.specs.Claims.{WrittenReads, WrittenConverts, ReadWrites, RoundTrip}
 
 -- ---- what a call wrote
@@ -117,4 +119,10 @@ read-writes = record {
 }
 
 pub proved : RoundTrip
-proved = record { written-reads = written-reads; written-converts = written-converts; read-writes = read-writes }
+proved = record {
+  written-reads = written-reads;
+  written-converts = written-converts;
+  read-writes = read-writes;
+  limits = limits;
+  orders = orders;
+}

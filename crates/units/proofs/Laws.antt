@@ -33,7 +33,7 @@ pub by-values : (values q : List ℕ) → length q ≡ 4 → (r : List ℕ)
 unfolding tripletBy
 by-values values q e r p = rw (list4 q e) p
 
--- each of three bytes' sextets is an index of a table of 64
+-- ---- of the characters that a conversion looks up: each of three bytes' sextets is an index of a table of 64
 pub sextet-below : (t q : List ℕ) → q ≡ sextetsOf t → (i : ℕ) → i < 4 → getD q i 0 < 64
 sextet-below t q e i h = rw e (below-at 64 (sextetsOf t) (sextets-below t) i (rw (sextets-size t) h))
 

@@ -1,9 +1,9 @@
-// A unit by value: four characters or three bytes, and the four sextets that both are. Functions that read a table are lent it,
+// A unit by value: four characters or three bytes, and the four sextets that both are. A function that reads a table is lent it,
 // since naming a constant table copies it.
 ghost use mathlib.Core.Path.{_≡_};
 ghost use Prim.Native.Nat.{_<_};
 ghost use lib.ListN.{getD};
-ghost use Rattle.format.specs.Units.{bytesOf, sextetsOf, tripletBy, quadletBy};
+ghost use Rattle.format.specs.Units.{bytesOf, sextetsOf, tripletBy};
 
 fn wide(x: u8) -> u32
     ensures { λ r. ⌜ (r ≡ x) × (r < 256) ⌝ }
@@ -52,17 +52,4 @@ pub fn triplet(values: &[u8; 256], q: [u8; 4]) -> [u8; 3]
         value(values, q[2]),
         value(values, q[3]),
     ])
-}
-
-// Three bytes as four characters, each sextet's character taken from the table.
-pub fn quadlet(characters: &[u8; 64], t: [u8; 3]) -> [u8; 4]
-    ensures { λ r. ⌜ r ≡ quadletBy (now (characters .entry)) t ⌝ }
-{
-    let q = unpack(t);
-    [
-        characters[q[0] as usize],
-        characters[q[1] as usize],
-        characters[q[2] as usize],
-        characters[q[3] as usize],
-    ]
 }

@@ -1,103 +1,38 @@
-// Runs recorded calls and writes what each answered and left in its buffer. The records and the expected output were made by the
+// Runs recorded calls and writes what each answered and left in its buffers. The records and the expected output were made by the
 // independent program in rust/oracle and by RFC 4648; nothing here was.
 //
 // A record: the call (1 byte), the room lent (2 bytes, big-endian), the input's length (2), the input. A line of output: the call,
 // the number (0: accepted), the length or place, and the whole lent buffer in hexadecimal, which held AA before. To read a primitive
-// the input is the offset (2 bytes) and the stream, and a second line has the tag places and the six numbers of the item. To write one
-// it is chars, letter and number of tag characters (1 byte each), eleven tag places and the raw value. For a step of the walk it is the
-// nineteen numbers of the state (1 byte each) and the stream, and a second line has the state and the item's numbers afterwards.
+// the input is the offset (2 bytes) and the stream, and the line goes on with the tag places and the six numbers of the item. To write
+// one it is chars, letter and number of tag characters (1 byte each), eleven tag places and the raw value. For a step of the walk it
+// is the nineteen numbers of the state (1 byte each) and the stream; the line has the state and the item's numbers afterwards. A step is
+// made again through a reader, call 11 for a text and 12 for a binary, and a third line counts the items that are left from there on.
 use libc::STDIN_FILENO;
-use libc::STDOUT_FILENO;
+use reader::BinaryEnd;
+use reader::TextEnd;
+use recorded::number;
+use recorded::wide;
+use walk::BinaryItem;
+use walk::TextItem;
+use walk::Walk;
 ghost use mathlib.Core.Path.{_≡_};
-ghost use Prim.Native.Nat.{_<_, _≤_};
+ghost use Prim.Native.Nat.{_≤_};
 ghost use lib.ListN.{length};
 
-fn wide(x: u8) -> usize
-    ensures { λ r. ⌜ (r ≡ x) × (r < 256) ⌝ }
-{
-    x as usize
-}
-
-fn number(high: u8, low: u8) -> usize
-    ensures { λ r. ⌜ r < 65536 ⌝ }
-{
-    wide(high) * 256 + wide(low)
-}
-
-fn show_byte(b: u8) {
-    io::print_hex(STDOUT_FILENO, b as u64, 2);
-}
-
 fn show(call: u8, number: u8, value: usize, out: &[u8]) {
-    io::print_decimal(STDOUT_FILENO, call as u64);
-    io::write_all(STDOUT_FILENO, b" ");
-    io::print_decimal(STDOUT_FILENO, number as u64);
-    io::write_all(STDOUT_FILENO, b" ");
-    io::print_decimal(STDOUT_FILENO, value as u64);
-    io::write_all(STDOUT_FILENO, b" ");
-    let mut i = 0;
-    while i < out.len() {
-        show_byte(out[i]);
-        i += 1;
-    }
-    io::write_all(STDOUT_FILENO, b"\n");
+    recorded::show_answer(call, number, value);
+    recorded::show_bytes(out);
+    recorded::end_line();
 }
 
-fn show_number(n: usize) {
-    io::write_all(STDOUT_FILENO, b" ");
-    io::print_decimal(STDOUT_FILENO, n as u64);
-}
+// ---- reading
 
-fn show_tag(t: [u8; 11]) {
-    show_byte(t[0]);
-    show_byte(t[1]);
-    show_byte(t[2]);
-    show_byte(t[3]);
-    show_byte(t[4]);
-    show_byte(t[5]);
-    show_byte(t[6]);
-    show_byte(t[7]);
-    show_byte(t[8]);
-    show_byte(t[9]);
-    show_byte(t[10]);
-}
-
-fn show_six(n: [usize; 6]) {
-    show_number(n[0]);
-    show_number(n[1]);
-    show_number(n[2]);
-    show_number(n[3]);
-    show_number(n[4]);
-    show_number(n[5]);
-    io::write_all(STDOUT_FILENO, b"\n");
-}
-
-fn show_item(t: [u8; 11], n: [usize; 6]) {
-    show_tag(t);
-    show_six(n);
-}
-
-fn show_step(s: [usize; 19], n: [usize; 6]) {
-    show_number(s[0]);
-    show_number(s[1]);
-    show_number(s[2]);
-    show_number(s[3]);
-    show_number(s[4]);
-    show_number(s[5]);
-    show_number(s[6]);
-    show_number(s[7]);
-    show_number(s[8]);
-    show_number(s[9]);
-    show_number(s[10]);
-    show_number(s[11]);
-    show_number(s[12]);
-    show_number(s[13]);
-    show_number(s[14]);
-    show_number(s[15]);
-    show_number(s[16]);
-    show_number(s[17]);
-    show_number(s[18]);
-    show_six(n);
+fn show_read(call: u8, number: u8, value: usize, out: &[u8], tag: [u8; 11], info: [usize; 6]) {
+    recorded::show_answer(call, number, value);
+    recorded::show_bytes(out);
+    recorded::show_bytes(&tag);
+    recorded::show_numbers(&info);
+    recorded::end_line();
 }
 
 fn read(call: u8, stream: &[u8], at: usize, out: &mut [u8]) {
@@ -106,13 +41,11 @@ fn read(call: u8, stream: &[u8], at: usize, out: &mut [u8]) {
     let mut info: [usize; 6] = [170; 6];
     if call == 5 {
         let number = exports::cesr_read_text(stream, at, out, &mut tag, &mut info, &mut value);
-        show(call, number, value, out);
-        show_item(tag, info);
+        show_read(call, number, value, out, tag, info);
         return;
     }
     let number = exports::cesr_read_binary(stream, at, &mut tag, &mut info, &mut value);
-    show(call, number, value, out);
-    show_item(tag, info);
+    show_read(call, number, value, out, tag, info);
 }
 
 fn read_at(call: u8, src: &[u8], out: &mut [u8]) {
@@ -122,6 +55,8 @@ fn read_at(call: u8, src: &[u8], out: &mut [u8]) {
         read(call, &src[2..n], at, out);
     }
 }
+
+// ---- writing
 
 fn write(call: u8, head: [u8; 3], tag: [u8; 11], raw: &[u8], out: &mut [u8]) {
     let mut value = 0;
@@ -156,19 +91,109 @@ fn write_from(call: u8, src: &[u8], out: &mut [u8]) {
     }
 }
 
-fn step(call: u8, stream: &[u8], before: [usize; 19], out: &mut [u8]) {
+// ---- a step of the walk
+
+fn show_step(call: u8, number: u8, value: usize, state: [usize; 19], item: [usize; 6]) {
+    recorded::show_answer(call, number, value);
+    recorded::show_numbers(&state);
+    recorded::show_numbers(&item);
+    recorded::end_line();
+}
+
+fn step(call: u8, stream: &[u8], before: [usize; 19]) {
     let mut value = 0;
     let mut state = before;
     let mut item: [usize; 6] = [170; 6];
     if call == 9 {
         let number = exports::cesr_walk_text(stream, &mut state, &mut item, &mut value);
-        show(call, number, value, out);
-        show_step(state, item);
+        show_step(call, number, value, state, item);
         return;
     }
     let number = exports::cesr_walk_binary(stream, &mut state, &mut item, &mut value);
-    show(call, number, value, out);
-    show_step(state, item);
+    show_step(call, number, value, state, item);
+}
+
+// A step of a text through a reader.
+fn read_step_text(stream: &[u8], before: Walk) {
+    let step = reader::step_text(stream, before);
+    let found = step.found;
+    let state = exports::state_of(step.next);
+    match found {
+        TextItem::Item {
+            offset,
+            size,
+            depth,
+            kind,
+            head,
+        } => {
+            let item = exports::item_of(offset.0, size.0, depth, kind, head);
+            show_step(11, 0, 0, state, item);
+        }
+        TextItem::Refused { number, place } => show_step(11, number, place.0, state, [170; 6]),
+        TextItem::End => show_step(11, 255, 0, state, [170; 6]),
+    }
+}
+
+// The same of a binary.
+fn read_step_binary(stream: &[u8], before: Walk) {
+    let step = reader::step_binary(stream, before);
+    let found = step.found;
+    let state = exports::state_of(step.next);
+    match found {
+        BinaryItem::Item {
+            offset,
+            size,
+            depth,
+            kind,
+            head,
+        } => {
+            let item = exports::item_of(offset.0, size.0, depth, kind, head);
+            show_step(12, 0, 0, state, item);
+        }
+        BinaryItem::Refused { number, place } => show_step(12, number, place.0, state, [170; 6]),
+        BinaryItem::End => show_step(12, 255, 0, state, [170; 6]),
+    }
+}
+
+fn show_count(call: u8, number: u8, value: usize, items: usize) {
+    recorded::show_answer(call, number, value);
+    recorded::show_number(items);
+    recorded::end_line();
+}
+
+// The items that are left, counted.
+fn rest(call: u8, stream: &[u8], before: Walk) {
+    if call == 9 {
+        let tally = reader::rest_text(stream, before);
+        let items = tally.items;
+        let end = tally.end;
+        match end {
+            TextEnd::Refused { number, place } => show_count(11, number, place.0, items),
+            TextEnd::End => show_count(11, 255, 0, items),
+        }
+        return;
+    }
+    let tally = reader::rest_binary(stream, before);
+    let items = tally.items;
+    let end = tally.end;
+    match end {
+        BinaryEnd::Refused { number, place } => show_count(12, number, place.0, items),
+        BinaryEnd::End => show_count(12, 255, 0, items),
+    }
+}
+
+// A mark that is neither 0 nor 1 is no reader's.
+fn through_reader(call: u8, stream: &[u8], before: [usize; 19]) {
+    if 1 < before[18] {
+        return;
+    }
+    let walk = exports::walk_of(before);
+    if call == 9 {
+        read_step_text(stream, walk);
+    } else {
+        read_step_binary(stream, walk);
+    }
+    rest(call, stream, walk);
 }
 
 // A walk's state, a number a byte.
@@ -184,13 +209,17 @@ fn state_from(src: &[u8]) -> [usize; 19]
     state
 }
 
-fn step_from(call: u8, src: &[u8], out: &mut [u8]) {
+fn step_from(call: u8, src: &[u8]) {
     let n = src.len();
     if 19 <= n {
         let before = state_from(src);
-        step(call, &src[19..n], before, out);
+        let stream = &src[19..n];
+        step(call, stream, before);
+        through_reader(call, stream, before);
     }
 }
+
+// ---- any call
 
 fn run(call: u8, src: &[u8], out: &mut [u8]) {
     if call < 5 {
@@ -205,7 +234,7 @@ fn run(call: u8, src: &[u8], out: &mut [u8]) {
         write_from(call, src, out);
         return;
     }
-    step_from(call, src, out);
+    step_from(call, src);
 }
 
 fn whole(call: u8, src: &[u8], out: &mut [u8]) {
@@ -245,8 +274,15 @@ fn lend(call: u8, room: usize, src: &[u8]) {
     }
 }
 
+// Room for all the records.
+fn record_space() -> [u8; 131072]
+    ensures { λ r. ⌜ 131072 ≡ length r ⌝ }
+{
+    [0; 131072]
+}
+
 fn main() {
-    let mut records = io::large_buffer();
+    let mut records = record_space();
     let n = io::read_full(STDIN_FILENO, &mut records);
     let mut at = 0;
     while at < n {

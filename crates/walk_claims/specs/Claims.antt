@@ -1,5 +1,5 @@
 -- What is claimed of the walk, over its definition in walk's Walking. Statements only, a field a sentence, each below 01's own
--- words in quotes, or those of the walk's issue where they say so. What the words mean is in Words. Proved in Proved.
+-- words in quotes, or what is asked of the walk where they say so. What the words mean is in Words. Proved in Proved.
 -- Assumes nothing.
 use Prim.Native.Nat.{ℕ, _+_, _≤_, _<_}
 use mathlib.Core.Path.{_≡_}

@@ -1,9 +1,10 @@
 //! An ordinary fast judge of CESR streams, as a good Rust programmer would
 //! write it: the mark that the proved judge is measured against.
 //!
-//! It follows the same papers (003, 01, P01 to P64) and uses what ordinary
-//! safe Rust offers: tables, the heap, loops that the compiler turns into
-//! vector code. Nothing in it is proved; its tests compare it with `oracle`.
+//! It follows the same papers (003, 01, docs/DECISIONS.md) and uses what
+//! ordinary safe Rust offers: tables, the heap, loops that the compiler turns
+//! into vector code. Nothing in it is proved; its tests compare it with
+//! `oracle`.
 //!
 //! The report and the two conversions exist for lent buffers (`write_report`,
 //! `to_binary`, `to_text`); `report` allocates its answer. `plain` holds the

@@ -14,7 +14,7 @@ use streams::table::{GROUPS, HEADS};
 use streams::{Form, Item, Random};
 
 /// 01, "The deck we check by" and "Errors we have seen shipped", and the
-/// streams of the open points.
+/// streams of docs/DECISIONS.md.
 #[rustfmt::skip]
 const DECK: [&str; 62] = [
     "", "MAAB", "MP__", "MQAA", "0HD_____", "0HEAAAAA", "VABh", "WGhp", "1AAM", "4BAA", "5BAA",
@@ -30,7 +30,7 @@ const DECK: [&str; 62] = [
 ];
 
 #[test]
-fn on_01s_deck_and_the_open_points() {
+fn on_01s_deck_and_the_decisions() {
     for text in DECK {
         assert_alike(text.as_bytes(), Form::Text, "deck");
         let whole = text.len() / 4 * 4;
@@ -135,7 +135,7 @@ fn on_noise() {
 
 #[test]
 fn the_streams_meet_every_number() {
-    // P03: a verdict is 4 to 11, a remainder's number 4 to 7; 5 in text only.
+    // D44: a verdict is 4 to 11, a remainder's number 4 to 7; 5 in text only.
     let mut random = Random::new(0xA11);
     for (form, judge) in [(Form::Text, Judge::Text), (Form::Binary, Judge::Binary)] {
         let (mut verdicts, mut remainders) = ([0; 256], [0; 256]);

@@ -1,7 +1,7 @@
 //! The URL-safe Base64 alphabet of RFC 4648: a character and its 6-bit value.
 
 /// The value of a character, or nothing for a character outside the alphabet.
-/// In text a character is a byte (P25).
+/// In text a character is a byte (D6).
 pub fn value(character: u8) -> Option<u8> {
     match character {
         b'A'..=b'Z' => Some(character - b'A'),

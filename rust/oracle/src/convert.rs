@@ -1,4 +1,4 @@
-//! Whole-stream conversion. It does not look at codes (P44).
+//! Whole-stream conversion. It does not look at codes (D25).
 
 use crate::alphabet;
 use crate::form::Form;

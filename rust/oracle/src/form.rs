@@ -28,7 +28,7 @@ impl Form {
     }
 
     /// 1: the stream is longer than the limit. A stream of just the limit is
-    /// read (P11).
+    /// read (D23).
     pub fn check_length(self, stream: &[u8]) -> Result<(), Refusal> {
         if stream.len() > self.limit() {
             return Err(Refusal::new(TOO_LONG, 0));

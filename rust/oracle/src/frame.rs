@@ -34,11 +34,11 @@ impl Frame {
 }
 
 /// Frames the item at `offset`, which must not pass `end`: the end of the
-/// stream or of the innermost enclosing group (P26).
+/// stream or of the innermost enclosing group (D10).
 pub fn frame(stream: &[u8], form: Form, offset: usize, end: usize) -> Result<Frame, Refusal> {
     let unit = form.unit();
     let left = end.min(stream.len()).saturating_sub(offset);
-    // The place of 4 is always the item's start (P19).
+    // The place of 4 is always the item's start (D10).
     let past_end = Err(Refusal::new(PAST_END, offset));
     if left < unit {
         return past_end;
@@ -141,7 +141,7 @@ mod tests {
 
     #[test]
     fn four_before_five_in_a_partial_unit() {
-        // P08: whatever the characters are.
+        // D8: whatever the characters are.
         for tail in ["", "M", "MA", "MAA", "!", "\n"] {
             assert_eq!(text(tail), Err((4, 0)));
         }
@@ -149,7 +149,7 @@ mod tests {
 
     #[test]
     fn five_before_six_in_the_first_unit() {
-        // P14, P15.
+        // D7, D8.
         assert_eq!(text("MAA!"), Err((5, 3)));
         assert_eq!(text("0A?!"), Err((5, 2)));
         assert_eq!(text("b!!A"), Err((5, 1)));
@@ -159,7 +159,7 @@ mod tests {
 
     #[test]
     fn six_before_the_second_unit() {
-        // P16.
+        // D8.
         assert_eq!(text("7AAG"), Err((6, 0)));
         assert_eq!(text("--0A"), Err((6, 0)));
         assert_eq!(text("7AAB"), Err((4, 0)));
@@ -170,7 +170,7 @@ mod tests {
 
     #[test]
     fn five_in_the_second_unit_before_the_extent() {
-        // P17.
+        // D8.
         assert_eq!(text("7AAB!__!"), Err((5, 4)));
         assert_eq!(text("--A__!__"), Err((5, 5)));
         assert_eq!(text("-_AAABA!"), Err((5, 7)));
@@ -179,7 +179,7 @@ mod tests {
 
     #[test]
     fn the_largest_extent_is_four() {
-        // P18: above 2 to the 32.
+        // D9: above 2 to the 32.
         assert_eq!(text("--c_____"), Err((4, 0)));
     }
 
@@ -192,7 +192,7 @@ mod tests {
 
     #[test]
     fn the_enclosing_end_binds() {
-        // P26: the stream goes on, the group does not.
+        // D10: the stream goes on, the group does not.
         let inner = frame(b"-AAB0HAAAAAA", Form::Text, 4, 8);
         assert_eq!(inner, Err(Refusal::new(4, 4)));
     }

@@ -14,7 +14,7 @@ use crate::registry::Code;
 pub const MOST_GROUPS: usize = 16;
 
 /// Judges a framed item that stands within `depth` groups. A genus/version
-/// has no judging of its own (P32).
+/// has no judging of its own (D13).
 pub fn judge(stream: &[u8], form: Form, framed: &Frame, depth: usize) -> Result<(), Refusal> {
     match framed.code {
         Code::Fixed(_) | Code::Variable { .. } => judge_primitive(stream, form, framed),
@@ -35,7 +35,7 @@ pub fn judge_primitive(stream: &[u8], form: Form, framed: &Frame) -> Result<(), 
         return refuse(NOT_ZERO);
     }
     if let Code::Fixed(row) = framed.code {
-        // The prepad stands right behind the code characters (P40).
+        // The prepad stands right behind the code characters (D17).
         let behind_code = form.character(stream, framed.offset, row.code.len());
         if row.prepad && behind_code != Some(b'_') {
             return refuse(PREPAD);
@@ -122,7 +122,7 @@ mod tests {
 
     #[test]
     fn label_one_has_pad_bits_and_a_lead_byte() {
-        // P38. B is 000001: its low four bits and the next two make up `h`.
+        // D17. B is 000001: its low four bits and the next two make up `h`.
         assert_eq!(text("VABh"), Ok(()));
         assert_eq!(text("VAD_"), Ok(()));
         assert_eq!(text("VAEA"), Err((8, 0)));
@@ -155,7 +155,7 @@ mod tests {
 
     #[test]
     fn tags_are_free_but_for_the_prepad() {
-        // P39, P40.
+        // D17.
         assert_eq!(text("X___"), Ok(()));
         assert_eq!(text("0J_A"), Ok(()));
         assert_eq!(text("0JAA"), Err((10, 0)));
@@ -170,14 +170,14 @@ mod tests {
 
     #[test]
     fn five_over_the_whole_item_comes_first() {
-        // P36.
+        // D16.
         assert_eq!(text("0HEAA!AA"), Err((5, 5)));
         assert_eq!(text("0LAAA=AA"), Err((5, 5)));
     }
 
     #[test]
     fn the_first_refusal_in_a_group_stands() {
-        // P05: 8 at the first item, not 6 at the second.
+        // D21: 8 at the first item, not 6 at the second.
         assert_eq!(text("-AACMQAA_AAA"), Err((8, 4)));
         assert_eq!(text("-AACMAAB_AAA"), Err((6, 8)));
         assert_eq!(text("-AACMAABMA!A"), Err((5, 10)));
@@ -199,7 +199,7 @@ mod tests {
         assert_eq!(text("-AAC-_AAACAA"), Ok(()));
         assert_eq!(text("--CAAAAC-_AAABAA"), Err((7, 8)));
         assert_eq!(text("-JAC-_AAABAA"), Ok(()));
-        // P27, P28, P29.
+        // D12.
         assert_eq!(text("-AADMAAB-_AAABAA"), Ok(()));
         assert_eq!(text("-AAD-AAA-_AAABAA"), Ok(()));
         assert_eq!(text("-AAD-CAC-_AAABAA"), Err((7, 8)));
@@ -220,7 +220,7 @@ mod tests {
 
     #[test]
     fn eleven_for_opaque_groups_too_but_behind_framing() {
-        // P34, P35: the 17th group is an opaque one with a bad character, and
+        // D20: the 17th group is an opaque one with a bad character, and
         // then one that passes its group.
         let opaque = format!("{}-KAB!!!!", deepened(2));
         assert_eq!(text(&opaque), Err((11, 64)));

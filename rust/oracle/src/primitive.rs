@@ -12,7 +12,7 @@ use crate::registry::{self, Code, Fixed};
 
 /// Most tag characters that any code holds.
 pub const MOST_TAG: usize = 11;
-/// Most raw bytes of a small and of a large variable value, inclusive (P53).
+/// Most raw bytes of a small and of a large variable value, inclusive (D32).
 pub const MOST_SMALL: usize = 12_285;
 pub const MOST_LARGE: usize = 3_145_722;
 
@@ -66,7 +66,7 @@ pub fn read_text(text: &[u8], offset: usize, out: &mut [u8]) -> Result<Primitive
 }
 
 /// Reads from binary. The raw value is the part of the stream where it lies,
-/// at the item's end; room is not asked (P49, P50).
+/// at the item's end; room is not asked (D28).
 pub fn read_binary(binary: &[u8], offset: usize) -> Result<(Primitive, &[u8]), Refusal> {
     let framed = accepted(binary, Form::Binary, offset)?;
     let found = primitive(binary, Form::Binary, &framed);
@@ -78,7 +78,7 @@ pub fn read_binary(binary: &[u8], offset: usize) -> Result<(Primitive, &[u8]), R
 fn accepted(stream: &[u8], form: Form, offset: usize) -> Result<Frame, Refusal> {
     form.check_length(stream)?;
     if offset >= stream.len() {
-        // The place is the offset as given, even far past the stream (P45).
+        // The place is the offset as given, even far past the stream (D26).
         return Err(Refusal::new(PAST_END, offset));
     }
     let framed = frame(stream, form, offset, stream.len())?;
@@ -115,7 +115,7 @@ fn tag_of(stream: &[u8], form: Form, framed: &Frame, row: &Fixed) -> Tag {
     Tag::of(&characters.collect::<Vec<u8>>())
 }
 
-/// How the caller names a code to the writer (P51).
+/// How the caller names a code to the writer (D30).
 #[derive(Clone, Copy, Debug, PartialEq, Eq)]
 pub enum Named<'a> {
     /// A fixed code by its characters.
@@ -260,12 +260,12 @@ mod tests {
 
     #[test]
     fn binary_hands_back_the_part() {
-        // `WGhp` is 58 68 69; an unaligned offset is read as it is (P48).
+        // `WGhp` is 58 68 69; an unaligned offset is read as it is (D26).
         let stream = [0xFF, 0x58, 0x68, 0x69];
         let (found, part) = read_binary(&stream, 1).unwrap();
         assert_eq!((found.size, found.raw), (3, 2));
         assert!(std::ptr::eq(part, &stream[2..4]));
-        // `0J_A`: the empty part at the item's end (P50).
+        // `0J_A`: the empty part at the item's end (D28).
         let stream = [0xD0, 0x9F, 0xC0, 0x00];
         let (found, part) = read_binary(&stream, 0).unwrap();
         assert_eq!(found.tag, Tag::of(b"A"));
@@ -287,7 +287,7 @@ mod tests {
 
     #[test]
     fn fourteen_behind_framing_and_never_seven() {
-        // P47.
+        // D27.
         assert_eq!(read("-AAB", 0), Err((4, 0)));
         assert_eq!(read("-KAB!!!!", 0), Err((14, 0)));
         assert_eq!(read("-AAA", 0), Err((14, 0)));
@@ -411,7 +411,7 @@ mod tests {
 
     #[test]
     fn places_behind_the_number_are_ignored() {
-        // P52: no 5 for them, and they are not written.
+        // D31: no 5 for them, and they are not written.
         let tag = Tag {
             number: 1,
             characters: *b"A!!!!!!!!!!",
@@ -429,7 +429,7 @@ mod tests {
 
     #[test]
     fn the_largest_values() {
-        // P53. 4 + 4 x 4095 = 16,384 and 8 + 4 x 1,048,574 = 4,194,304.
+        // D32. 4 + 4 x 4095 = 16,384 and 8 + 4 x 1,048,574 = 4,194,304.
         let raw = vec![0x55; 3_145_723];
         let mut out = vec![0; 4_194_304];
         for (large, most, size) in [(false, 12_285, 16_384), (true, 3_145_722, 4_194_304)] {

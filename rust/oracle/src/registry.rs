@@ -189,7 +189,7 @@ pub const GENUS_NAME: &str = "Genus/version";
 /// The only genus/version that is read here: KERI/ACDC v2.00.
 pub const GENUS_VERSION: [u8; 6] = *b"AAACAA";
 
-/// A code as it stands at the head of an item. Small and large differ (P62).
+/// A code as it stands at the head of an item. Small and large differ (D40).
 #[derive(Clone, Copy, Debug, PartialEq, Eq)]
 pub enum Code {
     Fixed(&'static Fixed),
@@ -219,7 +219,7 @@ pub fn is_group_letter(letter: u8) -> bool {
 }
 
 /// The code at the head of an item, from the characters of its first unit
-/// alone (P16). Nothing for an unknown or reserved one (6).
+/// alone (D8). Nothing for an unknown or reserved one (6).
 pub fn identify(unit: [u8; 4]) -> Option<Code> {
     match unit {
         [b'-', b'_', ..] => Some(Code::Genus),
@@ -267,7 +267,7 @@ impl Code {
     }
 
     /// Full size in units, header and all. 64 bits, so that the largest group
-    /// (8 + 4 x 1,073,741,823 characters) does not wrap (P18).
+    /// (8 + 4 x 1,073,741,823 characters) does not wrap (D9).
     pub fn units(&self, n: u64) -> u64 {
         match self {
             Code::Fixed(row) => row.full as u64 / 4,
@@ -499,7 +499,7 @@ mod tests {
 
     #[test]
     fn the_largest_group_does_not_wrap() {
-        // P18: `--c_____` is 8 + 4 x 1,073,741,823 = 4,294,967,300 characters.
+        // D9: `--c_____` is 8 + 4 x 1,073,741,823 = 4,294,967,300 characters.
         let code = identify(*b"--c_").unwrap();
         assert_eq!(code.units(1_073_741_823) * 4, 4_294_967_300);
     }

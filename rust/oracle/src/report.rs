@@ -23,7 +23,7 @@ pub struct RefusalRow {
 }
 
 /// Where the items end before the stream does, and why. The offset is the
-/// start of the item that could not be framed, for 5 too (P01).
+/// start of the item that could not be framed, for 5 too (D43).
 #[derive(Clone, Copy, Debug, PartialEq, Eq)]
 pub struct Remainder {
     pub offset: usize,
@@ -90,7 +90,7 @@ impl Report {
     }
 
     /// The room that is asked: by items only, though fewer bytes may be
-    /// written (P06).
+    /// written (D46).
     pub fn room(&self) -> usize {
         17 + 18 * self.items.len()
     }
@@ -155,7 +155,7 @@ mod tests {
 
     #[test]
     fn the_remainder_starts_at_the_item_not_at_the_character() {
-        // P01.
+        // D43.
         let report = report(b"MAABMA!!", Form::Text).unwrap();
         assert_eq!(report.items, [item(0, 4, 0)]);
         assert_eq!(report.remainder, remainder(4, 5));
@@ -164,7 +164,7 @@ mod tests {
 
     #[test]
     fn a_partial_last_unit_is_remainder_four() {
-        // P08.
+        // D45.
         let tail = report(b"MAAB\n", Form::Text).unwrap();
         assert_eq!(tail.remainder, remainder(4, 4));
         let middle = report(b"MAAB\nMAAB", Form::Text).unwrap();
@@ -175,7 +175,7 @@ mod tests {
 
     #[test]
     fn a_refused_inner_item_does_not_end_the_report() {
-        // P04, with the inner 6, 5 and 7.
+        // D44, with the inner 6, 5 and 7.
         let stream = b"-AAB_AAA-AABMA!A-AAC-_AAABAAMAAB";
         let report = report(stream, Form::Text).unwrap();
         let rows = [

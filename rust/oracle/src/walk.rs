@@ -88,8 +88,8 @@ impl Walk {
         self.ends.get(last).copied()
     }
 
-    /// None of 13's conditions holds. Nothing asks for whole units (P58);
-    /// equal ends are fit (P57).
+    /// None of 13's conditions holds. Nothing asks for whole units (D35);
+    /// equal ends are fit (D36).
     fn fits(&self, stream: &[u8]) -> bool {
         if self.open > MOST_GROUPS {
             return false;
@@ -119,7 +119,7 @@ impl Walk {
         next.close_finished()
     }
 
-    /// Closing cascades and writes 0 into each slot (P59, P60).
+    /// Closing cascades and writes 0 into each slot (D39).
     fn close_finished(mut self) -> Walk {
         while self.innermost().is_some_and(|end| end <= self.position) {
             self.open -= 1;
@@ -182,7 +182,7 @@ mod tests {
         ));
         let (last, _) = after(behind, stream);
         assert_eq!(last, state(&[], 12, false));
-        // P55: the end again and again.
+        // D36: the end again and again.
         assert_eq!(after(last, stream), (last, Found::End));
     }
 
@@ -207,7 +207,7 @@ mod tests {
     fn empty_groups_close_at_once() {
         let (behind, _) = after(Walk::start(), "-AAAMAAB");
         assert_eq!(behind, state(&[], 4, false));
-        // P60: an empty group at the end of its outer closes both.
+        // D39: an empty group at the end of its outer closes both.
         let (inside, _) = after(Walk::start(), "-AAB-AAAMAAB");
         assert_eq!(inside, state(&[8], 4, true));
         let (behind, _) = after(inside, "-AAB-AAAMAAB");
@@ -219,7 +219,7 @@ mod tests {
         let (behind, _) = after(Walk::start(), "-KAB_AAAMAAB");
         assert_eq!(behind, state(&[], 8, false));
         assert_eq!(refused(Walk::start(), "-KAB_A!A"), (5, 6));
-        // As first item it clears the mark (P29).
+        // As first item it clears the mark (D12).
         let (behind, _) = after(state(&[16], 4, true), "-AAD-KAA-_AAABAA");
         assert_eq!(behind, state(&[16], 8, false));
     }
@@ -234,7 +234,7 @@ mod tests {
     #[test]
     fn seven_by_place_and_mark() {
         assert_eq!(refused(Walk::start(), "-_AAABAA"), (7, 0));
-        // P58: the mark alone asks, whatever the group was.
+        // D37: the mark alone asks, whatever the group was.
         let stream = "-JAC-_AAABAA";
         assert_eq!(refused(state(&[12], 4, true), stream), (7, 4));
         let (behind, _) = after(state(&[12], 4, false), "-AAC-_AAABAA");
@@ -279,10 +279,10 @@ mod tests {
 
     #[test]
     fn fit_states_that_no_walk_gives() {
-        // P57: equal ends, and the outermost at the stream's end.
+        // D36: equal ends, and the outermost at the stream's end.
         let (behind, _) = after(state(&[8, 8, 8], 4, false), "MAABMAAB");
         assert_eq!(behind, state(&[], 8, false));
-        // P58: no whole units asked; less than a unit before the end is 4.
+        // D35: no whole units asked; less than a unit before the end is 4.
         assert_eq!(refused(state(&[7], 4, false), "MAABMAAB"), (4, 4));
         let (behind, _) = after(state(&[6], 1, false), "xMAABxxx");
         assert_eq!(behind, state(&[6], 5, false));
@@ -297,7 +297,7 @@ mod tests {
         assert!(matches!(found, Found::Item { depth: 16, .. }));
         assert_eq!(refused(deep, "-AAA"), (11, 0));
         assert_eq!(refused(deep, "-KAA"), (11, 0));
-        // P35: framing comes before 11.
+        // D20: framing comes before 11.
         assert_eq!(refused(deep, "-AABMAAB"), (4, 0));
     }
 

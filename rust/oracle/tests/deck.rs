@@ -3,6 +3,7 @@
 
 mod common;
 
+use common::papers::{DIGESTS_OF_001, NUMBER, POST_PADDED_OF_001, SAD_PATHS, SHORTS_OF_002};
 use common::{binary, bytes_of_report, hex, reads, rows, rows_of};
 use oracle::convert::to_binary;
 use oracle::form::Form;
@@ -318,11 +319,7 @@ fn of_003_indexed_codes_in_the_master_table() {
 fn of_002_short_numbers() {
     // ("M", 0x0000) "MAAA" 0x300000, ("M", 0x0001) "MAAB" 0x300001,
     // ("M", 0xffff) "MP__" 0x30ffff.
-    for (raw, text, bytes) in [
-        ("0000", "MAAA", "300000"),
-        ("0001", "MAAB", "300001"),
-        ("FFFF", "MP__", "30FFFF"),
-    ] {
+    for (raw, text, bytes) in SHORTS_OF_002 {
         reads(text, "M", "", raw);
         assert_eq!(binary(text), hex(bytes));
         let mut out = [0; 4];
@@ -339,26 +336,6 @@ fn of_002_short_numbers() {
 
 // Examples of 001.
 
-/// 001, "SAD Path Examples", Table 1, and the paths of the signature groups:
-/// the encoding, its code and its raw value.
-const SAD_PATHS: [(&str, &str, &str); 11] = [
-    ("6AABAAA-", "6A", "3E"),
-    ("4AADA-a-personal", "4A", "03E6BE A5EAEC A276A5"),
-    ("4AAB-4-5", "4A", "FB8FB9"),
-    ("5AAEAA-4-5-legalName", "5A", "0FB8 FB9FA5 7A06A5 35A99E"),
-    ("6AAEAAA-a-personal-1", "6A", "3E 6BEA5E AECA27 6A5FB5"),
-    ("4AAB-p-1", "4A", "FA9FB5"),
-    ("5AACAA-a-LEI", "5A", "0F9A F8B108"),
-    ("4AAC-p-0-0-d", "4A", "FA9FB4 FB4F9D"),
-    (
-        "5AAGAA-p-0-certifiedLender-i",
-        "5A",
-        "0FA9 FB4F9C 7ABB62 7E279D 2DE9DD 7ABFA2",
-    ),
-    ("6AAEAAA-a-credential", "6A", "3E 6BE72B 79D7A7 B626A5"),
-    ("5AABAA-a", "5A", "0F9A"),
-];
-
 #[test]
 fn of_001_sad_paths() {
     for (text, code, raw) in SAD_PATHS {
@@ -374,30 +351,6 @@ fn of_001_sad_paths() {
     }
 }
 
-/// 001's digests, keys and signature whose second (third) character is `Q` or
-/// later: post-padded, so a pad bit is set. First the two SAIDs of "Example
-/// Computation" and "Example Python dict", the schema's, then those of the
-/// ACDC figures and the signature groups.
-const POST_PADDED_OF_001: [&str; 17] = [
-    "E8wYuBjhslETYaLZcxMkWrhVbMcA8RS1pKYl7nJ77ntA",
-    "EnKa0ALimLL8eQdZGzglJG_SxvncxkmvwFDhIyLFchUk",
-    "EZT9Idj7zLA0Ek6o8oevixdX20607CljNg4zrf_NQINY",
-    "EmkPreYpZfFk66jpf3uFv7vklXKhzBrAqjsKAn2EDIPM",
-    "E46jrVPTzlSkUPqGGeIZ8a8FWS7a6s4reAXRZOkogZ2A",
-    "EgveY4-9XgOcLxUderzwLIr9Bf7V_NHwY1lkFrn9y2PY",
-    "EQzFVaMasUf4cZZBKA0pUbRc9T8yUXRFLyM1JDASYqAA",
-    "Et2DOOu4ivLsjpv89vgv6auPntSLx4CvOhGUxMhxPS24",
-    "EglG9JLG6UhkLrrv012NPuLEc1F3ne5vPH_sHGP_QPN0",
-    "E8YrUcVIqrMtDJHMHDde7LHsrBOpvN38PLKe_JCDzVrA",
-    "E_T2_p83_gRSuAYvGhqV3S0JzYEF2dIa-OCPLbIhBO7Y",
-    "EwmQtlcszNoEIDfqD-Zih3N6o5B3humRKvBBln2juTEM",
-    "BmMfUwIOywRkyc5GyQXfgDA4UOAMvjvnXcaK9G939ArM",
-    "E2X8OLaLnM0XRQEYgM5UV3bZmWg3UUn7CP4SoKkvsl-s",
-    "E-0luqYSg6cPcMFmhiAz8VBQObZLmTQPrgsr7Z1j6CA4",
-    "E6lty8H2sA_1acq8zg89_kqF194DbF1cDpwA7UPtwjPQ",
-    "0BT7b5PzUBmts-lblgOBzdThIQjKCbq8gMinhymgr4_dD0JyfN6CjZhsOqqUYFmRhABQ-vPywggLATxBDnqQ3aBg",
-];
-
 #[test]
 fn of_001_post_padded_primitives() {
     for item in POST_PADDED_OF_001 {
@@ -411,10 +364,7 @@ fn of_001_post_padded_primitives() {
 #[test]
 fn of_001_digests_that_are_accepted() {
     // Second characters `B` and `I` are below `Q`.
-    for digest in [
-        "EBdXt3gIXOf2BBWNHdSXCJnFJL5OuQPyM5K0neuniccM",
-        "EIl3MORH3dCdoFOLe71iheqcywJcnjtJtQIYPvAu6DZA",
-    ] {
+    for digest in DIGESTS_OF_001 {
         rows(digest, &[(0, 44, 0)], &[], None);
         let found = read_text(digest.as_bytes(), 0, &mut [0; 32]).unwrap();
         assert_eq!((found.code.name(), found.raw), ("Blake3-256 Digest", 32));
@@ -448,7 +398,6 @@ fn of_001_indexed_signatures_by_the_master_table() {
 }
 
 const PREFIX: &str = "E_T2_p83_gRSuAYvGhqV3S0JzYEF2dIa-OCPLbIhBO7Y";
-const NUMBER: &str = "-EAB0AAAAAAAAAAAAAAAAAAAAAAB";
 const EVENT: &str = "EwmQtlcszNoEIDfqD-Zih3N6o5B3humRKvBBln2juTEM";
 
 #[test]
@@ -627,7 +576,7 @@ fn walk_over_nested_groups() {
 
 #[test]
 fn walk_stops_where_the_report_goes_on() {
-    // P63, over 01's long deck stream.
+    // D41, over 01's long deck stream.
     let (items, last) = walked("-AAB0AAAMAAB");
     assert_eq!(items, [(0, 8, 0, "-A".to_string())]);
     let (number, place) = (4, 4);
@@ -645,7 +594,7 @@ fn walk_into_sixteen_groups() {
 
 #[test]
 fn a_second_item_goes_behind_the_first() {
-    // 01, and P54: its room is what is left.
+    // 01, and D33: its room is what is left.
     let mut out = [b'?'; 10];
     let number = Named::Fixed(b"M");
     let first = write(number, &Tag::NONE, &[0, 1], Form::Text, &mut out).unwrap();

@@ -195,7 +195,7 @@ fn nothing_panics_on_likely_streams() {
 
 #[test]
 fn the_noise_meets_every_number() {
-    // P03: a verdict is 4 to 11, a remainder's number 4 to 7.
+    // D44: a verdict is 4 to 11, a remainder's number 4 to 7.
     let mut noise = Noise(0xDEAD_BEEF_0BAD_F00D);
     let (mut verdicts, mut remainders) = ([0; 256], [0; 256]);
     for _ in 0..8000 {

@@ -3,6 +3,9 @@
 //! the program. `VECTORS_WRITE=1 cargo test -p oracle --test vectors` writes the
 //! files anew; without it the files must be what they would be.
 
+mod common;
+
+use common::papers::{DIGESTS_OF_001, NUMBER, POST_PADDED_OF_001, SAD_PATHS, SHORTS_OF_002};
 use oracle::convert;
 use oracle::primitive::{self, Named, Primitive, Tag};
 use oracle::refusal::Refusal;
@@ -56,7 +59,7 @@ impl Record {
             TO_TEXT => convert::to_text(&self.input, &mut out),
             REPORT_TEXT => write_report(&self.input, Form::Text, &mut out),
             REPORT_BINARY => write_report(&self.input, Form::Binary, &mut out),
-            READ_TEXT | READ_BINARY => return self.read_lines(),
+            READ_TEXT | READ_BINARY => return self.read_line(),
             WALK_TEXT => return self.step_lines(Form::Text, 4),
             WALK_BINARY => return self.step_lines(Form::Binary, 3),
             WRITE_TEXT => write(&self.input, Form::Text, &mut out),
@@ -65,32 +68,41 @@ impl Record {
         line(self.call, answer, &out)
     }
 
-    /// A step's second line: the state in units and the item's six numbers.
+    /// A step: the state in units and the item's six numbers; then the same
+    /// as a reader's, and how many items are left and what stops the walk.
     fn step_lines(&self, form: Form, unit: usize) -> String {
         let (before, stream) = self.input.split_at(19);
-        let (next, found) = step(state_of(before, unit), stream, form);
-        let (answer, item) = match found {
-            Found::Item {
-                offset,
-                size,
-                depth,
-                code,
-            } => {
-                let [sort, sign, lead] = code_numbers(code);
-                ((0, 0), [offset, size, depth, sort, sign, lead])
-            }
-            Found::Refused { number, place } => ((number, place), [0xAA; 6]),
-            Found::End => ((255, 0), [0xAA; 6]),
-        };
-        let mut lines = format!("{} {} {} \n", self.call, answer.0, answer.1);
-        for number in numbers_of(&next, unit).iter().chain(&item) {
-            write!(lines, " {number}").unwrap();
+        if before[18] > 1 {
+            return self.no_mark(before);
         }
-        lines
+        let from = state_of(before, unit);
+        let (next, found) = step(from, stream, form);
+        let (answer, item) = step_numbers(found);
+        let mut tail = String::new();
+        for number in numbers_of(&next, unit).iter().chain(&item) {
+            write!(tail, " {number}").unwrap();
+        }
+        let (call, read) = (self.call, self.call + 2);
+        let (items, last) = rest(from, stream, form);
+        [
+            format!("{call} {} {}{tail}", answer.0, answer.1),
+            format!("{read} {} {}{tail}", answer.0, answer.1),
+            format!("{read} {} {} {items}", last.0, last.1),
+        ]
+        .join("\n")
     }
 
-    /// A read's second line: the tag places and the six numbers.
-    fn read_lines(&self) -> String {
+    /// A mark that is neither 0 nor 1 fits no stream, and is no reader's.
+    fn no_mark(&self, before: &[u8]) -> String {
+        let mut line = format!("{} 13 0", self.call);
+        for number in before.iter().chain(&[0xAA; 6]) {
+            write!(line, " {number}").unwrap();
+        }
+        line
+    }
+
+    /// A read's line goes on with the tag places and the six numbers.
+    fn read_line(&self) -> String {
         let at = usize::from(u16::from_be_bytes([self.input[0], self.input[1]]));
         let stream = &self.input[2..];
         let mut out = vec![0xAA; self.room];
@@ -98,16 +110,16 @@ impl Record {
             READ_TEXT => (primitive::read_text(stream, at, &mut out), 4),
             _ => (primitive::read_binary(stream, at).map(|found| found.0), 3),
         };
-        let mut lines = line(self.call, found.map(|item| item.raw), &out);
+        let mut line = line(self.call, found.map(|item| item.raw), &out);
         let (tag, numbers) = match found {
             Ok(item) => (item.tag.characters, numbers(&item, unit)),
             Err(_) => ([0xAA; 11], [0xAA; 6]),
         };
-        write!(lines, "\n{}", hex(&tag)).unwrap();
+        write!(line, " {}", hex(&tag)).unwrap();
         for number in numbers {
-            write!(lines, " {number}").unwrap();
+            write!(line, " {number}").unwrap();
         }
-        lines
+        line
     }
 }
 
@@ -147,6 +159,35 @@ fn code_numbers(code: Code) -> [usize; 3] {
         }
         Code::Group { letter, large } => [7 + usize::from(large), letter.into(), 0],
         Code::Genus => [9, 0, 0],
+    }
+}
+
+/// What a step found: number and place, and the item's six numbers.
+fn step_numbers(found: Found) -> ((u8, usize), [usize; 6]) {
+    match found {
+        Found::Item {
+            offset,
+            size,
+            depth,
+            code,
+        } => {
+            let [sort, sign, lead] = code_numbers(code);
+            ((0, 0), [offset, size, depth, sort, sign, lead])
+        }
+        Found::Refused { number, place } => ((number, place), [0xAA; 6]),
+        Found::End => ((255, 0), [0xAA; 6]),
+    }
+}
+
+/// The items that steps yield from a state on, and what stops them.
+fn rest(from: Walk, stream: &[u8], form: Form) -> (usize, (u8, usize)) {
+    let (mut walk, mut items) = (from, 0);
+    loop {
+        let (next, found) = step(walk, stream, form);
+        if !matches!(found, Found::Item { .. }) {
+            return (items, step_numbers(found).0);
+        }
+        (walk, items) = (next, items + 1);
     }
 }
 
@@ -513,6 +554,30 @@ fn reads(records: &mut Vec<Record>) {
     read_both(records, 5, 8, b"MAABxMAABx");
 }
 
+/// The primitives among the examples of 002 and 001: read, reported and, where
+/// their raw value is given, written again. 001's post-padded ones are refused.
+fn examples(records: &mut Vec<Record>) {
+    for (raw, text, _) in SHORTS_OF_002 {
+        read_both(records, 0, 33, text.as_bytes());
+        write_both(records, (1, b'M'), b"", &common::hex(raw));
+    }
+    for (text, _, raw) in SAD_PATHS {
+        read_both(records, 0, 33, text.as_bytes());
+        report_both(records, 35, text.as_bytes());
+        write_both(records, (5, b'A'), b"", &common::hex(raw));
+    }
+    let others = DIGESTS_OF_001.iter().chain(&POST_PADDED_OF_001);
+    for text in others.chain(&[&NUMBER[4..]]) {
+        read_both(records, 0, 33, text.as_bytes());
+        report_both(records, 35, text.as_bytes());
+    }
+    // 001's count of items, and 003's of units.
+    for text in [NUMBER, &NUMBER.replace("-EAB", "-EAG")] {
+        report_both(records, 53, text.as_bytes());
+        walk_both(records, [0; 19], text.as_bytes());
+    }
+}
+
 /// Every step over a text and its binary, to the end or a refusal.
 fn walk_both(records: &mut Vec<Record>, from: [u8; 19], text: &[u8]) {
     let binary = in_binary(text);
@@ -573,6 +638,12 @@ fn walks(records: &mut Vec<Record>) {
     ] {
         walk_both(records, from, b"MAABMAABMAAB");
     }
+    for mark in [2, 255] {
+        let numbers = state(&[1], 0, mark);
+        for (call, stream) in [(WALK_TEXT, &b"MAAB"[..]), (WALK_BINARY, &[0x30, 0, 1])] {
+            records.push(Record::new(call, 0, &[&numbers, stream].concat()));
+        }
+    }
 }
 
 fn records() -> Vec<Record> {
@@ -590,6 +661,7 @@ fn records() -> Vec<Record> {
     unwritten(&mut records);
     reads(&mut records);
     walks(&mut records);
+    examples(&mut records);
     records
 }
 
@@ -641,7 +713,7 @@ fn the_files_say_what_the_oracle_says() {
         std::fs::write(file("stdin"), &input).unwrap();
         std::fs::write(file("stdout"), &expected).unwrap();
     }
-    assert!(input.len() < 65536, "the program reads 65,536 bytes");
+    assert!(input.len() < 131_072, "the program reads 131,072 bytes");
     assert_eq!(std::fs::read(file("stdin")).unwrap(), input);
     assert_eq!(std::fs::read_to_string(file("stdout")).unwrap(), expected);
 }

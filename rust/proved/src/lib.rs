@@ -1,4 +1,5 @@
-//! The proved library's calls, declared once and made safe once.
+//! The proved library's calls, declared once and made safe once. Programs use
+//! the crate `cesr`, which stands above this one and gives the numbers types.
 //!
 //! Nothing checks these declarations against the Rattle source, so they are
 //! few and on numbers, byte slices and arrays only: a slice is a pointer, then

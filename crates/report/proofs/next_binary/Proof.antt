@@ -1,37 +1,69 @@
+use mathlib.Core.Path.{refl}
+use Rattle.format.specs.Units.{binary}
+use Rattle.laws.specs.Domains.{binary-reader}
+use Prim.Native.Nat.{_*_}
 use Rattle.judging.proofs.Laws.{to-end}
+use Rattle.report.proofs.Laws.{group-item}
 use borrow.Author.Needs.{needs}
 use Rattle.report.proofs.next_binary.Statement.{statement}
 use Rattle.report.proofs.next_binary.Tie as tie
 use Rattle.report.proofs.next_binary.Reads as reads
 use Rattle.report.proofs.next_binary.Lts as lts
 use Rattle.framing.proofs.frame_ruled_binary.Reads as frame-ruled-binary-reads
+use Rattle.runs.proofs.group_binary.Reads as group-binary-reads
+use Rattle.runs.proofs.letter_binary.Reads as letter-binary-reads
 
--- src/lib.rt:100:31
+-- src/lib.rt:238:9
+group-binary-requires : tie.Need-group-binary-requires
+group-binary-requires c κs = search needs
+
+-- src/lib.rt:240:17
+sub-if2 : tie.Need-sub-if2
+sub-if2 c = search needs
+
+-- src/lib.rt:241:17
+letter-binary-requires : tie.Need-letter-binary-requires
+letter-binary-requires c κs = search needs
+
+-- src/lib.rt:242:13
+returns : tie.Need-returns
+returns c = group-item binary binary-reader 3 refl (c .before .before .before .before .before .args .s .now) (c .before .before .before .before .before .args .a) _ _ (c .before .before .before .group-binary .ensures) (c .before .before .if1 .taken) (search needs) (c .before .if2 .taken) (c .letter-binary .ensures)
+
+-- src/lib.rt:249:14
+mul-at : tie.Need-mul-at
+mul-at c = search needs
+
+-- src/lib.rt:250:33
 sub-frame-ruled-binary : tie.Need-sub-frame-ruled-binary
 sub-frame-ruled-binary c = search needs
 
--- src/lib.rt:100:31
+-- src/lib.rt:250:33
 part-frame-ruled-binary-start : tie.Need-part-frame-ruled-binary-start
 part-frame-ruled-binary-start c = search needs
 
--- src/lib.rt:100:31
+-- src/lib.rt:250:33
 part-frame-ruled-binary-end : tie.Need-part-frame-ruled-binary-end
 part-frame-ruled-binary-end c = search needs
 
--- src/lib.rt:100:5
+-- src/lib.rt:250:5
 frame-ruled-binary-requires : tie.Need-frame-ruled-binary-requires
 frame-ruled-binary-requires c κs = search needs
 
--- src/lib.rt:96:1
-returns : tie.Need-returns
-returns c = rw (to-end (c .before .before .before .args .s .now) (c .before .before .before .args .at)) at (c .frame-ruled-binary .ensures)
+-- src/lib.rt:234:1
+returns-2 : tie.Need-returns-2
+returns-2 c = rw (to-end (c .before .before .before .before .before .args .s .now) (3 * c .before .before .before .before .before .args .a)) at (c .frame-ruled-binary .ensures)
 
 pub next-binary-spec : {M : Type 1} → statement M
 next-binary-spec =
     tie.close
     (tie.spec
+    group-binary-requires
+    sub-if2
+    letter-binary-requires
+    returns
+    mul-at
     sub-frame-ruled-binary
     part-frame-ruled-binary-start
     part-frame-ruled-binary-end
     frame-ruled-binary-requires
-    returns)
+    returns-2)

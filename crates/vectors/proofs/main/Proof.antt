@@ -5,10 +5,10 @@ use Rattle.vectors.proofs.main.Statement.{statement}
 use Rattle.vectors.proofs.main.Tie as tie
 use Rattle.vectors.proofs.main.Reads as reads
 use Rattle.vectors.proofs.main.Lts as lts
-use Rattle.io.proofs.large_buffer.Reads as large-buffer-reads
+use Rattle.vectors.proofs.record_space.Reads as record-space-reads
 use Rattle.io.proofs.read_full.Reads as read-full-reads
 use Rattle.vectors.proofs.lend.Reads as lend-reads
-use Rattle.vectors.proofs.number.Reads as number-reads
+use Rattle.recorded.proofs.number.Reads as number-reads
 
 abbrev Inv-loop : tie.InvT-loop
 Inv-loop records n at₀ at = (at ≤ n) × (n ≤ length records)
@@ -17,8 +17,8 @@ abbrev μ-loop : tie.MeasureT-loop
 μ-loop records n at₀ at = n - at
 
 -- src/main.rt:62:23
-large-buffer-requires : tie.Need-large-buffer-requires Inv-loop μ-loop
-large-buffer-requires c κs = search needs
+record-space-requires : tie.Need-record-space-requires Inv-loop μ-loop
+record-space-requires c κs = search needs
 
 -- src/main.rt:63:41
 slice-aggregate-read-full : tie.Need-slice-aggregate-read-full Inv-loop μ-loop
@@ -134,7 +134,7 @@ main-spec =
     (tie.spec
     Inv-loop
     μ-loop
-    large-buffer-requires
+    record-space-requires
     slice-aggregate-read-full
     read-full-requires
     loop-holds

@@ -6,7 +6,7 @@ use Rattle.vectors.proofs.state_from.Statement.{statement}
 use Rattle.vectors.proofs.state_from.Tie as tie
 use Rattle.vectors.proofs.state_from.Reads as reads
 use Rattle.vectors.proofs.state_from.Lts as lts
-use Rattle.vectors.proofs.wide.Reads as wide-reads
+use Rattle.recorded.proofs.wide.Reads as wide-reads
 
 abbrev Inv-loop : tie.InvT-loop
 Inv-loop src state₀ i₀ state i = (i ≤ 19) × (length state ≡ 19)

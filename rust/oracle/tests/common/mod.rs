@@ -1,6 +1,8 @@
 //! Helpers of the tests. They hold no knowledge of codes.
 #![allow(dead_code)]
 
+pub mod papers;
+
 use oracle::form::Form;
 use oracle::primitive::{read_binary, read_text};
 use oracle::report::{report, write_report};

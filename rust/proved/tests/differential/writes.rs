@@ -116,3 +116,26 @@ fn any_tag(random: &mut Random) -> Tag {
     }
     tag
 }
+
+/// Every type, small and large, around the most that each form holds, at each
+/// lead: 12 beyond it, and a large item of the most is a stream of the limit.
+#[test]
+fn every_type_at_the_limits() {
+    let raw = Random::new(0x1318).bytes(3_145_723);
+    let small = 12_283..=12_288;
+    let large = 3_145_720..=3_145_723;
+    for &letter in TYPES {
+        for chars in [5, 6] {
+            for length in small.clone().chain(large.clone()) {
+                let item = Primitive {
+                    chars,
+                    letter,
+                    tag: [0; 11],
+                    tags: 0,
+                    raw: &raw[..length],
+                };
+                alike(&item).unwrap();
+            }
+        }
+    }
+}

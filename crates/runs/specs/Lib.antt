@@ -1,0 +1,4 @@
+pub mod Plain
+pub mod Opened
+pub mod Levels
+pub mod Runs

@@ -1,0 +1,95 @@
+-- What a first unit alone can decide: a primitive of a fixed code that is accepted if its characters are known, and a small group
+-- whose contents are items. Runs of such primitives. Over sextets. Assumes nothing.
+use Prim.Native.Nat.{ℕ, zero, suc, _+_, _-_, _*_, _/_, _%_, _^_}
+use mathlib.Core.List.{List}
+use mathlib.Core.Bool.{Bool, true, false}
+use lib.Dec.{ltb, eqb}
+use lib.ListN.{length, take, drop}
+use Rattle.base.specs.Pick.{pick}
+use Rattle.format.specs.declared.CodeRow.{CodeRow}
+use Rattle.format.specs.declared.Kind.{Kind}
+use Rattle.format.specs.declared.Kind.the-variants.{Fixed, Variable, Group, Genus}
+use Rattle.format.specs.declared.Opening.{Opening}
+use Rattle.format.specs.declared.Opening.the-variants.{Unknown, Short, LargeVariable, LargeGroup, Version}
+use Rattle.format.specs.Registry.{fixed, isGroup, isOpaque, zeroBitsOf, prepadOf}
+use Rattle.format.specs.Units.{textSextets}
+use Rattle.format.specs.Framing.{sextet}
+use Rattle.format.specs.Conversion.{firstStranger}
+
+-- ---- primitives
+
+-- the sextet behind a code is below this exactly if the code's zero bits are zero; 0 where one sextet does not tell, and with a prepad
+unfoldable pub limitOf : CodeRow → ℕ
+limitOf c = pick (eqb (prepadOf c) 0) (pick (ltb (zeroBitsOf c) 7) (2 ^ (6 - zeroBitsOf c)) 0) 0
+
+-- the size in units and 64 times the limit
+unfoldable pub plainRow : Opening → ℕ
+plainRow Unknown = 0
+plainRow (Short (Fixed c) n) = pick (ltb n 64) (n + 64 * limitOf c) 0
+plainRow (Short (Variable t l m) n) = 0
+plainRow (Short (Group l) n) = 0
+plainRow (Short Genus n) = 0
+plainRow (LargeVariable t l) = 0
+plainRow (LargeGroup l d) = 0
+plainRow Version = 0
+
+-- the size, if the sextet behind the code is below the limit
+unfoldable pub limited : ℕ → ℕ → ℕ
+limited row x = pick (ltb x (row / 64)) (row % 64) 0
+
+-- the size in units of a plain primitive, by its first three sextets; 0 for everything else
+unfoldable pub plainUnits : ℕ → ℕ → ℕ → ℕ
+plainUnits a b c = pick (ltb a 52) (limited (plainRow (fixed 1 a)) b) (pick (eqb a 52) (limited (plainRow (fixed 2 b)) c) 0)
+
+-- ---- groups
+
+-- the size in units of a small group whose contents are items; 0 for everything else
+unfoldable pub groupUnits : ℕ → ℕ → ℕ → ℕ → ℕ
+groupUnits a b c d = pick (eqb a 62) (pick (isGroup b) (pick (isOpaque b) 0 (1 + (c * 64 + d))) 0) 0
+
+-- ---- at a unit of a stream's sextets
+
+abbrev pub known4 : ℕ → ℕ → ℕ → ℕ → Bool
+known4 a b c d = pick (ltb a 64) (pick (ltb b 64) (pick (ltb c 64) (ltb d 64) false) false) false
+
+unfoldable pub plainOf : ℕ → ℕ → ℕ → ℕ → ℕ
+plainOf a b c d = pick (known4 a b c d) (plainUnits a b c) 0
+
+unfoldable pub groupOf : ℕ → ℕ → ℕ → ℕ → ℕ
+groupOf a b c d = pick (known4 a b c d) (groupUnits a b c d) 0
+
+-- a rule of the four sextets of a unit; 0 past the last whole one
+unfoldable pub unitBy : (ℕ → ℕ → ℕ → ℕ → ℕ) → List ℕ → ℕ → ℕ
+unitBy f s at = pick (ltb at (length s / 4)) (f (sextet s (4 * at)) (sextet s (4 * at + 1)) (sextet s (4 * at + 2)) (sextet s (4 * at + 3))) 0
+
+abbrev pub plainAt : List ℕ → ℕ → ℕ
+plainAt s at = unitBy plainOf s at
+
+abbrev pub groupAt : List ℕ → ℕ → ℕ
+groupAt s at = unitBy groupOf s at
+
+-- the letter of a group
+abbrev pub letterAt : List ℕ → ℕ → ℕ
+letterAt s at = unitBy (λ a b c d. b) s at
+
+-- ---- runs
+
+-- how many of p's items of k units follow one another, of n at most, none of them past the unit stop
+unfoldable pub run : (ℕ → ℕ) → ℕ → ℕ → ℕ → ℕ → ℕ
+run p k stop zero at = 0
+run p k stop (suc n) at = pick (ltb stop (at + k)) 0 (pick (eqb (p at) k) (suc (run p k stop n (at + k))) 0)
+
+-- the most of a run that is looked at at once, so that a run that ends early costs no more than this
+abbrev pub most : ℕ
+most = 32
+
+unfoldable pub runAt : (ℕ → ℕ) → ℕ → ℕ → ℕ → ℕ
+runAt p k stop at = pick (eqb k 0) 0 (run p k stop most at)
+
+-- the same of a text whose characters are known: the items in front of the first one that is not, where the units are there
+unfoldable pub cleanPart : List ℕ → ℕ → ℕ → ℕ → ℕ
+cleanPart s k at n =
+    pick (eqb (firstStranger (take (4 * (n * k)) (drop (4 * at) s))) (4 * (n * k))) n (firstStranger (take (4 * (n * k)) (drop (4 * at) s)) / (4 * k))
+
+unfoldable pub cleanRun : List ℕ → ℕ → ℕ → ℕ → ℕ
+cleanRun s k stop at = pick (ltb (length s / 4) stop) 0 (cleanPart s k at (runAt (plainAt (textSextets s)) k stop at))

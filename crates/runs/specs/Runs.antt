@@ -1,0 +1,170 @@
+-- Runs in either form, and what they leave of the verdict on a group's or stream's items. Assumes nothing.
+use Prim.Native.Nat.{ℕ, zero, suc, _+_, _-_, _*_, _/_, _≤_, _<_}
+use mathlib.Core.Path.{_≡_, refl, sym, ap, _∙_}
+use mathlib.Core.List.{List, [], _∷_}
+use mathlib.Core.Bool.{Bool, true, false}
+use mathlib.Core.Logic.{⊎-elim}
+use native.Mathlib.Omega.{arith}
+use native.Mathlib.Nat.{suc-mul, mul-assoc, mul-comm, mul-le-mul-right, le-of-mul-le-mul-right, le-div-iff-mul-le}
+use lib.Dec.{ltb, eqb}
+use lib.ListN.{length, take, drop, length-take, length-drop}
+use lib.Seq.{take-take}
+use borrow.Author.Tests.{ltb-true, ltb-false, lt-ltb, le-ltb, eqb-true, eqb-false}
+use Rattle.base.specs.Pick.{pick, pick-by}
+use Rattle.base.specs.Cases.{whether, lt-or-ge}
+use Rattle.base.specs.Lists.{map-take, map-drop}
+use Rattle.base.specs.Digits.{Below, none, more, below-take, below-drop}
+use Rattle.format.specs.declared.Verdict.{Verdict}
+use Rattle.format.specs.Alphabet.{sextetOf}
+use Rattle.format.specs.Units.{textSextets, binarySextets}
+use Rattle.format.specs.Conversion.{firstStranger}
+use Rattle.laws.specs.Conversion.{binary-below}
+use Rattle.laws.specs.Levels.{part, part-drop, part-take, take-of-drop, level}
+use Rattle.runs.specs.Plain.{plainAt, run, runAt, most, cleanPart, cleanRun}
+use Rattle.runs.specs.Levels.{plain-level, run-at, by-items}
+
+-- r plain primitives of k units from a unit on, none of them past another
+pub record Run (s : List ℕ) (k stop at r : ℕ) : Type 0 where
+  pub some : 0 < k
+  pub each : (j : ℕ) → j < r → (plainAt s (at + j * k) ≡ k) × (at + j * k + k ≤ stop)
+
+pub run-fits : (s : List ℕ) (k stop at r : ℕ) → Run s k stop at r → 0 < r → at + r * k ≤ stop
+run-fits s k stop at zero R p = absurd (omega arith)
+run-fits s k stop at (suc r) R p = omega (arith, R .each r (omega arith) .1, suc-mul r k)
+
+pub run-moves : (s : List ℕ) (k stop at r : ℕ) → Run s k stop at r → 0 < r → 0 < r * k
+run-moves s k stop at zero R p = absurd (omega arith)
+run-moves s k stop at (suc r) R p = omega (arith, R .some, suc-mul r k)
+
+-- no more items than units
+pub run-many : (s : List ℕ) (k stop at r : ℕ) → Run s k stop at r → r ≤ r * k
+run-many s k stop at r R = le-of-one k r (R .some)
+  where
+    le-of-one : (k r : ℕ) → 0 < k → r ≤ r * k
+    le-of-one k zero p = omega arith
+    le-of-one k (suc r) p = omega (arith, suc-mul r k, le-of-one k r p)
+
+-- each fits by itself
+pub run-size : (s : List ℕ) (k stop at r : ℕ) → Run s k stop at r → 0 < r → at + k ≤ stop
+run-size s k stop at r R p = let z : at + 0 * k ≡ at = omega arith in omega (arith, rw z at (R .each 0 p .1))
+
+pub nonzero : (k : ℕ) → (k ≡ 0 → ⊥) → 0 < k
+nonzero k n = ⊎-elim (λ l. l) (λ g. absurd (n (omega arith))) (lt-or-ge 0 k)
+
+pub run-is : (s : List ℕ) (k stop at r : ℕ) → runAt (plainAt s) k stop at ≡ r → 0 < r → Run s k stop at r
+unfolding runAt
+run-is s k stop at r e p = go (eqb k 0) refl e
+  where
+    go : (b : Bool) → eqb k 0 ≡ b → pick b 0 (run (plainAt s) k stop most at) ≡ r → Run s k stop at r
+    go true f q = absurd (omega arith)
+    go false f q = record { some = nonzero k (eqb-false k 0 f); each = λ j h. run-at (plainAt s) k stop most at j (omega arith) }
+
+-- ---- what a run leaves
+
+-- 7 is asked of the first item alone
+asked : Bool → ℕ → Bool
+asked first zero = first
+asked first (suc j) = false
+
+-- each item's own characters are known
+pub item-known : (s : List ℕ) (k at r : ℕ) → Below 64 (part s at (at + r * k)) → (j : ℕ) → j < r → Below 64 (part s (at + j * k) (at + j * k + k))
+item-known s k at r b j h =
+    let x : suc j * k ≤ r * k = mul-le-mul-right k h in
+    let w : j * k + k ≤ r * k = omega (arith, suc-mul j k) in
+    let y : Below 64 (part s (at + j * k) (at + r * k)) = rw (← (part-drop s at (j * k) (at + r * k))) (below-drop 64 (4 * (j * k)) (part s at (at + r * k)) b) in
+    rw (← (part-take s (at + j * k) k (at + r * k) (omega arith))) (below-take 64 (k * 4) (part s (at + j * k) (at + r * k)) y)
+
+module _ (s : List ℕ) (l stop : ℕ) (long : 4 * stop ≤ length s) (first : Bool) (k at r : ℕ) (R : Run s k stop at r) (b : Below 64 (part s at (at + r * k))) where
+  pub run-level : 0 < r → level s l first at stop ≡ level s l false (at + r * k) stop
+  unfolding asked
+  run-level p =
+      rw (last r p)
+      (by-items (λ (j : ℕ) (i : ℕ). level s l first at stop ≡ level s l (asked first j) i stop) k at r
+      (λ j h e. e ∙ plain-level s l stop long (asked first j) (at + j * k) k (R .each j h .0) (R .some) (R .each j h .1) (item-known s k at r b j h)) refl)
+    where
+      last : (r : ℕ) → 0 < r → false ≡ asked first r
+      last zero q = absurd (omega arith)
+      last (suc m) q = refl
+
+-- ---- text: known characters
+
+stranger-low : (c : List ℕ) → firstStranger c ≤ length c
+unfolding firstStranger
+stranger-low [] = omega arith
+stranger-low (x ∷ c) = pick-by (λ (n : ℕ). n ≤ suc (length c)) (ltb (sextetOf x) 64) _ _ (λ _. omega (arith, stranger-low c)) (λ _. omega arith)
+
+stranger-part : (c : List ℕ) (n : ℕ) → n ≤ firstStranger c → Below 64 (textSextets (take n c))
+unfolding firstStranger textSextets
+stranger-part c zero h = none
+stranger-part [] (suc n) h = none
+stranger-part (x ∷ c) (suc n) h =
+    ⊎-elim (λ l. more l (stranger-part c n (omega (arith, rw (lt-ltb (sextetOf x) 64 l) at h))))
+    (λ g. absurd (omega (arith, rw (le-ltb (sextetOf x) 64 g) at h)))
+    (lt-or-ge (sextetOf x) 64)
+
+text-of-part : (s : List ℕ) (at n : ℕ) → textSextets (take (4 * n) (drop (4 * at) s)) ≡ part (textSextets s) at (at + n)
+unfolding textSextets
+text-of-part s at n =
+    let z : 4 * at + 4 * n ≡ 4 * (at + n) = omega arith in
+    rw (take-of-drop (4 * n) (4 * at) s, z, map-drop sextetOf (4 * at) (take (4 * (at + n)) s), map-take sextetOf (4 * (at + n)) s)
+
+module _ (s : List ℕ) (k at n r : ℕ) (p : 0 < k) where
+  -- the items in front of the first stranger
+  few : cleanPart s k at n ≡ r → 4 * (r * k) ≤ firstStranger (take (4 * (n * k)) (drop (4 * at) s))
+  unfolding cleanPart
+  few e = go (eqb bad (4 * (n * k))) refl e
+    where
+      bad : ℕ
+      bad = firstStranger (take (4 * (n * k)) (drop (4 * at) s))
+
+      go : (b : Bool) → eqb bad (4 * (n * k)) ≡ b → pick b n (bad / (4 * k)) ≡ r → 4 * (r * k) ≤ bad
+      go true f q = rw (← q) (omega (arith, eqb-true bad (4 * (n * k)) f))
+      go false f q =
+          let y : r * (4 * k) ≤ bad = le-div-iff-mul-le {k = 4 * k} {x = r} {y = bad} (omega arith) .0 (omega arith) in
+          let z : 4 * (r * k) ≡ r * (4 * k) = sym (mul-assoc 4 r k) ∙ ap (λ (m : ℕ). m * k) (mul-comm 4 r) ∙ mul-assoc r 4 k in
+          rw z y
+
+  fewer : cleanPart s k at n ≡ r → r ≤ n
+  fewer e =
+      let x = few e in
+      let y = stranger-low (take (4 * (n * k)) (drop (4 * at) s)) in
+      let z : r * k ≤ n * k = omega (arith, length-take (4 * (n * k)) (drop (4 * at) s)) in
+      le-of-mul-le-mul-right z p
+
+  clean : cleanPart s k at n ≡ r → Below 64 (part (textSextets s) at (at + r * k))
+  clean e =
+      let w = mul-le-mul-right k (fewer e) in
+      rw (← (text-of-part s at (r * k)), ← (take-take (4 * (r * k)) (4 * (n * k)) (drop (4 * at) s) (omega arith)))
+      (stranger-part (take (4 * (n * k)) (drop (4 * at) s)) (4 * (r * k)) (few e))
+
+pub record Clean (s : List ℕ) (k stop at r : ℕ) : Type 0 where
+  pub run : Run s k stop at r
+  pub known : Below 64 (part s at (at + r * k))
+
+no-clean : (s : List ℕ) (k at r : ℕ) → cleanPart s k at 0 ≡ r → r ≡ 0
+unfolding cleanPart firstStranger
+no-clean s k at r e = let z : 4 * (0 * k) ≡ 0 = omega arith in sym (rw z at e)
+
+pub text-run : (s : List ℕ) (k stop at r : ℕ) → cleanRun s k stop at ≡ r → 0 < r → Clean (textSextets s) k stop at r
+unfolding cleanRun
+text-run s k stop at r e p = go (ltb (length s / 4) stop) e
+  where
+    some : (n : ℕ) → runAt (plainAt (textSextets s)) k stop at ≡ n → cleanPart s k at n ≡ r → 0 < n
+    some zero f q = absurd (omega (arith, no-clean s k at r q))
+    some (suc n) f q = omega arith
+
+    go : (b : Bool) → pick b 0 (cleanPart s k at (runAt (plainAt (textSextets s)) k stop at)) ≡ r → Clean (textSextets s) k stop at r
+    go true q = absurd (omega arith)
+    go false q =
+        let n : ℕ = runAt (plainAt (textSextets s)) k stop at in
+        let R = run-is (textSextets s) k stop at n refl (some n refl q) in
+        let f = fewer s k at n r (R .some) q in
+        record { run = record { some = R .some; each = λ j h. R .each j (omega arith) }; known = clean s k at n r (R .some) q }
+
+-- ---- binary: all are known
+
+pub binary-run : (s : List ℕ) (k stop at r : ℕ) → runAt (plainAt (binarySextets s)) k stop at ≡ r → 0 < r → Clean (binarySextets s) k stop at r
+binary-run s k stop at r e p = record {
+  run = run-is (binarySextets s) k stop at r e p;
+  known = below-drop 64 (4 * at) _ (below-take 64 (4 * (at + r * k)) (binarySextets s) (binary-below s));
+}

@@ -1,0 +1,200 @@
+// Runs recorded writes of long raw values, around what a small and a large form may hold, and reads back what was written. The
+// records and the expected output were made by the independent program in rust/oracle; nothing here was.
+//
+// A record is ten bytes: the call (7 to text, 8 to binary), the code's chars and letter, a seed, the raw length (4 bytes, big-endian)
+// and the room lent (2). The raw value is not recorded: byte i is (7 i + i / 256 + seed) mod 256. A line of output: the call, the number
+// (0: accepted), the length or place, a checksum of the whole lent buffer, which held AA before, and its first twelve bytes. Where an
+// item was written it is read back, and a second line has the six numbers of the item, the length of the raw value and how many of
+// its bytes, from the first on, are those that were given.
+use format::BinaryOffset;
+use libc::STDIN_FILENO;
+use recorded::number;
+use recorded::show_number;
+use recorded::wide;
+ghost use mathlib.Core.Path.{_≡_};
+ghost use Prim.Native.Nat.{_<_};
+ghost use lib.ListN.{length};
+
+// ---- the raw value
+
+fn byte_at(i: usize, seed: u8) -> u8 {
+    ((i % 65536 * 7 + i / 256 % 256 + wide(seed)) % 256) as u8
+}
+
+fn fill(raw: &mut [u8], seed: u8) {
+    let mut i = 0;
+    while i < raw.len() {
+        raw[i] = byte_at(i, seed);
+        i += 1;
+    }
+}
+
+// How many bytes from the first on are the filled ones.
+fn agreeing(raw: &[u8], seed: u8) -> usize {
+    let mut i = 0;
+    while i < raw.len() {
+        if raw[i] != byte_at(i, seed) {
+            return i;
+        }
+        i += 1;
+    }
+    i
+}
+
+fn blank(out: &mut [u8]) {
+    let mut i = 0;
+    while i < out.len() {
+        out[i] = 170;
+        i += 1;
+    }
+}
+
+// ---- a buffer in short
+
+// The bytes as digits of base 257, each one more than its byte, modulo the largest prime below 2 to the 32.
+fn checksum(s: &[u8]) -> usize
+    ensures { λ r. ⌜ r < 4294967291 ⌝ }
+{
+    let mut sum: usize = 0;
+    let mut i = 0;
+    while i < s.len() {
+        sum = (sum * 257 + wide(s[i]) + 1) % 4294967291;
+        i += 1;
+    }
+    sum
+}
+
+// The first twelve bytes: code, count and where the raw value begins.
+fn show_head(out: &[u8]) {
+    if 12 <= out.len() {
+        recorded::show_bytes(&out[0..12]);
+    }
+}
+
+fn show_written(call: u8, number: u8, value: usize, out: &[u8]) {
+    recorded::show_answer(call, number, value);
+    show_number(checksum(out));
+    show_head(out);
+    recorded::end_line();
+}
+
+fn show_read(call: u8, number: u8, value: usize, info: [usize; 6], raw: &[u8], seed: u8) {
+    recorded::show_answer(call, number, value);
+    recorded::show_numbers(&info);
+    show_number(raw.len());
+    show_number(agreeing(raw, seed));
+    recorded::end_line();
+}
+
+// ---- an item read back
+
+fn read_text(item: &[u8], raw: &mut [u8], seed: u8) {
+    blank(raw);
+    let mut value = 0;
+    let mut tag: [u8; 11] = [170; 11];
+    let mut info: [usize; 6] = [170; 6];
+    let number = exports::cesr_read_text(item, 0, raw, &mut tag, &mut info, &mut value);
+    show_read(5, number, value, info, raw, seed);
+}
+
+fn read_binary(item: &[u8], seed: u8) {
+    let mut value = 0;
+    let mut tag: [u8; 11] = [170; 11];
+    let mut info: [usize; 6] = [170; 6];
+    let number = exports::cesr_read_binary(item, 0, &mut tag, &mut info, &mut value);
+    let part = reading::raw_binary(item, BinaryOffset(0));
+    show_read(6, number, value, info, part, seed);
+}
+
+// ---- an item written
+
+fn write_text(chars: u8, letter: u8, raw: &mut [u8], seed: u8, out: &mut [u8]) {
+    let mut value = 0;
+    let tag: [u8; 11] = [33; 11];
+    let number = exports::cesr_write_text(chars, letter, &tag, 0, raw, out, &mut value);
+    show_written(7, number, value, out);
+    if number == 0 {
+        if value <= out.len() {
+            read_text(&out[0..value], raw, seed);
+        }
+    }
+}
+
+fn write_binary(chars: u8, letter: u8, raw: &[u8], seed: u8, out: &mut [u8]) {
+    let mut value = 0;
+    let tag: [u8; 11] = [33; 11];
+    let number = exports::cesr_write_binary(chars, letter, &tag, 0, raw, out, &mut value);
+    show_written(8, number, value, out);
+    if number == 0 {
+        if value <= out.len() {
+            read_binary(&out[0..value], seed);
+        }
+    }
+}
+
+fn run(head: [u8; 4], raw: &mut [u8], out: &mut [u8]) {
+    let seed = head[3];
+    fill(raw, seed);
+    blank(out);
+    if head[0] == 7 {
+        write_text(head[1], head[2], raw, seed, out);
+        return;
+    }
+    write_binary(head[1], head[2], raw, seed, out);
+}
+
+fn lend(r: [u8; 10], raw: &mut [u8], out: &mut [u8]) {
+    let head = [r[0], r[1], r[2], r[3]];
+    let length = number(r[4], r[5]) * 65536 + number(r[6], r[7]);
+    let room = number(r[8], r[9]);
+    if length <= raw.len() {
+        if room <= out.len() {
+            run(head, &mut raw[0..length], &mut out[0..room]);
+        }
+    }
+}
+
+fn run_all(records: &[u8], raw: &mut [u8], out: &mut [u8]) {
+    let mut at = 0;
+    while at < records.len() {
+        if records.len() - at < 10 {
+            return;
+        }
+        let r = [
+            records[at],
+            records[at + 1],
+            records[at + 2],
+            records[at + 3],
+            records[at + 4],
+            records[at + 5],
+            records[at + 6],
+            records[at + 7],
+            records[at + 8],
+            records[at + 9],
+        ];
+        lend(r, raw, out);
+        at += 10;
+    }
+}
+
+// One byte more than a large form holds.
+fn raw_space() -> [u8; 3145723]
+    ensures { λ r. ⌜ 3145723 ≡ length r ⌝ }
+{
+    [0; 3145723]
+}
+
+// A large text of 12,288 raw bytes, and a byte behind it.
+fn out_space() -> [u8; 16393]
+    ensures { λ r. ⌜ 16393 ≡ length r ⌝ }
+{
+    [0; 16393]
+}
+
+fn main() {
+    let mut records = io::large_buffer();
+    let n = io::read_full(STDIN_FILENO, &mut records);
+    let mut raw = raw_space();
+    let mut out = out_space();
+    run_all(&records[..n], &mut raw, &mut out);
+}

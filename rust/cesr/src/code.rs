@@ -1,0 +1,225 @@
+//! Codes as the library names them, and their characters and names for people.
+
+use crate::names::{FIXED, GENUS_VERSION, GROUPS, VARIABLES};
+use crate::{to_text_into, Form};
+use std::fmt;
+use std::str::FromStr;
+
+/// A code. The letter is the code's last character, a variable's type or a
+/// group's letter. A value of this type need not be a code of the registry:
+/// the library refuses one that is not with 6.
+#[derive(Clone, Copy, Debug, PartialEq, Eq, Hash)]
+pub enum Code {
+    /// A fixed code of 1, 2 or 4 characters: `M`, `0H`, `1AAM`.
+    Fixed {
+        /// The number of its characters.
+        chars: u8,
+        /// Its last character.
+        letter: u8,
+    },
+    /// A small variable, of selector `4`, `5` or `6`.
+    Small {
+        /// Its type.
+        letter: u8,
+    },
+    /// A large variable, of selector `7`, `8` or `9`.
+    Large {
+        /// Its type.
+        letter: u8,
+    },
+    /// A small group, `-A`.
+    SmallGroup {
+        /// The group's letter.
+        letter: u8,
+    },
+    /// A large group, `--A`.
+    LargeGroup {
+        /// The group's letter.
+        letter: u8,
+    },
+    /// A genus/version, `-_`.
+    GenusVersion,
+}
+
+impl Code {
+    /// A fixed code by its number of characters and its last one.
+    pub const fn fixed(chars: u8, letter: u8) -> Code {
+        Code::Fixed { chars, letter }
+    }
+
+    /// A small variable of a type.
+    pub const fn small(letter: u8) -> Code {
+        Code::Small { letter }
+    }
+
+    /// A large variable of a type.
+    pub const fn large(letter: u8) -> Code {
+        Code::Large { letter }
+    }
+
+    /// A code in the library's two numbers.
+    pub(crate) fn answered(chars: usize, letter: usize) -> Code {
+        let letter = u8::try_from(letter).unwrap_or(0);
+        match chars {
+            5 => Code::Small { letter },
+            6 => Code::Large { letter },
+            7 => Code::SmallGroup { letter },
+            8 => Code::LargeGroup { letter },
+            9 => Code::GenusVersion,
+            _ => Code::fixed(u8::try_from(chars).unwrap_or(0), letter),
+        }
+    }
+
+    /// The library's two numbers.
+    pub(crate) fn numbers(self) -> (u8, u8) {
+        match self {
+            Code::Fixed { chars, letter } => (chars, letter),
+            Code::Small { letter } => (5, letter),
+            Code::Large { letter } => (6, letter),
+            Code::SmallGroup { letter } => (7, letter),
+            Code::LargeGroup { letter } => (8, letter),
+            Code::GenusVersion => (9, 0),
+        }
+    }
+
+    /// Does it head a group?
+    pub fn is_group(self) -> bool {
+        matches!(self, Code::SmallGroup { .. } | Code::LargeGroup { .. })
+    }
+
+    /// The registry's name, for display; none for a code that it lacks.
+    ///
+    /// ```
+    /// use cesr::Code;
+    /// assert_eq!(Code::fixed(1, b'E').name(), Some("Blake3-256 Digest"));
+    /// assert_eq!(Code::fixed(1, b'b').name(), None);
+    /// ```
+    pub fn name(self) -> Option<&'static str> {
+        match self {
+            Code::Fixed { chars, letter } => fixed_name(chars, letter),
+            Code::Small { letter } | Code::Large { letter } => lettered(&VARIABLES, letter),
+            Code::SmallGroup { letter } | Code::LargeGroup { letter } => lettered(&GROUPS, letter),
+            Code::GenusVersion => Some(GENUS_VERSION),
+        }
+    }
+}
+
+fn fixed_name(chars: u8, letter: u8) -> Option<&'static str> {
+    let mut rows = FIXED.iter().map(|(code, name)| (code.as_bytes(), *name));
+    let found =
+        rows.find(|(code, _)| code.last() == Some(&letter) && usize::from(chars) == code.len());
+    found.map(|(_, name)| name)
+}
+
+fn lettered(table: &[(u8, &'static str)], letter: u8) -> Option<&'static str> {
+    let row = table.iter().find(|row| row.0 == letter);
+    row.map(|row| row.1)
+}
+
+/// Characters that can be no primitive's code.
+#[derive(Clone, Copy, Debug, PartialEq, Eq)]
+pub struct NoCode;
+
+impl fmt::Display for NoCode {
+    fn fmt(&self, f: &mut fmt::Formatter<'_>) -> fmt::Result {
+        f.write_str("a primitive's code is like M, 0H, 1AAM, 4B or 7AAB")
+    }
+}
+
+impl std::error::Error for NoCode {}
+
+/// A primitive's code by its characters. A variable's selector tells small
+/// from large; the lead follows from the raw length.
+///
+/// ```
+/// use cesr::Code;
+/// assert_eq!("0H".parse(), Ok(Code::fixed(2, b'H')));
+/// assert_eq!("6B".parse(), Ok(Code::small(b'B')));
+/// assert!("-A".parse::<Code>().is_err());
+/// ```
+impl FromStr for Code {
+    type Err = NoCode;
+
+    fn from_str(characters: &str) -> Result<Code, NoCode> {
+        match *characters.as_bytes() {
+            [letter @ (b'A'..=b'Z' | b'a'..=b'z')] => Ok(Code::fixed(1, letter)),
+            [b'0', letter] => Ok(Code::fixed(2, letter)),
+            [b'1', b'A', b'A', letter] => Ok(Code::fixed(4, letter)),
+            [b'4'..=b'6', letter] => Ok(Code::small(letter)),
+            [b'7'..=b'9', b'A', b'A', letter] => Ok(Code::large(letter)),
+            _ => Err(NoCode),
+        }
+    }
+}
+
+/// A code with the lead bytes of a variable, which tell its selector.
+#[derive(Clone, Copy, Debug, PartialEq, Eq, Hash)]
+pub struct Head {
+    /// The code.
+    pub code: Code,
+    /// Lead bytes of a variable; else 0.
+    pub lead: u8,
+}
+
+impl Head {
+    /// What stands at the start of an item that the library has framed, for
+    /// display; none where no code of the registry does. It is no verdict: a
+    /// refused item has a head too.
+    ///
+    /// ```
+    /// use cesr::{Form, Head};
+    /// let head = Head::of(Form::Text, b"5BABAQAA").expect("a framed item");
+    /// assert_eq!(head.to_string(), "5B");
+    /// assert_eq!(head.name(), Some("Bytes"));
+    /// ```
+    pub fn of(form: Form, item: &[u8]) -> Option<Head> {
+        let mut unit = [0; 4];
+        match form {
+            Form::Text => unit = *item.first_chunk()?,
+            Form::Binary => {
+                let first: [u8; 3] = *item.first_chunk()?;
+                to_text_into(&first, &mut unit).ok()?;
+            }
+        }
+        let head = Head::spelt(unit);
+        head.filter(|head| head.name().is_some())
+    }
+
+    fn spelt(unit: [u8; 4]) -> Option<Head> {
+        let [first, second, _, fourth] = unit;
+        let (code, lead) = match unit {
+            [b'-', b'_', ..] => (Code::GenusVersion, 0),
+            [b'-', b'-', letter, _] => (Code::LargeGroup { letter }, 0),
+            [b'-', letter, ..] => (Code::SmallGroup { letter }, 0),
+            [b'4'..=b'6', letter, ..] => (Code::small(letter), first.wrapping_sub(b'4')),
+            [b'7'..=b'9', b'A', b'A', _] => (Code::large(fourth), first.wrapping_sub(b'7')),
+            [b'0', ..] => (Code::fixed(2, second), 0),
+            [b'1', b'A', b'A', _] => (Code::fixed(4, fourth), 0),
+            [b'1' | b'7'..=b'9', ..] => return None,
+            _ => (Code::fixed(1, first), 0),
+        };
+        Some(Head { code, lead })
+    }
+
+    /// The registry's name of the code.
+    pub fn name(&self) -> Option<&'static str> {
+        self.code.name()
+    }
+}
+
+/// The code's characters: `M`, `0H`, `1AAM`, `5B`, `8AAB`, `-A`, `--A`, `-_`.
+impl fmt::Display for Head {
+    fn fmt(&self, f: &mut fmt::Formatter<'_>) -> fmt::Result {
+        let selector = |first: u8| char::from(first.saturating_add(self.lead));
+        match self.code {
+            Code::Fixed { chars: 2, letter } => write!(f, "0{}", char::from(letter)),
+            Code::Fixed { chars: 4, letter } => write!(f, "1AA{}", char::from(letter)),
+            Code::Fixed { letter, .. } => write!(f, "{}", char::from(letter)),
+            Code::Small { letter } => write!(f, "{}{}", selector(b'4'), char::from(letter)),
+            Code::Large { letter } => write!(f, "{}AA{}", selector(b'7'), char::from(letter)),
+            Code::SmallGroup { letter } => write!(f, "-{}", char::from(letter)),
+            Code::LargeGroup { letter } => write!(f, "--{}", char::from(letter)),
+            Code::GenusVersion => f.write_str("-_"),
+        }
+    }
+}

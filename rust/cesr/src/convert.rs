@@ -1,0 +1,52 @@
+//! Whole streams from text to binary and back.
+
+use crate::{Form, Refusal};
+
+/// A text as binary: refused 1, 2 or 5.
+///
+/// ```
+/// use cesr::{to_binary, Number};
+/// assert_eq!(to_binary(b"1AAM"), Ok(vec![0xD4, 0x00, 0x0C]));
+/// let refusal = to_binary(b"MAA!").unwrap_err();
+/// assert_eq!((refusal.number, refusal.place), (Number::CHARACTER, 3));
+/// ```
+pub fn to_binary(text: &[u8]) -> Result<Vec<u8>, Refusal> {
+    grown(Form::Text, text, to_binary_into)
+}
+
+/// A binary as text: refused 1 or 2.
+///
+/// ```
+/// use cesr::{to_text, Number};
+/// assert_eq!(to_text(b"\xD4\x00\x0C"), Ok(b"1AAM".to_vec()));
+/// assert_eq!(to_text(b"\xD4").unwrap_err().number, Number::NOT_WHOLE_UNITS);
+/// ```
+pub fn to_text(binary: &[u8]) -> Result<Vec<u8>, Refusal> {
+    grown(Form::Binary, binary, to_text_into)
+}
+
+/// A text as binary at the start of `out`: refused 1, 2, 5 or 3, else the
+/// bytes written. Refused, `out` stays as it was.
+pub fn to_binary_into(text: &[u8], out: &mut [u8]) -> Result<usize, Refusal> {
+    Ok(proved::to_binary(text, out)?)
+}
+
+/// A binary as text at the start of `out`: refused 1, 2 or 3, else the
+/// characters written. Refused, `out` stays as it was.
+pub fn to_text_into(binary: &[u8], out: &mut [u8]) -> Result<usize, Refusal> {
+    Ok(proved::to_text(binary, out)?)
+}
+
+type Into = fn(&[u8], &mut [u8]) -> Result<usize, Refusal>;
+
+/// The conversion with room for every stream of this length.
+fn grown(from: Form, stream: &[u8], convert: Into) -> Result<Vec<u8>, Refusal> {
+    let to = match from {
+        Form::Text => Form::Binary,
+        Form::Binary => Form::Text,
+    };
+    let mut out = vec![0; to.room(from.units(stream.len()))];
+    let length = convert(stream, &mut out)?;
+    out.truncate(length);
+    Ok(out)
+}

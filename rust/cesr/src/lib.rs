@@ -1,0 +1,74 @@
+//! CESR streams judged, converted, read, written and walked.
+//!
+//! Nothing here judges. Every verdict, size, place and number is an answer of
+//! the proved library, which is linked in as a static archive; this crate
+//! lends it memory and gives its answers types. Its calls take any bytes of
+//! any length and panic on none of them. Standard library only, no unsafe
+//! code: the foreign calls stand in the crate `proved`.
+//!
+//! | To | Call |
+//! | --- | --- |
+//! | judge a stream | [`judge`], [`judge_into`]: a [`Report`] with its rows |
+//! | convert a stream | [`to_binary`], [`to_text`] and their `_into` forms |
+//! | read one primitive | [`read`], [`read_text_into`], [`read_binary`] |
+//! | write one primitive | [`write()`], [`write_into`] |
+//! | go through all depths | [`Walk`], an iterator |
+//! | look at one item of any kind | [`item_at`] |
+//!
+//! A stream is *text* (characters of URL-safe Base64) or *binary*, see
+//! [`Form`]. Offsets, sizes and places count characters in text and bytes in
+//! binary, always from the stream's start. A refused call gives a
+//! [`Refusal`]: a [`Number`] with its meaning in words, and the place.
+//!
+//! ```
+//! use cesr::{judge, Form, Number};
+//!
+//! // A group with an inner item that passes the group's end, then a number.
+//! let report = judge(Form::Text, b"-AAB0AAAMAAB")?;
+//! assert_eq!((report.accepted(), report.refused()), (1, 1));
+//!
+//! let row = report.refusals().next().expect("one item is refused");
+//! assert_eq!((row.index, row.refusal.place), (0, 4));
+//! assert_eq!(row.refusal.number, Number::PAST_END);
+//! assert_eq!(
+//!     row.refusal.number.words(),
+//!     "header or full size passes the end of stream or enclosing group"
+//! );
+//! assert!(report.remainder().is_none());
+//! assert!(!report.accepts_all(12));
+//! # Ok::<(), cesr::Refusal>(())
+//! ```
+
+#![forbid(unsafe_code)]
+#![warn(missing_docs)]
+#![deny(
+    clippy::arithmetic_side_effects,
+    clippy::expect_used,
+    clippy::indexing_slicing,
+    clippy::panic,
+    clippy::unwrap_used
+)]
+
+mod code;
+mod convert;
+mod form;
+mod names;
+mod primitive;
+mod refusal;
+mod report;
+mod walk;
+
+pub use code::{Code, Head, NoCode};
+pub use convert::{to_binary, to_binary_into, to_text, to_text_into};
+pub use form::{Form, NoForm};
+pub use primitive::{read, read_binary, read_text_into, write, write_into, Primitive, Tag};
+pub use refusal::{Number, Refusal};
+pub use report::{
+    judge, judge_into, Item, Items, RefusalRow, Refusals, Remainder, Report, Verdict,
+};
+pub use walk::{item_at, State, Step, Walk};
+
+/// The guide's Rust examples run as tests of this crate.
+#[cfg(doctest)]
+#[doc = include_str!("../../../docs/GUIDE.md")]
+struct Guide;

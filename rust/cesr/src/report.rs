@@ -1,0 +1,311 @@
+//! The report of a stream, and its rows.
+
+use crate::{Form, Number, Refusal, State, Walk};
+use std::borrow::Cow;
+use std::iter::{Enumerate, FusedIterator};
+use std::slice::ChunksExact;
+
+/// Bytes of a row of items or refusals.
+const ROW: usize = 9;
+/// Bytes of a remainder's row.
+const REMAINDER: usize = 5;
+
+/// Judges a stream: refused 1 if it is too long, else its report.
+///
+/// ```
+/// use cesr::{judge, Form, Verdict};
+/// let report = judge(Form::Text, b"MAABMQAA")?;
+/// let verdicts: Vec<_> = report.items().map(|item| item.verdict).collect();
+/// assert_eq!(verdicts[0], Verdict::Accepted);
+/// assert_eq!(verdicts[1].number().map(|number| number.get()), Some(8));
+/// # Ok::<(), cesr::Refusal>(())
+/// ```
+pub fn judge(form: Form, stream: &[u8]) -> Result<Report<'static>, Refusal> {
+    let mut out = vec![0; Report::room(form, stream.len())];
+    let length = report(form, stream, &mut out)?;
+    out.truncate(length);
+    Ok(Report::over(Cow::Owned(out)))
+}
+
+/// Judges a stream into a lent buffer: refused 1, then 3 exactly if the room
+/// is below 17 + 18 x items. Refused, `out` stays as it was.
+///
+/// ```
+/// use cesr::{judge_into, Form, Number};
+/// let mut out = [0; 53];
+/// let report = judge_into(Form::Text, b"-AAB0AAAMAAB", &mut out)?;
+/// assert_eq!(report.as_bytes().len(), 39);
+/// let refusal = judge_into(Form::Text, b"-AAB0AAAMAAB", &mut [0; 52]).unwrap_err();
+/// assert_eq!(refusal.number, Number::ROOM);
+/// # Ok::<(), cesr::Refusal>(())
+/// ```
+pub fn judge_into<'a>(form: Form, stream: &[u8], out: &'a mut [u8]) -> Result<Report<'a>, Refusal> {
+    let length = report(form, stream, out)?;
+    let written = out.get(..length).unwrap_or_default();
+    Ok(Report::over(Cow::Borrowed(written)))
+}
+
+fn report(form: Form, stream: &[u8], out: &mut [u8]) -> Result<usize, Refusal> {
+    let length = match form {
+        Form::Text => proved::report_text(stream, out),
+        Form::Binary => proved::report_binary(stream, out),
+    };
+    Ok(length?)
+}
+
+/// What the library says of a stream: its top-level items in order, the
+/// refusals among them, and the remainder that could not be framed.
+#[derive(Clone, Debug, PartialEq, Eq)]
+pub struct Report<'a> {
+    bytes: Cow<'a, [u8]>,
+}
+
+/// The three sections' rows.
+struct Sections<'r> {
+    items: &'r [u8],
+    refusals: &'r [u8],
+    remainder: &'r [u8],
+}
+
+impl<'a> Report<'a> {
+    fn over(bytes: Cow<'a, [u8]>) -> Report<'a> {
+        Report { bytes }
+    }
+
+    /// Room that is enough for every stream of this length: 17 + 18 x its
+    /// units.
+    pub fn room(form: Form, length: usize) -> usize {
+        let units = form.units(length.min(form.limit()));
+        units.saturating_mul(18).saturating_add(17)
+    }
+
+    /// The report's bytes, as the paper on scope sets them out.
+    pub fn as_bytes(&self) -> &[u8] {
+        &self.bytes
+    }
+
+    /// The top-level items in stream order.
+    pub fn items(&self) -> Items<'_> {
+        Items(self.sections().items.chunks_exact(ROW).enumerate())
+    }
+
+    /// The item with this index, from 0.
+    pub fn item(&self, index: usize) -> Option<Item> {
+        let row = self.sections().items.chunks_exact(ROW).nth(index)?;
+        item_of(index, row)
+    }
+
+    /// One row for each refused item, in stream order.
+    pub fn refusals(&self) -> Refusals<'_> {
+        Refusals(self.sections().refusals.chunks_exact(ROW))
+    }
+
+    /// What could not be framed, if anything.
+    pub fn remainder(&self) -> Option<Remainder> {
+        let &[a, b, c, d, number] = self.sections().remainder else {
+            return None;
+        };
+        Some(Remainder {
+            offset: quad([a, b, c, d]),
+            number: Number::answered(number),
+        })
+    }
+
+    /// The number of accepted items.
+    pub fn accepted(&self) -> usize {
+        self.items().filter(|item| item.is_accepted()).count()
+    }
+
+    /// The number of refused items.
+    pub fn refused(&self) -> usize {
+        self.items().filter(|item| !item.is_accepted()).count()
+    }
+
+    /// Does every byte of the stream of this length lie in an accepted item?
+    ///
+    /// It asks for the evidence and not for the absence of refusals: the sizes
+    /// of the accepted items must make up the length. The empty stream has no
+    /// byte outside an accepted item; whoever certifies asks for one at least.
+    pub fn accepts_all(&self, length: usize) -> bool {
+        let accepted = self.items().filter(Item::is_accepted);
+        let sum = accepted.fold(0, |sum: usize, item| sum.saturating_add(item.size));
+        sum == length && self.refusals().next().is_none() && self.remainder().is_none()
+    }
+
+    /// Each section stands behind its count in 4 bytes. Where bytes are
+    /// missing a section is empty, and `accepts_all` then misses its items.
+    fn sections(&self) -> Sections<'_> {
+        let (items, rest) = section(&self.bytes, ROW);
+        let (refusals, rest) = section(rest, ROW);
+        let (remainder, _) = section(rest, REMAINDER);
+        Sections {
+            items,
+            refusals,
+            remainder,
+        }
+    }
+}
+
+fn section(bytes: &[u8], row: usize) -> (&[u8], &[u8]) {
+    let Some((count, rest)) = bytes.split_first_chunk::<4>() else {
+        return (&[], &[]);
+    };
+    let length = quad(*count).saturating_mul(row);
+    rest.split_at_checked(length).unwrap_or_default()
+}
+
+fn quad(bytes: [u8; 4]) -> usize {
+    usize::try_from(u32::from_be_bytes(bytes)).unwrap_or(usize::MAX)
+}
+
+/// A top-level item of a report.
+#[derive(Clone, Copy, Debug, PartialEq, Eq)]
+pub struct Item {
+    /// Its index among the items, from 0.
+    pub index: usize,
+    /// Where it starts.
+    pub offset: usize,
+    /// Its full size.
+    pub size: usize,
+    /// What the library says of it.
+    pub verdict: Verdict,
+}
+
+impl Item {
+    /// Is the verdict accepted?
+    pub fn is_accepted(&self) -> bool {
+        self.verdict == Verdict::Accepted
+    }
+
+    /// The item's own part of its stream; empty for another stream.
+    pub fn of<'s>(&self, stream: &'s [u8]) -> &'s [u8] {
+        let end = self.offset.saturating_add(self.size);
+        stream.get(self.offset..end).unwrap_or_default()
+    }
+}
+
+/// What the library says of an item.
+#[derive(Clone, Copy, Debug, PartialEq, Eq)]
+pub enum Verdict {
+    /// Accepted.
+    Accepted,
+    /// Refused with this number; the place stands in the item's refusal row.
+    Refused(Number),
+}
+
+impl Verdict {
+    /// The number of a refusal.
+    pub fn number(self) -> Option<Number> {
+        match self {
+            Verdict::Accepted => None,
+            Verdict::Refused(number) => Some(number),
+        }
+    }
+}
+
+/// The refusal of an item.
+#[derive(Clone, Copy, Debug, PartialEq, Eq)]
+pub struct RefusalRow {
+    /// The item's index among the items, from 0.
+    pub index: usize,
+    /// Why and where, the place counted from the stream's start.
+    pub refusal: Refusal,
+}
+
+/// The part of a stream that could not be framed. It runs to the stream's end
+/// and counts neither as accepted nor as refused.
+#[derive(Clone, Copy, Debug, PartialEq, Eq)]
+pub struct Remainder {
+    /// Where it starts.
+    pub offset: usize,
+    /// Why nothing could be framed there: 4, 5, 6 or 7.
+    pub number: Number,
+}
+
+impl Remainder {
+    /// The refusal with its place, which for 5 is the character and stands in
+    /// no report: the walk is asked from the remainder's start on. With
+    /// another stream than the report's the place is that start.
+    ///
+    /// ```
+    /// use cesr::{judge, Form};
+    /// let report = judge(Form::Text, b"MAABMA!!")?;
+    /// let rest = report.remainder().expect("a remainder");
+    /// assert_eq!((rest.offset, rest.number.get()), (4, 5));
+    /// assert_eq!(rest.refusal(Form::Text, b"MAABMA!!").place, 6);
+    /// # Ok::<(), cesr::Refusal>(())
+    /// ```
+    pub fn refusal(&self, form: Form, stream: &[u8]) -> Refusal {
+        let state = State::at(form.units(self.offset));
+        match Walk::resumed(form, stream, state).next() {
+            Some(Err(found)) if found.number == self.number => found,
+            _ => Refusal {
+                number: self.number,
+                place: self.offset,
+            },
+        }
+    }
+}
+
+/// The items of a report in stream order.
+#[derive(Clone, Debug)]
+pub struct Items<'r>(Enumerate<ChunksExact<'r, u8>>);
+
+impl Iterator for Items<'_> {
+    type Item = Item;
+
+    fn next(&mut self) -> Option<Item> {
+        let (index, row) = self.0.next()?;
+        item_of(index, row)
+    }
+
+    fn size_hint(&self) -> (usize, Option<usize>) {
+        self.0.size_hint()
+    }
+}
+
+impl ExactSizeIterator for Items<'_> {}
+impl FusedIterator for Items<'_> {}
+
+fn item_of(index: usize, row: &[u8]) -> Option<Item> {
+    let &[a, b, c, d, e, f, g, h, verdict] = row else {
+        return None;
+    };
+    Some(Item {
+        index,
+        offset: quad([a, b, c, d]),
+        size: quad([e, f, g, h]),
+        verdict: match verdict {
+            0 => Verdict::Accepted,
+            number => Verdict::Refused(Number::answered(number)),
+        },
+    })
+}
+
+/// The refusals of a report in stream order.
+#[derive(Clone, Debug)]
+pub struct Refusals<'r>(ChunksExact<'r, u8>);
+
+impl Iterator for Refusals<'_> {
+    type Item = RefusalRow;
+
+    fn next(&mut self) -> Option<RefusalRow> {
+        let &[a, b, c, d, number, e, f, g, h] = self.0.next()? else {
+            return None;
+        };
+        Some(RefusalRow {
+            index: quad([a, b, c, d]),
+            refusal: Refusal {
+                number: Number::answered(number),
+                place: quad([e, f, g, h]),
+            },
+        })
+    }
+
+    fn size_hint(&self) -> (usize, Option<usize>) {
+        self.0.size_hint()
+    }
+}
+
+impl ExactSizeIterator for Refusals<'_> {}
+impl FusedIterator for Refusals<'_> {}

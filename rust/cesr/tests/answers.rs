@@ -1,0 +1,290 @@
+//! The crate's answers on generated, damaged and made-up streams: nothing
+//! panics, the rows are the report's bytes, and the parts of an answer agree.
+//! That the library's answers are right is for the differential test.
+
+use cesr::{
+    item_at, judge, judge_into, read, read_text_into, to_binary, to_binary_into, to_text,
+    to_text_into, write, write_into, Form, Number, Report, State, Verdict, Walk,
+};
+use streams::generate::any_deck;
+use streams::item::stream;
+use streams::noise::noise;
+use streams::{damage, Random};
+
+const CASES: u64 = 4_000;
+
+fn made(seed: u64, form: Form) -> Vec<u8> {
+    let form = match form {
+        Form::Text => streams::Form::Text,
+        Form::Binary => streams::Form::Binary,
+    };
+    let mut random = Random::new(seed);
+    if seed % 4 == 3 {
+        return noise(&mut random, form, 300);
+    }
+    let mut made = form.of_text(&stream(&any_deck(&mut random, 8)));
+    if !seed.is_multiple_of(4) {
+        damage(&mut random, form, &mut made);
+    }
+    made
+}
+
+fn each_case(check: impl Fn(u64, Form, &[u8])) {
+    for seed in 0..CASES {
+        for form in [Form::Text, Form::Binary] {
+            check(seed, form, &made(seed, form));
+        }
+    }
+}
+
+/// The rows put back into bytes, as 01 sets the report out.
+fn bytes_of(report: &Report) -> Vec<u8> {
+    let quad = |number: usize| u32::try_from(number).unwrap().to_be_bytes();
+    let mut bytes = quad(report.items().count()).to_vec();
+    for item in report.items() {
+        bytes.extend(quad(item.offset));
+        bytes.extend(quad(item.size));
+        bytes.push(item.verdict.number().map_or(0, Number::get));
+    }
+    bytes.extend(quad(report.refusals().count()));
+    for row in report.refusals() {
+        bytes.extend(quad(row.index));
+        bytes.push(row.refusal.number.get());
+        bytes.extend(quad(row.refusal.place));
+    }
+    bytes.extend(quad(usize::from(report.remainder().is_some())));
+    if let Some(remainder) = report.remainder() {
+        bytes.extend(quad(remainder.offset));
+        bytes.push(remainder.number.get());
+    }
+    bytes
+}
+
+#[test]
+fn rows_are_the_bytes_of_the_report() {
+    each_case(|_, form, stream| {
+        let report = judge(form, stream).unwrap();
+        assert_eq!(bytes_of(&report), report.as_bytes());
+        assert_eq!(report.accepted() + report.refused(), report.items().count());
+        assert_eq!(report.refused(), report.refusals().len());
+        assert_eq!(report.items().len(), report.items().count());
+        for row in report.refusals() {
+            let item = report.item(row.index).unwrap();
+            assert_eq!(item.verdict, Verdict::Refused(row.refusal.number));
+        }
+        assert!(report
+            .items()
+            .eq((0..).map_while(|index| report.item(index))));
+    });
+}
+
+/// Items, then the remainder, make up the stream; all of it is accepted only
+/// without refusals and remainder.
+#[test]
+fn every_byte_lies_in_an_item_or_the_remainder() {
+    each_case(|_, form, stream| {
+        let report = judge(form, stream).unwrap();
+        let mut end = 0;
+        for item in report.items() {
+            assert_eq!(item.offset, end);
+            assert_eq!(item.of(stream).len(), item.size);
+            end += item.size;
+        }
+        let start = report.remainder().map_or(stream.len(), |rest| rest.offset);
+        assert_eq!(start, end);
+        if let Some(rest) = report.remainder() {
+            let refusal = rest.refusal(form, stream);
+            let told = match refusal.number {
+                Number::CHARACTER => rest.offset..rest.offset + 8,
+                _ => rest.offset..rest.offset + 1,
+            };
+            assert!(told.contains(&refusal.place));
+            if refusal.number == Number::CHARACTER {
+                assert!(!stream[refusal.place].is_ascii_alphanumeric());
+            }
+        }
+        let clean = report.refused() == 0 && report.remainder().is_none();
+        assert_eq!(report.accepts_all(stream.len()), clean);
+        assert!(!report.accepts_all(stream.len() + 1));
+    });
+}
+
+#[test]
+fn a_lent_buffer_gets_the_same_report() {
+    each_case(|_, form, stream| {
+        let report = judge(form, stream).unwrap();
+        let room = 17 + 18 * report.items().count();
+        let mut out = vec![0xAA; room];
+        assert_eq!(judge_into(form, stream, &mut out), Ok(report));
+        let refusal = judge_into(form, stream, &mut out[..room - 1]).unwrap_err();
+        assert_eq!((refusal.number, refusal.place), (Number::ROOM, 0));
+    });
+}
+
+/// What is read can be written back as it stood, and a walk yields the heads
+/// and sizes that reads find.
+#[test]
+fn walks_reads_and_writes_agree() {
+    each_case(|_, form, stream| {
+        for step in Walk::new(form, stream).map_while(Result::ok) {
+            let found = item_at(form, stream, step.offset).unwrap();
+            assert_eq!((found.head, found.size), (step.head, step.size));
+            let Ok(primitive) = read(form, stream, step.offset) else {
+                assert!(step.head.code.is_group() || step.head.name() == Some("Genus/version"));
+                continue;
+            };
+            assert_eq!((primitive.head, primitive.size), (step.head, step.size));
+            let tag = primitive.tag.as_bytes();
+            let written = write(form, step.head.code, tag, &primitive.raw).unwrap();
+            assert_eq!(written, &stream[step.offset..step.offset + step.size]);
+        }
+    });
+}
+
+#[test]
+fn conversion_goes_both_ways() {
+    each_case(|_, form, stream| match form {
+        Form::Text => {
+            if let Ok(binary) = to_binary(stream) {
+                assert_eq!(to_text(&binary).unwrap(), stream);
+            }
+        }
+        Form::Binary => {
+            if let Ok(text) = to_text(stream) {
+                assert_eq!(to_binary(&text).unwrap(), stream);
+            }
+        }
+    });
+}
+
+/// Any offset, any state and any code: an answer and never a panic.
+#[test]
+fn nothing_panics_on_any_number() {
+    each_case(|seed, form, stream| {
+        let mut random = Random::new(seed);
+        for at in [
+            0,
+            1,
+            stream.len(),
+            stream.len() + 1,
+            usize::MAX - 1,
+            usize::MAX,
+        ] {
+            let _ = read(form, stream, at);
+            let _ = item_at(form, stream, at);
+        }
+        let mut numbers = [0; 19];
+        for number in &mut numbers {
+            *number = *random.pick(&[0, 1, 2, 16, 17, stream.len(), usize::MAX]);
+        }
+        let steps = Walk::resumed(form, stream, State::new(numbers)).take(100);
+        assert!(steps.count() <= 100);
+        let code = cesr::Code::fixed(random.byte(), random.byte());
+        let _ = write(form, code, &random.bytes(20), stream);
+    });
+}
+
+/// A walk yields its refusal once and then nothing.
+#[test]
+fn a_walk_ends_with_its_refusal() {
+    let mut walk = Walk::new(Form::Text, b"MAABMQAAMAAB");
+    assert!(walk.next().unwrap().is_ok());
+    let state = walk.state();
+    let refusal = walk.next().unwrap().unwrap_err();
+    assert_eq!((refusal.number, refusal.place), (Number::NOT_ZERO, 4));
+    assert_eq!(walk.state(), state);
+    assert_eq!((walk.next(), walk.next()), (None, None));
+}
+
+/// The limit is the library's: one more and each call is refused 1.
+#[test]
+fn the_limit_is_where_the_library_has_it() {
+    for (form, unit) in [(Form::Text, &b"1AAK"[..]), (Form::Binary, b"\xD4\x00\x0A")] {
+        let mut stream = unit.repeat(form.limit() / unit.len());
+        assert_eq!(stream.len(), form.limit());
+        let report = judge(form, &stream).unwrap();
+        assert_eq!(report.accepted(), 1_048_576);
+        assert!(report.accepts_all(stream.len()));
+        stream.push(unit[0]);
+        let number = |answer: Result<(), cesr::Refusal>| answer.map_err(|refusal| refusal.number);
+        let too_long = Err(Number::TOO_LONG);
+        assert_eq!(number(judge(form, &stream).map(|_| ())), too_long);
+        assert_eq!(number(read(form, &stream, 0).map(|_| ())), too_long);
+        assert_eq!(number(item_at(form, &stream, 0).map(|_| ())), too_long);
+        let converted = match form {
+            Form::Text => to_binary(&stream),
+            Form::Binary => to_text(&stream),
+        };
+        assert_eq!(number(converted.map(|_| ())), too_long);
+    }
+}
+
+/// Lent room: enough is enough, and one less is 3 and leaves all as it was.
+#[test]
+fn lent_buffers() {
+    let mut out = [0xAA; 9];
+    let item = read_text_into(b"5BABAGhp", 0, &mut out[..2]).unwrap();
+    assert_eq!(&*item.raw, b"hi");
+    assert_eq!(out[2..], [0xAA; 7]);
+    let mut out = [0xAA; 9];
+    let refusal = read_text_into(b"5BABAGhp", 0, &mut out[..1]).unwrap_err();
+    assert_eq!((refusal.number, out), (Number::ROOM, [0xAA; 9]));
+
+    let code = cesr::Code::small(b'B');
+    let refusal = write_into(Form::Text, code, b"", b"hi", &mut out[..7]).unwrap_err();
+    assert_eq!((refusal.number, out), (Number::ROOM, [0xAA; 9]));
+    assert_eq!(write_into(Form::Text, code, b"", b"hi", &mut out), Ok(8));
+    assert_eq!(&out, b"5BABAGhp\xAA");
+
+    let mut out = [0xAA; 4];
+    let refusal = to_binary_into(b"1AAM", &mut out[..2]).unwrap_err();
+    assert_eq!((refusal.number, out), (Number::ROOM, [0xAA; 4]));
+    assert_eq!(to_binary_into(b"1AAM", &mut out), Ok(3));
+    assert_eq!(out, [0xD4, 0x00, 0x0C, 0xAA]);
+    let mut out = [0xAA; 4];
+    assert_eq!(to_text_into(b"\xD4\x00\x0C", &mut out), Ok(4));
+    assert_eq!(&out, b"1AAM");
+}
+
+/// A writer's refusals: an unknown code, a tag's length and a tag character.
+#[test]
+fn what_a_writer_refuses() {
+    let tag = cesr::Code::fixed(1, b'X');
+    for (code, tags, raw, number, place) in [
+        (
+            cesr::Code::GenusVersion,
+            &b""[..],
+            &b""[..],
+            Number::UNKNOWN_CODE,
+            0,
+        ),
+        (
+            cesr::Code::SmallGroup { letter: b'A' },
+            b"",
+            b"",
+            Number::UNKNOWN_CODE,
+            0,
+        ),
+        (tag, b"ab", b"", Number::UNFIT_LENGTH, 0),
+        (tag, b"abcdefghijklm", b"", Number::UNFIT_LENGTH, 0),
+        (tag, b"abc", b"1", Number::UNFIT_LENGTH, 0),
+        (tag, b"a+c", b"", Number::CHARACTER, 1),
+    ] {
+        let refusal = write(Form::Binary, code, tags, raw).unwrap_err();
+        assert_eq!((refusal.number, refusal.place), (number, place), "{code:?}");
+    }
+}
+
+/// Values of the largest size come through `read` and `write` whole.
+#[test]
+fn the_longest_values_are_read_and_written() {
+    for length in [12_285, 12_286, 3_145_722] {
+        let raw = Random::new(7).bytes(length);
+        for form in [Form::Text, Form::Binary] {
+            let item = write(form, cesr::Code::large(b'B'), b"", &raw).unwrap();
+            assert_eq!(&*read(form, &item, 0).unwrap().raw, &raw[..]);
+        }
+    }
+    let refusal = write(Form::Text, cesr::Code::small(b'B'), b"", &[0; 12_286]).unwrap_err();
+    assert_eq!(refusal.number, Number::UNFIT_LENGTH);
+}

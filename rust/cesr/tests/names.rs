@@ -1,0 +1,109 @@
+//! The names are data for display; the library says which codes there are.
+//! Each code that it knows has a name, and no other has. The names themselves
+//! are compared with the second program's, typed in from 003 on its own.
+
+use cesr::{write, Code, Form, Head, Number, Walk};
+
+/// The library refuses an unknown code with 6 before it looks at anything
+/// else.
+fn is_written(code: Code) -> bool {
+    write(Form::Text, code, b"", b"").map_err(|refusal| refusal.number) != Err(Number::UNKNOWN_CODE)
+}
+
+/// An empty group of this letter is an item or it is refused.
+fn is_walked(header: &[u8]) -> bool {
+    matches!(Walk::new(Form::Text, header).next(), Some(Ok(_)))
+}
+
+#[test]
+fn a_primitive_has_a_name_exactly_if_the_library_writes_it() {
+    let mut known = 0;
+    for letter in 0..=255 {
+        for code in [
+            Code::fixed(0, letter),
+            Code::fixed(1, letter),
+            Code::fixed(2, letter),
+            Code::fixed(3, letter),
+            Code::fixed(4, letter),
+            Code::small(letter),
+            Code::large(letter),
+        ] {
+            assert_eq!(code.name().is_some(), is_written(code), "{code:?}");
+            known += usize::from(code.name().is_some());
+        }
+    }
+    assert_eq!(known, 58 + 7 + 7);
+}
+
+#[test]
+fn a_group_has_a_name_exactly_if_the_library_walks_it() {
+    let mut known = 0;
+    for letter in 0..=255 {
+        let small = [b'-', letter, b'A', b'A'];
+        let large = [b'-', b'-', letter, b'A', b'A', b'A', b'A', b'A'];
+        // `--` and `-_` open other codes.
+        if letter != b'-' && letter != b'_' {
+            let code = Code::SmallGroup { letter };
+            assert_eq!(code.name().is_some(), is_walked(&small), "{code:?}");
+        }
+        let code = Code::LargeGroup { letter };
+        assert_eq!(code.name().is_some(), is_walked(&large), "{code:?}");
+        known += usize::from(code.name().is_some());
+    }
+    assert_eq!(known, 29);
+    assert!(is_walked(b"-_AAACAA") && Code::GenusVersion.name().is_some());
+}
+
+#[test]
+fn names_are_those_that_the_second_program_has() {
+    use oracle::registry::{FIXED, GENUS_NAME, GROUPS, VARIABLE};
+    for row in FIXED {
+        let code: Code = row.code.parse().expect("a fixed code");
+        assert_eq!(code.name(), Some(row.name));
+    }
+    for (letter, name) in VARIABLE {
+        assert_eq!(Code::small(letter).name(), Some(name));
+        assert_eq!(Code::large(letter).name(), Some(name));
+    }
+    for (letter, name) in GROUPS {
+        assert_eq!(Code::SmallGroup { letter }.name(), Some(name));
+        assert_eq!(Code::LargeGroup { letter }.name(), Some(name));
+    }
+    assert_eq!(Code::GenusVersion.name(), Some(GENUS_NAME));
+}
+
+/// Every first unit over a part of the alphabet: a head is found exactly where
+/// the library doesn't say 6, and it is the one that the library yields.
+#[test]
+fn heads_are_found_exactly_where_the_library_knows_the_code() {
+    let characters = b"ABGHJKLPSZabcz0123456789-_";
+    for first in characters {
+        for second in characters {
+            for third in characters {
+                for fourth in characters {
+                    one_head([*first, *second, *third, *fourth]);
+                }
+            }
+        }
+    }
+}
+
+fn one_head(unit: [u8; 4]) {
+    let mut item = unit.to_vec();
+    item.resize(160, b'A');
+    let head = Head::of(Form::Text, &item);
+    let step = Walk::new(Form::Text, &item).next().expect("not the end");
+    let shown = String::from_utf8_lossy(&unit).into_owned();
+    match step {
+        Ok(step) => assert_eq!(head, Some(step.head), "{shown}"),
+        Err(refusal) => {
+            let unknown = refusal.number == Number::UNKNOWN_CODE && refusal.place == 0;
+            assert_eq!(head.is_none(), unknown, "{shown}");
+        }
+    }
+    if let Some(head) = head {
+        assert!(item.starts_with(head.to_string().as_bytes()), "{shown}");
+        let binary = cesr::to_binary(&unit).expect("a unit of the alphabet");
+        assert_eq!(Head::of(Form::Binary, &binary), Some(head));
+    }
+}

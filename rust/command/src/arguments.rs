@@ -1,0 +1,200 @@
+//! The command's arguments.
+
+use crate::help;
+use crate::input::Source;
+use cesr::Form;
+use std::ffi::OsString;
+use std::path::PathBuf;
+
+/// What is asked for.
+#[derive(Debug)]
+pub enum Task {
+    Judge(Judge),
+    Convert(Convert),
+    Show(Show),
+    /// A text of the command's own.
+    Say(String),
+}
+
+#[derive(Debug)]
+pub struct Judge {
+    pub form: Option<Form>,
+    pub style: Style,
+    pub sources: Vec<Source>,
+}
+
+#[derive(Clone, Copy, Debug, PartialEq, Eq)]
+pub enum Style {
+    Plain,
+    All,
+    Json { all: bool },
+    Report,
+}
+
+#[derive(Debug)]
+pub struct Convert {
+    pub to: Option<Form>,
+    pub out: Option<PathBuf>,
+    pub source: Source,
+}
+
+#[derive(Debug)]
+pub struct Show {
+    pub form: Option<Form>,
+    pub at: usize,
+    pub source: Source,
+}
+
+/// All that a call can give.
+#[derive(Default)]
+struct Given {
+    form: Option<Form>,
+    to: Option<Form>,
+    out: Option<PathBuf>,
+    all: bool,
+    json: bool,
+    report: bool,
+    help: bool,
+    names: Vec<OsString>,
+}
+
+/// The task, or in words what is wrong with the call.
+pub fn parse(mut arguments: impl Iterator<Item = OsString>) -> Result<Task, String> {
+    let Some(command) = arguments.next() else {
+        return Err("which command? judge, convert, show or numbers".to_string());
+    };
+    let allowed: &[&str] = match command.to_str() {
+        Some("judge") => &["--form", "--all", "--json", "--report"],
+        Some("convert") => &["--to", "--out"],
+        Some("show") => &["--form"],
+        Some("numbers") => &[],
+        Some("help" | "--help" | "-h") => return Ok(Task::Say(help::HELP.to_string())),
+        Some("--version" | "-V") => return Ok(Task::Say(help::VERSION.to_string())),
+        _ => return Err(format!("no such command: {}", command.to_string_lossy())),
+    };
+    let given = Given::from(arguments, allowed)?;
+    if given.help {
+        return Ok(Task::Say(help::HELP.to_string()));
+    }
+    match command.to_str() {
+        Some("judge") => judge(given),
+        Some("convert") => convert(given),
+        Some("show") => show(given),
+        _ if given.names.is_empty() => Ok(Task::Say(help::numbers())),
+        _ => Err("numbers takes no FILE".to_string()),
+    }
+}
+
+impl Given {
+    fn from(
+        mut arguments: impl Iterator<Item = OsString>,
+        allowed: &[&str],
+    ) -> Result<Given, String> {
+        let mut given = Given::default();
+        while let Some(argument) = arguments.next() {
+            match argument.to_str() {
+                Some("--") => given.names.extend(arguments.by_ref()),
+                Some("--help" | "-h") => given.help = true,
+                Some(option) if option.starts_with('-') && option != "-" => {
+                    given.option(option, &mut arguments, allowed)?;
+                }
+                _ => given.names.push(argument),
+            }
+        }
+        Ok(given)
+    }
+
+    fn option(
+        &mut self,
+        option: &str,
+        arguments: &mut dyn Iterator<Item = OsString>,
+        allowed: &[&str],
+    ) -> Result<(), String> {
+        let (name, mut value) = match option.split_once('=') {
+            Some((name, value)) => (name, Some(OsString::from(value))),
+            None => (option, None),
+        };
+        if !allowed.contains(&name) {
+            return Err(format!("no such option here: {option}"));
+        }
+        let mut valued = || {
+            let value = value.take().or_else(|| arguments.next());
+            value.ok_or_else(|| format!("{name} asks for a value"))
+        };
+        match name {
+            "--form" => self.form = Some(form(valued()?)?),
+            "--to" => self.to = Some(form(valued()?)?),
+            "--out" => self.out = Some(PathBuf::from(valued()?)),
+            "--all" => self.all = true,
+            "--json" => self.json = true,
+            _ => self.report = true,
+        }
+        match value {
+            Some(_) => Err(format!("{name} takes no value")),
+            None => Ok(()),
+        }
+    }
+}
+
+fn form(name: OsString) -> Result<Form, String> {
+    let name = name.to_string_lossy();
+    name.parse().map_err(|wrong| format!("{wrong}, not {name}"))
+}
+
+fn judge(given: Given) -> Result<Task, String> {
+    let style = match (given.all, given.json, given.report) {
+        (false, false, false) => Style::Plain,
+        (true, false, false) => Style::All,
+        (all, true, false) => Style::Json { all },
+        (false, false, true) => Style::Report,
+        _ => return Err("--report goes with neither --json nor --all".to_string()),
+    };
+    let names = given.names;
+    if style == Style::Report && names.len() > 1 {
+        return Err("--report is of one stream".to_string());
+    }
+    let sources = match names.is_empty() {
+        true => vec![Source::Standard],
+        false => names.into_iter().map(source).collect(),
+    };
+    Ok(Task::Judge(Judge {
+        form: given.form,
+        style,
+        sources,
+    }))
+}
+
+fn convert(given: Given) -> Result<Task, String> {
+    Ok(Task::Convert(Convert {
+        to: given.to,
+        out: given.out,
+        source: at_most_one(given.names)?,
+    }))
+}
+
+fn show(given: Given) -> Result<Task, String> {
+    let mut names = given.names.into_iter();
+    let at = names.next().ok_or("show asks for an OFFSET")?;
+    let at = at.to_string_lossy();
+    Ok(Task::Show(Show {
+        form: given.form,
+        at: at.parse().map_err(|_| format!("no offset: {at}"))?,
+        source: at_most_one(names.collect())?,
+    }))
+}
+
+fn at_most_one(names: Vec<OsString>) -> Result<Source, String> {
+    let mut names = names.into_iter();
+    match (names.next(), names.next()) {
+        (None, _) => Ok(Source::Standard),
+        (Some(name), None) => Ok(source(name)),
+        (Some(_), Some(more)) => Err(format!("one FILE only: {}", more.to_string_lossy())),
+    }
+}
+
+fn source(name: OsString) -> Source {
+    match name == "-" {
+        true => Source::Standard,
+        false => Source::File(PathBuf::from(name)),
+    }
+}

@@ -1,0 +1,128 @@
+//! A stream's outcome for machines: one object on one line.
+
+use crate::input::Input;
+use crate::outcome::{code_and_name, Found, Outcome};
+use cesr::{Item, Number, RefusalRow, Remainder, Report};
+use std::io::{self, Write};
+
+/// One line, written at once: lines of calls that share a file stay whole.
+pub fn line(out: &mut dyn Write, outcome: &Outcome, all: bool) -> io::Result<()> {
+    let mut line = Vec::new();
+    object(&mut line, outcome, all)?;
+    out.write_all(&line)
+}
+
+/// Every stream has `stream` and `outcome`; what was judged has its sums,
+/// refusals and remainder, and with `all` its `rows`.
+fn object(out: &mut dyn Write, outcome: &Outcome, all: bool) -> io::Result<()> {
+    let name = quoted(&outcome.name);
+    let word = quoted(outcome.standing().word());
+    write!(out, "{{\"stream\":{name},\"outcome\":{word}")?;
+    match &outcome.found {
+        Found::Judged(input, report) => judged(out, input, report, all)?,
+        Found::Refused(input, refusal) => {
+            form(out, input)?;
+            let why = why(refusal.number);
+            write!(out, ",\"refusal\":{{{why},\"place\":{}}}", refusal.place)?;
+        }
+        Found::Unread(why) => write!(out, ",\"error\":{}", quoted(why))?,
+    }
+    writeln!(out, "}}")
+}
+
+fn form(out: &mut dyn Write, input: &Input) -> io::Result<()> {
+    write!(out, ",\"form\":\"{}\",\"told\":{}", input.form, input.told)
+}
+
+fn judged(out: &mut dyn Write, input: &Input, report: &Report, all: bool) -> io::Result<()> {
+    form(out, input)?;
+    write!(out, ",\"length\":{}", input.bytes.len())?;
+    write!(out, ",\"items\":{}", report.items().len())?;
+    write!(out, ",\"accepted\":{}", report.accepted())?;
+    write!(out, ",\"refused\":{}", report.refused())?;
+    listed(out, "refusals", report.refusals(), |out, row| {
+        refusal(out, input, report, &row)
+    })?;
+    match report.remainder() {
+        Some(rest) => remainder(out, input, rest)?,
+        None => write!(out, ",\"remainder\":null")?,
+    }
+    if all {
+        listed(out, "rows", report.items(), |out, item| {
+            row(out, input, &item)
+        })?;
+    }
+    Ok(())
+}
+
+fn listed<T>(
+    out: &mut dyn Write,
+    key: &str,
+    rows: impl Iterator<Item = T>,
+    each: impl Fn(&mut dyn Write, T) -> io::Result<()>,
+) -> io::Result<()> {
+    write!(out, ",\"{key}\":[")?;
+    for (index, row) in rows.enumerate() {
+        if index > 0 {
+            write!(out, ",")?;
+        }
+        each(out, row)?;
+    }
+    write!(out, "]")
+}
+
+/// An item's place in the stream and its code.
+fn item(out: &mut dyn Write, input: &Input, item: &Item) -> io::Result<()> {
+    let (code, name) = code_and_name(input.form, item.of(&input.bytes));
+    let Item { offset, size, .. } = item;
+    write!(out, ",\"offset\":{offset},\"size\":{size}")?;
+    write!(out, ",\"code\":{},\"name\":{}", quoted(&code), quoted(name))
+}
+
+fn refusal(
+    out: &mut dyn Write,
+    input: &Input,
+    report: &Report,
+    row: &RefusalRow,
+) -> io::Result<()> {
+    write!(out, "{{\"item\":{}", row.index)?;
+    if let Some(refused) = report.item(row.index) {
+        item(out, input, &refused)?;
+    }
+    let why = why(row.refusal.number);
+    write!(out, ",{why},\"place\":{}}}", row.refusal.place)
+}
+
+fn remainder(out: &mut dyn Write, input: &Input, rest: Remainder) -> io::Result<()> {
+    let place = rest.refusal(input.form, &input.bytes).place;
+    let length = input.bytes.len().saturating_sub(rest.offset);
+    let why = why(rest.number);
+    write!(out, ",\"remainder\":{{\"offset\":{}", rest.offset)?;
+    write!(out, ",\"length\":{length},{why},\"place\":{place}}}")
+}
+
+/// A row of the report: 0 for accepted, else the number.
+fn row(out: &mut dyn Write, input: &Input, row: &Item) -> io::Result<()> {
+    write!(out, "{{\"item\":{}", row.index)?;
+    item(out, input, row)?;
+    let verdict = row.verdict.number().map_or(0, Number::get);
+    write!(out, ",\"verdict\":{verdict}}}")
+}
+
+fn why(number: Number) -> String {
+    format!("\"number\":{number},\"meaning\":{}", quoted(number.words()))
+}
+
+/// A string of JSON, with nothing in it that a terminal would act on.
+fn quoted(text: &str) -> String {
+    let mut quoted = String::from('"');
+    for c in text.chars() {
+        match c {
+            '"' | '\\' => quoted.extend(['\\', c]),
+            c if c.is_control() => quoted.push_str(&format!("\\u{:04x}", u32::from(c))),
+            c => quoted.push(c),
+        }
+    }
+    quoted.push('"');
+    quoted
+}

@@ -1,0 +1,178 @@
+//! A stream's outcome for people.
+
+use crate::excerpt;
+use crate::input::Input;
+use crate::outcome::{code_and_name, Found, Outcome};
+use crate::standing::Standing;
+use crate::terminal::Paint;
+use crate::words::{counted, measured, on_one_line};
+use cesr::{Form, Item, Number, Refusal, RefusalRow, Remainder, Report, Verdict};
+use std::io::{self, Write};
+use std::ops::Range;
+
+/// The line of a stream among many; the first fault stands in it.
+pub fn line(out: &mut dyn Write, outcome: &Outcome, paint: Paint) -> io::Result<()> {
+    let name = on_one_line(&outcome.name);
+    let text = match (&outcome.found, outcome.complaint()) {
+        (Found::Judged(input, report), None) => {
+            let told = if input.told { " (told)" } else { "" };
+            let first = first_fault(report);
+            format!("{}{told}, {}{first}", input.form, sums(report))
+        }
+        (_, complaint) => complaint.unwrap_or_default(),
+    };
+    writeln!(out, "{}{name}: {text}", word(outcome.standing(), paint))
+}
+
+/// The word that opens a line, with colour, in a column of its own.
+fn word(standing: Standing, paint: Paint) -> String {
+    let padded = format!("{:<8}", standing.word());
+    match standing {
+        Standing::Passed => paint.good(&padded),
+        Standing::Failed | Standing::Error => paint.bad(&padded),
+        Standing::Empty => paint.doubtful(&padded),
+    }
+}
+
+fn sums(report: &Report) -> String {
+    let items = counted(report.items().len(), "item");
+    let (accepted, refused) = (report.accepted(), report.refused());
+    let rest = match report.remainder() {
+        Some(rest) => format!("remainder {} from {}", rest.number, rest.offset),
+        None => "no remainder".to_string(),
+    };
+    format!("{items}, {accepted} accepted, {refused} refused, {rest}")
+}
+
+fn first_fault(report: &Report) -> String {
+    match report.refusals().next() {
+        Some(row) => format!(
+            "; first refused {} at {}",
+            row.refusal.number, row.refusal.place
+        ),
+        None => String::new(),
+    }
+}
+
+/// One stream in full: sums, with `all` every item, then each refused item and
+/// the remainder with the bytes there.
+pub fn block(out: &mut dyn Write, outcome: &Outcome, all: bool, paint: Paint) -> io::Result<()> {
+    let (Found::Judged(input, report), None) = (&outcome.found, outcome.complaint()) else {
+        return line(out, outcome, paint);
+    };
+    let name = on_one_line(&outcome.name);
+    let word = word(outcome.standing(), paint);
+    let length = measured(input.form, input.bytes.len());
+    writeln!(out, "{word}{name}: {}", sums(report))?;
+    writeln!(out, "        {}, {length}", input.form_in_words())?;
+    if all {
+        table(out, input, report, paint)?;
+    }
+    for row in report.refusals() {
+        refused(out, input, report, &row, paint)?;
+    }
+    match report.remainder() {
+        Some(rest) => remainder(out, input, rest, paint),
+        None => Ok(()),
+    }
+}
+
+/// Every item with its code's name.
+fn table(out: &mut dyn Write, input: &Input, report: &Report, paint: Paint) -> io::Result<()> {
+    writeln!(out)?;
+    writeln!(out, "  item   offset     size  verdict     code  name")?;
+    for item in report.items() {
+        let Item {
+            index,
+            offset,
+            size,
+            verdict,
+        } = item;
+        let (code, name) = code_and_name(input.form, item.of(&input.bytes));
+        let verdict = match verdict {
+            Verdict::Accepted => paint.good(&format!("{:<10}", "accepted")),
+            Verdict::Refused(number) => paint.bad(&format!("refused {number:<2}")),
+        };
+        writeln!(
+            out,
+            "{index:>6} {offset:>8} {size:>8}  {verdict}  {code:<4}  {name}"
+        )?;
+    }
+    Ok(())
+}
+
+fn refused(
+    out: &mut dyn Write,
+    input: &Input,
+    report: &Report,
+    row: &RefusalRow,
+    paint: Paint,
+) -> io::Result<()> {
+    let (number, place) = (row.refusal.number, row.refusal.place);
+    let verdict = paint.bad(&format!("refused {number} at {place}"));
+    writeln!(out, "\nitem {}: {verdict}, {}", row.index, number.words())?;
+    let Some(item) = report.item(row.index) else {
+        return Ok(());
+    };
+    let (code, name) = code_and_name(input.form, item.of(&input.bytes));
+    let size = measured(input.form, item.size);
+    writeln!(out, "        {code} {name}, {size} from {}", item.offset)?;
+    let end = item.offset.saturating_add(item.size);
+    bytes_at(out, input, item.offset..end, row.refusal)
+}
+
+fn remainder(out: &mut dyn Write, input: &Input, rest: Remainder, paint: Paint) -> io::Result<()> {
+    let Remainder { offset, number } = rest;
+    let refusal = rest.refusal(input.form, &input.bytes);
+    let left = measured(input.form, input.bytes.len().saturating_sub(offset));
+    let verdict = paint.bad(&format!("remainder {number} from {offset}"));
+    writeln!(out, "\n{verdict}: {}", number.words())?;
+    writeln!(out, "        {left} not judged")?;
+    bytes_at(out, input, offset..refusal.place, refusal)
+}
+
+/// The bytes of an item with a caret, and a note where one helps.
+pub fn bytes_at(
+    out: &mut dyn Write,
+    input: &Input,
+    item: Range<usize>,
+    refusal: Refusal,
+) -> io::Result<()> {
+    let Refusal { number, place } = refusal;
+    let lines = excerpt::at(input.form, &input.bytes, item, place);
+    out.write_all(lines.unwrap_or_default().as_bytes())?;
+    match note(input, number, place) {
+        Some(note) => writeln!(out, "        {note}"),
+        None => Ok(()),
+    }
+}
+
+/// What a person would ask next.
+pub fn note(input: &Input, number: Number, place: usize) -> Option<String> {
+    let byte = *input.bytes.get(place)?;
+    let ends_line = input.bytes.ends_with(b"\n");
+    let last = place.saturating_add(2) >= input.bytes.len();
+    match (number, input.form) {
+        (Number::CHARACTER, _) => {
+            let kind = kind_of(byte);
+            Some(format!(
+                "the byte at {place} is {byte:02X} hexadecimal{kind}"
+            ))
+        }
+        (Number::PAST_END | Number::NOT_WHOLE_UNITS, Form::Text) if ends_line && last => {
+            Some("the stream ends with a line feed, which is no character of it".to_string())
+        }
+        _ => None,
+    }
+}
+
+/// Strangers that are often met.
+fn kind_of(byte: u8) -> &'static str {
+    match byte {
+        b'\n' => ", a line feed",
+        b'\r' => ", a carriage return",
+        b' ' => ", a space",
+        b'+' | b'/' | b'=' => ", of ordinary Base64",
+        _ => "",
+    }
+}

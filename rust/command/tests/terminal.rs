@@ -1,0 +1,95 @@
+//! Colours and progress at a terminal, which python3 plays.
+
+mod common;
+
+use common::python;
+
+/// Runs the command with standard output or error, or both, at a terminal;
+/// what came there, and what came elsewhere. `slow` feeds standard input for
+/// longer than half a second.
+const PLAY: &str = r#"
+import os, pty, subprocess, tempfile, time
+def play(arguments, out, err, slow=False, **settings):
+    main, side = pty.openpty()
+    env = {k: v for k, v in os.environ.items() if k not in ('NO_COLOR', 'TERM')}
+    env.update({'TERM': 'xterm'}, **settings)
+    rest = tempfile.TemporaryFile()
+    child = subprocess.Popen(['cesr'] + arguments, env=env, stdin=subprocess.PIPE,
+        stdout=side if out else rest, stderr=side if err else rest)
+    os.close(side)
+    if slow:
+        for _ in range(8):
+            child.stdin.write(b'MAAB' * 8192)
+            child.stdin.flush()
+            time.sleep(0.1)
+    child.stdin.close()
+    said = b''
+    while True:
+        try: piece = os.read(main, 65536)
+        except OSError: break
+        if not piece: break
+        said += piece
+    child.wait()
+    rest.seek(0)
+    return said, rest.read()
+ESC = b'\x1b['
+"#;
+
+fn holds(script: &str) {
+    assert_eq!(python(&format!("{PLAY}{script}"), b""), "");
+}
+
+#[test]
+fn colours_at_a_terminal_only() {
+    holds(
+        "
+at, _ = play(['judge', 'samples/first.cesr'], True, False)
+assert at.count(ESC) == 4 and b'failed' in at, at
+at, _ = play(['judge', 'samples/first.cesr', 'samples/clean.cesr'], True, False)
+assert b'\\x1b[32mpassed' in at and b'\\x1b[1;31mfailed' in at, at
+_, piped = play(['judge', 'samples/first.cesr'], False, True)
+assert ESC not in piped and b'failed' in piped, piped
+",
+    );
+}
+
+#[test]
+fn never_with_no_color_nor_on_a_dumb_terminal() {
+    holds(
+        "
+for setting in ({'NO_COLOR': '1'}, {'NO_COLOR': ''}, {'TERM': 'dumb'}):
+    for arguments in (['judge'], ['judge', '--all'], ['show', '80']):
+        at, _ = play(arguments + ['samples/first.cesr'], True, True, **setting)
+        assert ESC not in at and b'refused 8' in at, at
+at, _ = play(['judge', '--json', 'samples/first.cesr'], True, True)
+assert ESC not in at, at
+",
+    );
+}
+
+#[test]
+fn progress_of_long_work_at_a_terminal_only() {
+    holds(
+        "
+at, piped = play(['judge'], False, True, slow=True)
+assert b' bytes read' in at and at.endswith(b'\\r\\x1b[K'), at
+assert b'65536 items, 65536 accepted' in piped and ESC not in piped, piped
+at, piped = play(['judge'], True, False, slow=True)
+assert b'bytes read' not in at + piped, piped
+# A busy machine may make short work long, but not every time.
+assert any(play(['judge', 'samples/clean.cesr'], False, True)[0] == b'' for _ in range(5))
+",
+    );
+}
+
+/// Bytes that are no text stay off a terminal.
+#[test]
+fn bytes_are_not_written_to_a_terminal() {
+    holds(
+        "
+for arguments in (['judge', '--report'], ['convert', '--to', 'binary']):
+    at, piped = play(arguments + ['samples/clean.cesr'], True, False)
+    assert at == b'' and b'pipe' in piped, (at, piped)
+",
+    );
+}

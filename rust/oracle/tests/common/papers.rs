@@ -1,0 +1,61 @@
+//! Examples of the papers that more than one test runs.
+
+/// 002: raw value, text and binary of short numbers.
+pub const SHORTS_OF_002: [(&str, &str, &str); 3] = [
+    ("0000", "MAAA", "300000"),
+    ("0001", "MAAB", "300001"),
+    ("FFFF", "MP__", "30FFFF"),
+];
+
+/// 001, "SAD Path Examples", Table 1, and the paths of the signature groups:
+/// the encoding, its code and its raw value.
+pub const SAD_PATHS: [(&str, &str, &str); 11] = [
+    ("6AABAAA-", "6A", "3E"),
+    ("4AADA-a-personal", "4A", "03E6BE A5EAEC A276A5"),
+    ("4AAB-4-5", "4A", "FB8FB9"),
+    ("5AAEAA-4-5-legalName", "5A", "0FB8 FB9FA5 7A06A5 35A99E"),
+    ("6AAEAAA-a-personal-1", "6A", "3E 6BEA5E AECA27 6A5FB5"),
+    ("4AAB-p-1", "4A", "FA9FB5"),
+    ("5AACAA-a-LEI", "5A", "0F9A F8B108"),
+    ("4AAC-p-0-0-d", "4A", "FA9FB4 FB4F9D"),
+    (
+        "5AAGAA-p-0-certifiedLender-i",
+        "5A",
+        "0FA9 FB4F9C 7ABB62 7E279D 2DE9DD 7ABFA2",
+    ),
+    ("6AAEAAA-a-credential", "6A", "3E 6BE72B 79D7A7 B626A5"),
+    ("5AABAA-a", "5A", "0F9A"),
+];
+
+/// 001's digests, keys and signature whose second (third) character is `Q` or
+/// later: post-padded, so a pad bit is set. First the two SAIDs of "Example
+/// Computation" and "Example Python dict", the schema's, then those of the
+/// ACDC figures and the signature groups.
+pub const POST_PADDED_OF_001: [&str; 17] = [
+    "E8wYuBjhslETYaLZcxMkWrhVbMcA8RS1pKYl7nJ77ntA",
+    "EnKa0ALimLL8eQdZGzglJG_SxvncxkmvwFDhIyLFchUk",
+    "EZT9Idj7zLA0Ek6o8oevixdX20607CljNg4zrf_NQINY",
+    "EmkPreYpZfFk66jpf3uFv7vklXKhzBrAqjsKAn2EDIPM",
+    "E46jrVPTzlSkUPqGGeIZ8a8FWS7a6s4reAXRZOkogZ2A",
+    "EgveY4-9XgOcLxUderzwLIr9Bf7V_NHwY1lkFrn9y2PY",
+    "EQzFVaMasUf4cZZBKA0pUbRc9T8yUXRFLyM1JDASYqAA",
+    "Et2DOOu4ivLsjpv89vgv6auPntSLx4CvOhGUxMhxPS24",
+    "EglG9JLG6UhkLrrv012NPuLEc1F3ne5vPH_sHGP_QPN0",
+    "E8YrUcVIqrMtDJHMHDde7LHsrBOpvN38PLKe_JCDzVrA",
+    "E_T2_p83_gRSuAYvGhqV3S0JzYEF2dIa-OCPLbIhBO7Y",
+    "EwmQtlcszNoEIDfqD-Zih3N6o5B3humRKvBBln2juTEM",
+    "BmMfUwIOywRkyc5GyQXfgDA4UOAMvjvnXcaK9G939ArM",
+    "E2X8OLaLnM0XRQEYgM5UV3bZmWg3UUn7CP4SoKkvsl-s",
+    "E-0luqYSg6cPcMFmhiAz8VBQObZLmTQPrgsr7Z1j6CA4",
+    "E6lty8H2sA_1acq8zg89_kqF194DbF1cDpwA7UPtwjPQ",
+    "0BT7b5PzUBmts-lblgOBzdThIQjKCbq8gMinhymgr4_dD0JyfN6CjZhsOqqUYFmRhABQ-vPywggLATxBDnqQ3aBg",
+];
+
+/// 001's digests whose second character, `B` or `I`, is below `Q`.
+pub const DIGESTS_OF_001: [&str; 2] = [
+    "EBdXt3gIXOf2BBWNHdSXCJnFJL5OuQPyM5K0neuniccM",
+    "EIl3MORH3dCdoFOLe71iheqcywJcnjtJtQIYPvAu6DZA",
+];
+
+/// 001's sequence number behind its old count.
+pub const NUMBER: &str = "-EAB0AAAAAAAAAAAAAAAAAAAAAAB";
