@@ -1,10 +1,10 @@
--- The next item of a group, framed and judged by its own checks. Assumes nothing.
-use Prim.Native.Nat.{ℕ, _+_, _*_, _/_, _<_, _≤_}
+-- The next item of a group, framed and judged by its own checks, and what it says of the group's verdict. Assumes nothing.
+use Prim.Native.Nat.{ℕ, _+_, _*_, _<_, _≤_}
 use mathlib.Core.Path.{_≡_}
 use mathlib.Core.Bool.{Bool, true, false, not}
 use mathlib.Core.List.{List}
 use lib.Dec.{ltb, eqb}
-use lib.ListN.{length, take}
+use lib.ListN.{take}
 use Rattle.base.specs.Pick.{pick}
 use Rattle.format.specs.declared.CodeRow.{CodeRow}
 use Rattle.format.specs.declared.Kind.{Kind}
@@ -13,9 +13,8 @@ use Rattle.format.specs.declared.Framed.{Framed}
 use Rattle.format.specs.declared.Framed.the-variants.{Item, Unframed}
 use Rattle.format.specs.declared.Verdict.{Verdict}
 use Rattle.format.specs.declared.Verdict.the-variants.{Accepted, Refused}
-use Rattle.format.specs.Units.{Domain}
 use Rattle.format.specs.Registry.{isOpaque, isOverrideable}
-use Rattle.format.specs.Judging.{judgeKind, ownCheck, maxDepth}
+use Rattle.format.specs.Judging.{judgeKind, ownCheck}
 use Rattle.laws.specs.Levels.{frameNext, level}
 use Rattle.judging.specs.Own.{toldBy}
 
@@ -48,11 +47,3 @@ isTail units all levels = pick (eqb units all) (ltb 0 levels) false
 abbrev pub Judged : List ℕ → ℕ → Bool → ℕ → ℕ → Framed → Type 0
 Judged s l first at stop (Unframed m p) = Refused m p ≡ level s l first at stop
 Judged s l first at stop (Item k h n) = (level s l first at stop ≡ level s l false (at + n) stop) × (0 < n) × (at + n ≤ stop)
-
--- the verdict on the items of a stream from one unit to another, with places in sextets of the stream; outside it there are none
-unfoldable pub judgedFrom : Domain → List ℕ → ℕ → ℕ → Verdict
-judgedFrom d xs at stop =
-    pick (ltb (d .limit) (length xs)) Accepted
-    (pick (ltb (length xs / d .unit) stop) Accepted
-    (pick (ltb stop at) Accepted
-    (level (d .sextets xs) maxDepth false at stop)))

@@ -6,7 +6,7 @@ use mathlib.Core.List.{List, [], _∷_, _++_}
 use native.Mathlib.Omega.{arith}
 use native.Mathlib.Nat.{add-mul, add-assoc, mul-comm, mul-add, mul-assoc, suc-mul, mul-le-mul-right, le-div-iff-mul-le}
 use lib.Dec.{ltb}
-use lib.ListN.{length, take, drop, length-append, length-drop, drop-of-length-le}
+use lib.ListN.{length, getD, take, drop, length-append, length-drop, drop-of-length-le}
 use lib.Seq.{sets, sets-eq, slice, drop-drop}
 use borrow.Author.Tests.{lt-ltb, le-ltb}
 use Rattle.base.specs.Pick.{pick}
@@ -18,7 +18,8 @@ use Rattle.format.specs.declared.Verdict.{Verdict}
 use Rattle.format.specs.declared.Verdict.the-variants.{Accepted, Refused}
 use Rattle.format.specs.declared.Reported.{Reported}
 use Rattle.format.specs.declared.Reported.the-variants as R
-use Rattle.format.specs.Units.{Domain, text, binary}
+use Rattle.format.specs.Alphabet.{sextetTable}
+use Rattle.format.specs.Units.{Domain, text, binary, textSextets}
 use Rattle.format.specs.Framing.{frame, frameRuled, scale}
 use Rattle.format.specs.Judging.{shift, andThen, judge, maxDepth}
 use Rattle.format.specs.Report.{ItemRow, RemainderRow, rows, remainder, rowsIn, remainderIn, frameIn, judgeIn, placed, section, remainderBytes, report}
@@ -30,10 +31,10 @@ use Rattle.laws.specs.Levels.{part, take-of-drop, any-item, frame-own, judge-ow
 use Rattle.claims.specs.Claims.{Demand3}
 use Rattle.claims.specs.Room.{report-fits}
 use Rattle.base.specs.Digits.{Below}
-use Rattle.runs.specs.Plain.{plainAt, groupAt, letterAt}
-use Rattle.runs.specs.Levels.{Primitive, plain-drop, group-drop, plain-level, by-items}
+use Rattle.runs.specs.Plain.{plainTable, sizedAt, plainAt, groupAt, letterAt, sextetsBy}
+use Rattle.runs.specs.Tables.{by-table}
+use Rattle.runs.specs.Levels.{Fixed1, plain-drop, sized-drop, group-drop, plain-level, by-items}
 use Rattle.runs.specs.Runs.{Run, Clean, item-known}
-use Rattle.contents.specs.Next.{judgedFrom}
 use Rattle.report.specs.Filling.{rowWith, turn, Filled, filled-room, filled-more, filled-counts, filled-end, rowsOnto, stores-good, count-good, no-rest, one-rest, one-rest-long}
 
 -- ---- top-level framing, in elements
@@ -88,13 +89,10 @@ module _ (d : Domain) (G : Reader d) (xs : List ℕ) (a n : ℕ) (room : a * d .
       level-item s l false a (a + n) k h n (omega (arith, inside, G .units xs)) (omega arith) o
       ∙ rw (level-end s l false (a + n), then-accepts, p, ← (judge-own l x k h n f), ← t)
 
-  pub judged-row : length xs ≤ d .limit → (k : Kind) (h : ℕ) → frameRuled (d .sextets (drop (a * d .unit) xs)) ≡ Item k h n → (v : Verdict)
-      → v ≡ judgedFrom d xs a (a + n) → placed (d .unit) v ≡ shift (a * d .unit) (judgeIn d (take (n * d .unit) (drop (a * d .unit) xs)))
-  unfolding judgedFrom judgeIn
-  judged-row short k h e v q =
-      let w : v ≡ level (d .sextets xs) maxDepth false a (a + n) =
-      q ∙ rw (le-ltb (d .limit) (length xs) short, le-ltb (length xs / d .unit) (a + n) inside, le-ltb (a + n) a (omega arith)) in
-      rw (w, level-of-item maxDepth k h e) (placed-shift (d .unit) a _)
+  pub judged-row : (k : Kind) (h : ℕ) → frameRuled (d .sextets (drop (a * d .unit) xs)) ≡ Item k h n → (v : Verdict)
+      → v ≡ level (d .sextets xs) maxDepth false a (a + n) → placed (d .unit) v ≡ shift (a * d .unit) (judgeIn d (take (n * d .unit) (drop (a * d .unit) xs)))
+  unfolding judgeIn
+  judged-row k h e v q = rw (q, level-of-item maxDepth k h e) (placed-shift (d .unit) a _)
 
 pub placed-text : (v : Verdict) → placed 4 v ≡ v
 unfolding placed
@@ -156,7 +154,7 @@ module _ (d : Domain) (xs out : List ℕ) where
 
 -- ---- a turn of the loop that fills, u elements to the unit
 
-module _ (d : Domain) (G : Reader d) (u : ℕ) (is-u : d .unit ≡ u) (xs o : List ℕ) (n : ℕ) (is-n : n ≡ length (rowsIn d xs)) (short : length xs ≤ d .limit)
+module _ (d : Domain) (G : Reader d) (u : ℕ) (is-u : d .unit ≡ u) (xs o : List ℕ) (n : ℕ) (is-n : n ≡ length (rowsIn d xs))
     (a i k : ℕ) (out : List ℕ) (φ : Filled d xs o n (u * a) i k out) (f : Framed) (e : f ≡ frameRuled (d .sextets (drop (u * a) xs))) where
   module _ (g : Kind) (h m : ℕ) (q : f ≡ Item g h m) where
     framed : frameIn d (drop (u * a) xs) ≡ Item g (h * u) (m * u)
@@ -168,7 +166,7 @@ module _ (d : Domain) (G : Reader d) (u : ℕ) (is-u : d .unit ≡ u) (xs o : Li
     pub turn-size : (0 < h * u) × (h * u ≤ m * u) × (m * u ≤ length xs - u * a)
     turn-size = item-size d G xs (u * a) g (h * u) (m * u) framed
 
-    pub turn-more : u * a ≤ length xs → (v : Verdict) → v ≡ judgedFrom d xs a (a + m) → (w : Verdict) → w ≡ placed u v → (k′ : ℕ) → k′ ≡ k + length (refusal i w)
+    pub turn-more : u * a ≤ length xs → (v : Verdict) → v ≡ level (d .sextets xs) maxDepth false a (a + m) → (w : Verdict) → w ≡ placed u v → (k′ : ℕ) → k′ ≡ k + length (refusal i w)
         → (out′ : List ℕ) → out′ ≡ turn n i k (rowWith (u * a) (u * m) w) out → Filled d xs o n (u * (a + m)) (i + 1) k′ out′
     turn-more l v p w pw k′ b out′ c =
         let x : u * a ≡ a * u = mul-comm u a in
@@ -176,7 +174,7 @@ module _ (d : Domain) (G : Reader d) (u : ℕ) (is-u : d .unit ≡ u) (xs o : Li
         let z : u * (a + m) ≡ u * a + m * u = mul-add u a m ∙ ap (λ (j : ℕ). u * a + j) y in
         let s = turn-size in
         let room : a * d .unit + m * d .unit ≤ length xs = rw is-u (omega arith) in
-        let r = judged-row d G xs a m room short g h (rw (is-u, ← x) (sym e ∙ q)) v p in
+        let r = judged-row d G xs a m room g h (rw (is-u, ← x) (sym e ∙ q)) v p in
         let r′ : w ≡ shift (u * a) (judgeIn d (take (m * u) (drop (u * a) xs))) = pw ∙ rw x (subst (λ (j : ℕ). placed j v ≡ shift (a * j) (judgeIn d (take (m * j) (drop (a * j) xs)))) is-u r) in
         rw (z, b, c, y) (filled-more d xs o n is-n G (u * a) i k out φ framed w r′)
 
@@ -251,14 +249,8 @@ module _ (d : Domain) (G : Reader d) (u : ℕ) (is-u : d .unit ≡ u) (xs : List
   group-item a n l e p h r q =
       rw (top-drop a h, q) (sym (group-drop (d .sextets xs) a n (sym e) p (omega (arith, units-of))))
 
-  module _ (k a r : ℕ) (R : Run (d .sextets xs) k (length xs / u) a r) where
-    -- the j-th item of a run, framed
-    nth : (j : ℕ) → j < r → Primitive (d .sextets (drop (u * (a + j * k)) xs)) k
-    nth j h =
-        let z = R .each j h in
-        rw (top-drop (a + j * k) (in-units (a + j * k) (omega arith)))
-        (plain-drop (d .sextets xs) (a + j * k) k (z .0) (R .some) (omega (arith, units-of)))
-
+  -- r primitives of k units from a unit on, framed
+  module _ (k a r : ℕ) (nth : (j : ℕ) → j < r → Fixed1 (d .sextets (drop (u * (a + j * k)) xs)) k) where
     pub count-run : (i : ℕ) → length (rowsIn d xs) ≡ i + length (rowsAt d (u * a) (drop (u * a) xs))
         → length (rowsIn d xs) ≡ i + r + length (rowsAt d (u * (a + r * k)) (drop (u * (a + r * k)) xs))
     count-run i s =
@@ -268,26 +260,34 @@ module _ (d : Domain) (G : Reader d) (u : ℕ) (is-u : d .unit ≡ u) (xs : List
         let z : u * (a + j * k) + k * d .unit ≡ u * (a + j * k + k) = rw is-u (rw (mul-comm k u) (sym (mul-add u (a + j * k) k))) in
         e ∙ rw (count-more d G xs (u * (a + j * k)) t, z) (omega arith)) (let z : i + 0 ≡ i = omega arith in rw z s)
 
+  pub nth-sized : (k a r : ℕ) → Run (sizedAt plainTable (d .sextets xs)) k (length xs / u) a r → (j : ℕ) → j < r → Fixed1 (d .sextets (drop (u * (a + j * k)) xs)) k
+  nth-sized k a r R j h =
+      let z = R .each j h in
+      rw (top-drop (a + j * k) (in-units (a + j * k) (omega arith)))
+      (sized-drop (d .sextets xs) (a + j * k) k (z .0) (R .some) (omega (arith, units-of)))
+
+  nth-plain : (k a r : ℕ) → Run (plainAt plainTable (d .sextets xs)) k (length xs / u) a r → (j : ℕ) → j < r → Fixed1 (d .sextets (drop (u * (a + j * k)) xs)) k
+  nth-plain k a r R j h =
+      let z = R .each j h in
+      let q = plain-drop (d .sextets xs) (a + j * k) k (z .0) (R .some) (omega (arith, units-of)) in
+      rw (top-drop (a + j * k) (in-units (a + j * k) (omega arith))) (record { row = q .plain .row; framed = q .framed })
+
   -- the rows of a run
-  module _ (o : List ℕ) (n : ℕ) (is-n : n ≡ length (rowsIn d xs)) (short : length xs ≤ d .limit) (a i k : ℕ) (out : List ℕ) (φ : Filled d xs o n (u * a) i k out)
-      (m r : ℕ) (R : Run (d .sextets xs) m (length xs / u) a r) where
+  module _ (o : List ℕ) (n : ℕ) (is-n : n ≡ length (rowsIn d xs)) (a i k : ℕ) (out : List ℕ) (φ : Filled d xs o n (u * a) i k out)
+      (m r : ℕ) (R : Run (plainAt plainTable (d .sextets xs)) m (length xs / u) a r) where
     pub run-room : i + r ≤ n
     run-room =
         let e = ap length (φ .rows-are) ∙ length-append (φ .rs) (rowsAt d (u * a) (drop (u * a) xs)) in
-        let c = count-run m a r R i (e ∙ ap (λ (j : ℕ). j + length (rowsAt d (u * a) (drop (u * a) xs))) (φ .items)) in
+        let c = count-run m a r (nth-plain m a r R) i (e ∙ ap (λ (j : ℕ). j + length (rowsAt d (u * a) (drop (u * a) xs))) (φ .items)) in
         omega arith
 
-    accepted : Below 64 (part (d .sextets xs) a (a + r * m)) → (j : ℕ) → j < r → Accepted ≡ judgedFrom d xs (a + j * m) (a + j * m + m)
-    unfolding judgedFrom
+    accepted : Below 64 (part (d .sextets xs) a (a + r * m)) → (j : ℕ) → j < r → Accepted ≡ level (d .sextets xs) maxDepth false (a + j * m) (a + j * m + m)
     accepted b j h =
         let z = R .each j h in
         let s : List ℕ = d .sextets xs in
         let at : ℕ = a + j * m in
         let long : 4 * (at + m) ≤ length s = omega (arith, units-of) in
-        let inside : at + m ≤ length xs / d .unit = rw is-u (z .1) in
-        let v : level s maxDepth false at (at + m) ≡ Accepted =
-        plain-level s maxDepth (at + m) long false at m (z .0) (R .some) (omega arith) (item-known s m a r b j h) ∙ level-end s maxDepth false (at + m) in
-        rw (le-ltb (d .limit) (length xs) short, le-ltb (length xs / d .unit) (at + m) inside, le-ltb (at + m) at (omega arith), v)
+        sym (plain-level s maxDepth (at + m) long false at m (z .0) (R .some) (omega arith) (item-known s m a r b j h) ∙ level-end s maxDepth false (at + m))
 
     pub fill-run : Below 64 (part (d .sextets xs) a (a + r * m)) → (out′ : List ℕ) → out′ ≡ rowsOnto i (u * a) (u * m) r out
         → Filled d xs o n (u * (a + r * m)) (i + r) k out′
@@ -299,7 +299,12 @@ module _ (d : Domain) (G : Reader d) (u : ℕ) (is-u : d .unit ≡ u) (xs : List
         let z : u * a + j * (u * m) ≡ u * (a + j * m) = sym (mul-add u a (j * m) ∙ ap (λ (x : ℕ). u * a + x) (sym (mul-assoc u j m) ∙ ap (λ (x : ℕ). x * m) (mul-comm u j) ∙ mul-assoc j u m)) in
         let y : i + suc j ≡ i + j + 1 = omega arith in
         rw (y, z)
-        (turn-more d G u is-u xs o n is-n short (a + j * m) (i + j) k (rowsOnto i (u * a) (u * m) j out) ψ _ refl _ _ _ (nth m a r R j h .framed true)
+        (turn-more d G u is-u xs o n is-n (a + j * m) (i + j) k (rowsOnto i (u * a) (u * m) j out) ψ _ refl _ _ _ (nth-plain m a r R j h .framed true)
         (in-units (a + j * m) (omega (arith, R .each j h .1))) Accepted (accepted b j h) Accepted (placed-accepted u) k (count-good k (i + j)) _
         (sym (stores-good n (i + j) k (u * (a + j * m)) (u * m) (rowsOnto i (u * a) (u * m) j out)))))
         (let y : i + 0 ≡ i = omega arith in rw y φ))
+
+-- ---- a text's sextets by the table
+
+pub text-by : (values s : List ℕ) → values ≡ sextetTable → ((i : ℕ) → getD s i 0 < 256) → sextetsBy values s ≡ textSextets s
+text-by values s e h = rw e (by-table s h)

@@ -1,9 +1,11 @@
 // The report of a stream, text or binary, into a lent buffer: items, refusals, remainder, each after its count. A first pass counts
-// the items, since room is asked by them; a second judges each item once and stores its rows where they are to stand.
+// the items, since room is asked by them; a second judges each item once and stores its rows where they are to stand. The tables of
+// characters and codes are named once and lent. Positions count units, and places within the judging sextets.
 use format::Framed;
 use format::Kind;
 use format::Reported;
 use format::Verdict;
+use judging::MAX_DEPTH;
 ghost use mathlib.Core.Path.{_≡_};
 ghost use mathlib.Core.List.{[], _∷_, _++_};
 ghost use Prim.Native.Nat.{_+_, _*_, _≤_, _<_};
@@ -12,6 +14,10 @@ ghost use lib.Seq.{sets};
 ghost use Rattle.format.specs.Units.{text, binary, textSextets, binarySextets};
 ghost use Rattle.format.specs.Framing.{frameRuled};
 ghost use Rattle.format.specs.Report.{be4, rowsIn, report, refusal, placed, reportAnswer, reportLeft};
+ghost use Rattle.format.specs.Alphabet.{sextetTable};
+ghost use Rattle.laws.specs.Levels.{level};
+ghost use Rattle.runs.specs.Plain.{plainTable};
+ghost use Rattle.contents.specs.Next.{Judged};
 ghost use Rattle.report.specs.Filling.{turn, rowWith, rowsOnto};
 
 // ---- stores
@@ -107,15 +113,97 @@ fn finish_rest(out: &mut [u8], n: usize, k: usize, offset: usize, number: u8) ->
 
 // ---- text
 
+// The next item from a unit on, framed and judged whole: its size, or its refusal, with the place in sextets of the stream.
+fn item_text(
+    values: &[u8; 256],
+    rows: &[u16; 128],
+    s: &[u8],
+    levels: usize,
+    first: bool,
+    at: usize,
+    stop: usize,
+) -> Framed
+    requires { ⌜ (now values ≡ sextetTable) × (now rows ≡ plainTable) × (4 * stop ≤ length (now s)) × (at < stop) × (length (now s) ≤ 4194304) ⌝ }
+    ensures { λ r. ⌜ Judged (textSextets (now (s .entry))) levels first at stop r ⌝ }
+{
+    let from = 4 * at;
+    let to = 4 * stop;
+    let next = contents::next_text(&s[from..to], first, levels);
+    match next {
+        Framed::Unframed { number, place } => Framed::Unframed {
+            number,
+            place: from + place,
+        },
+        Framed::Item { kind, head, size } => {
+            if contents::is_entered(kind) {
+                let ruled = contents::is_ruled(kind);
+                let v = level_text(values, rows, s, levels - 1, ruled, at + head, at + size);
+                judging::told(next, v)
+            } else {
+                next
+            }
+        }
+    }
+}
+
+// The items from a unit to the end of their group, where so many more groups may be entered. A group that ends with what is around
+// it is entered in place, and runs are passed at once.
+fn level_text(
+    values: &[u8; 256],
+    rows: &[u16; 128],
+    s: &[u8],
+    levels: usize,
+    first: bool,
+    at: usize,
+    stop: usize,
+) -> Verdict
+    requires { ⌜ (now values ≡ sextetTable) × (now rows ≡ plainTable) × (4 * stop ≤ length (now s)) × (at ≤ stop) × (length (now s) ≤ 4194304) ⌝ }
+    ensures { λ r. ⌜ r ≡ level (textSextets (now (s .entry))) levels first at stop ⌝ }
+{
+    let mut i = at;
+    let mut ruled = first;
+    let mut left = levels;
+    while i < stop {
+        let g = runs::group_text(values, s, i);
+        if contents::is_tail(g, stop - i, left) {
+            ruled = runs::letter_text(values, s, i) < 3;
+            i = i + 1;
+            left = left - 1;
+        } else {
+            let k = runs::plain_text(values, rows, s, i);
+            let r = runs::clean_run_text(values, rows, s, i, stop, k);
+            if 0 < r {
+                i = i + r * k;
+                ruled = false;
+            } else {
+                match item_text(values, rows, s, left, ruled, i, stop) {
+                    Framed::Unframed { number, place } => {
+                        return Verdict::Refused { number, place };
+                    }
+                    Framed::Item {
+                        kind: _,
+                        head: _,
+                        size,
+                    } => {
+                        i = i + size;
+                        ruled = false;
+                    }
+                }
+            }
+        }
+    }
+    Verdict::Accepted
+}
+
 // The item at a unit, framed.
-fn next_text(s: &[u8], a: usize) -> Framed
-    requires { ⌜ 4 * a ≤ length (now s) ⌝ }
+fn next_text(values: &[u8; 256], s: &[u8], a: usize) -> Framed
+    requires { ⌜ (now values ≡ sextetTable) × (4 * a ≤ length (now s)) ⌝ }
     ensures { λ r. ⌜ r ≡ frameRuled (textSextets (drop (4 * a) (now (s .entry)))) ⌝ }
 {
-    let g = runs::group_text(s, a);
+    let g = runs::group_text(values, s, a);
     if 0 < g {
         if g <= s.len() / 4 - a {
-            let letter = runs::letter_text(s, a);
+            let letter = runs::letter_text(values, s, a);
             return Framed::Item {
                 kind: Kind::Group { letter },
                 head: 1,
@@ -128,20 +216,20 @@ fn next_text(s: &[u8], a: usize) -> Framed
 }
 
 // How many items a text has.
-fn count_text(s: &[u8]) -> usize
-    requires { ⌜ length (now s) ≤ 4194304 ⌝ }
+fn count_text(values: &[u8; 256], rows: &[u16; 128], s: &[u8]) -> usize
+    requires { ⌜ (now values ≡ sextetTable) × (now rows ≡ plainTable) × length (now s) ≤ 4194304 ⌝ }
     ensures { λ r. ⌜ (r ≡ length (rowsIn text (now (s .entry)))) × (r ≤ 1048576) ⌝ }
 {
     let mut a = 0;
     let mut i = 0;
     while 4 * a < s.len() {
-        let m = runs::plain_text(s, a);
-        let r = runs::run_text(s, a, s.len() / 4, m);
+        let m = runs::sized_text(values, rows, s, a);
+        let r = runs::sized_run_text(values, rows, s, a, s.len() / 4, m);
         if 0 < r {
             a = a + r * m;
             i = i + r;
         } else {
-            match next_text(s, a) {
+            match next_text(values, s, a) {
                 Framed::Unframed {
                     number: _,
                     place: _,
@@ -163,8 +251,8 @@ fn count_text(s: &[u8]) -> usize
 }
 
 // Writes the report of a text, which has n items.
-fn fill_text(s: &[u8], out: &mut [u8], n: usize) -> usize
-    requires { ⌜ (length (now s) ≤ 4194304) × (n ≡ length (rowsIn text (now s))) × (17 + 18 * n ≤ length (now out)) ⌝ }
+fn fill_text(values: &[u8; 256], rows: &[u16; 128], s: &[u8], out: &mut [u8], n: usize) -> usize
+    requires { ⌜ (now values ≡ sextetTable) × (now rows ≡ plainTable) × (length (now s) ≤ 4194304) × (n ≡ length (rowsIn text (now s))) × (17 + 18 * n ≤ length (now out)) ⌝ }
     ensures { λ r. ⌜ (r ≡ length (report text (now (s .entry)))) × (now (out .exit) ≡ sets (now (out .entry)) 0 (report text (now (s .entry)))) ⌝ }
 {
     put4(out, 0, n);
@@ -172,14 +260,14 @@ fn fill_text(s: &[u8], out: &mut [u8], n: usize) -> usize
     let mut i = 0;
     let mut k = 0;
     while 4 * a < s.len() {
-        let m = runs::plain_text(s, a);
-        let r = runs::clean_run_text(s, a, s.len() / 4, m);
+        let m = runs::plain_text(values, rows, s, a);
+        let r = runs::clean_run_text(values, rows, s, a, s.len() / 4, m);
         if 0 < r {
             put_rows(out, i, 4 * a, 4 * m, r);
             a = a + r * m;
             i = i + r;
         } else {
-            match next_text(s, a) {
+            match next_text(values, s, a) {
                 Framed::Unframed { number, place: _ } => {
                     return finish_rest(out, n, k, 4 * a, number);
                 }
@@ -188,7 +276,7 @@ fn fill_text(s: &[u8], out: &mut [u8], n: usize) -> usize
                     head: _,
                     size,
                 } => {
-                    let v = contents::judge_text(s, a, a + size);
+                    let v = level_text(values, rows, s, MAX_DEPTH, false, a, a + size);
                     k = put_item(out, n, i, k, 4 * a, 4 * size, v);
                     a = a + size;
                     i = i + 1;
@@ -207,11 +295,13 @@ pub fn report_text(s: &[u8], out: &mut [u8]) -> Reported
     if 4194304 < s.len() {
         return Reported::Refused(1, 0);
     }
-    let n = count_text(s);
+    let values = alphabet::sextets();
+    let rows = runs::rows();
+    let n = count_text(&values, &rows, s);
     if out.len() < 17 + 18 * n {
         return Reported::Refused(3, 0);
     }
-    let length = fill_text(s, out, n);
+    let length = fill_text(&values, &rows, s, out, n);
     Reported::Written(length)
 }
 
@@ -230,9 +320,89 @@ fn placed_binary(v: Verdict) -> Verdict
     }
 }
 
+// The next item from a unit on, framed and judged whole: its size, or its refusal, with the place in sextets of the stream.
+fn item_binary(
+    rows: &[u16; 128],
+    s: &[u8],
+    levels: usize,
+    first: bool,
+    at: usize,
+    stop: usize,
+) -> Framed
+    requires { ⌜ (now rows ≡ plainTable) × (3 * stop ≤ length (now s)) × (at < stop) × (length (now s) ≤ 3145728) ⌝ }
+    ensures { λ r. ⌜ Judged (binarySextets (now (s .entry))) levels first at stop r ⌝ }
+{
+    let from = 3 * at;
+    let to = 3 * stop;
+    let next = contents::next_binary(&s[from..to], first, levels);
+    match next {
+        Framed::Unframed { number, place } => Framed::Unframed {
+            number,
+            place: 4 * at + place,
+        },
+        Framed::Item { kind, head, size } => {
+            if contents::is_entered(kind) {
+                let ruled = contents::is_ruled(kind);
+                let v = level_binary(rows, s, levels - 1, ruled, at + head, at + size);
+                judging::told(next, v)
+            } else {
+                next
+            }
+        }
+    }
+}
+
+// The items from a unit to the end of their group, where so many more groups may be entered. A group that ends with what is around
+// it is entered in place, and runs are passed at once.
+fn level_binary(
+    rows: &[u16; 128],
+    s: &[u8],
+    levels: usize,
+    first: bool,
+    at: usize,
+    stop: usize,
+) -> Verdict
+    requires { ⌜ (now rows ≡ plainTable) × (3 * stop ≤ length (now s)) × (at ≤ stop) × (length (now s) ≤ 3145728) ⌝ }
+    ensures { λ r. ⌜ r ≡ level (binarySextets (now (s .entry))) levels first at stop ⌝ }
+{
+    let mut i = at;
+    let mut ruled = first;
+    let mut left = levels;
+    while i < stop {
+        let g = runs::group_binary(s, i);
+        if contents::is_tail(g, stop - i, left) {
+            ruled = runs::letter_binary(s, i) < 3;
+            i = i + 1;
+            left = left - 1;
+        } else {
+            let k = runs::plain_binary(rows, s, i);
+            let r = runs::plain_run_binary(rows, s, i, stop, k);
+            if 0 < r {
+                i = i + r * k;
+                ruled = false;
+            } else {
+                match item_binary(rows, s, left, ruled, i, stop) {
+                    Framed::Unframed { number, place } => {
+                        return Verdict::Refused { number, place };
+                    }
+                    Framed::Item {
+                        kind: _,
+                        head: _,
+                        size,
+                    } => {
+                        i = i + size;
+                        ruled = false;
+                    }
+                }
+            }
+        }
+    }
+    Verdict::Accepted
+}
+
 // The item at a unit, framed.
 fn next_binary(s: &[u8], a: usize) -> Framed
-    requires { ⌜ 3 * a ≤ length (now s) ⌝ }
+    requires { ⌜ (3 * a ≤ length (now s)) ⌝ }
     ensures { λ r. ⌜ r ≡ frameRuled (binarySextets (drop (3 * a) (now (s .entry)))) ⌝ }
 {
     let g = runs::group_binary(s, a);
@@ -251,15 +421,15 @@ fn next_binary(s: &[u8], a: usize) -> Framed
 }
 
 // How many items a binary has.
-fn count_binary(s: &[u8]) -> usize
-    requires { ⌜ length (now s) ≤ 3145728 ⌝ }
+fn count_binary(rows: &[u16; 128], s: &[u8]) -> usize
+    requires { ⌜ (now rows ≡ plainTable) × length (now s) ≤ 3145728 ⌝ }
     ensures { λ r. ⌜ (r ≡ length (rowsIn binary (now (s .entry)))) × (r ≤ 1048576) ⌝ }
 {
     let mut a = 0;
     let mut i = 0;
     while 3 * a < s.len() {
-        let m = runs::plain_binary(s, a);
-        let r = runs::run_binary(s, a, s.len() / 3, m);
+        let m = runs::sized_binary(rows, s, a);
+        let r = runs::sized_run_binary(rows, s, a, s.len() / 3, m);
         if 0 < r {
             a = a + r * m;
             i = i + r;
@@ -286,8 +456,8 @@ fn count_binary(s: &[u8]) -> usize
 }
 
 // Writes the report of a binary, which has n items.
-fn fill_binary(s: &[u8], out: &mut [u8], n: usize) -> usize
-    requires { ⌜ (length (now s) ≤ 3145728) × (n ≡ length (rowsIn binary (now s))) × (17 + 18 * n ≤ length (now out)) ⌝ }
+fn fill_binary(rows: &[u16; 128], s: &[u8], out: &mut [u8], n: usize) -> usize
+    requires { ⌜ (now rows ≡ plainTable) × (length (now s) ≤ 3145728) × (n ≡ length (rowsIn binary (now s))) × (17 + 18 * n ≤ length (now out)) ⌝ }
     ensures { λ r. ⌜ (r ≡ length (report binary (now (s .entry)))) × (now (out .exit) ≡ sets (now (out .entry)) 0 (report binary (now (s .entry)))) ⌝ }
 {
     put4(out, 0, n);
@@ -295,8 +465,8 @@ fn fill_binary(s: &[u8], out: &mut [u8], n: usize) -> usize
     let mut i = 0;
     let mut k = 0;
     while 3 * a < s.len() {
-        let m = runs::plain_binary(s, a);
-        let r = runs::run_binary(s, a, s.len() / 3, m);
+        let m = runs::plain_binary(rows, s, a);
+        let r = runs::plain_run_binary(rows, s, a, s.len() / 3, m);
         if 0 < r {
             put_rows(out, i, 3 * a, 3 * m, r);
             a = a + r * m;
@@ -311,7 +481,7 @@ fn fill_binary(s: &[u8], out: &mut [u8], n: usize) -> usize
                     head: _,
                     size,
                 } => {
-                    let v = placed_binary(contents::judge_binary(s, a, a + size));
+                    let v = placed_binary(level_binary(rows, s, MAX_DEPTH, false, a, a + size));
                     k = put_item(out, n, i, k, 3 * a, 3 * size, v);
                     a = a + size;
                     i = i + 1;
@@ -330,10 +500,11 @@ pub fn report_binary(s: &[u8], out: &mut [u8]) -> Reported
     if 3145728 < s.len() {
         return Reported::Refused(1, 0);
     }
-    let n = count_binary(s);
+    let rows = runs::rows();
+    let n = count_binary(&rows, s);
     if out.len() < 17 + 18 * n {
         return Reported::Refused(3, 0);
     }
-    let length = fill_binary(s, out, n);
+    let length = fill_binary(&rows, s, out, n);
     Reported::Written(length)
 }

@@ -1,53 +1,78 @@
 -- A unit of either form, and a run, a turn of its loop at a time. Assumes nothing.
 use mathlib.Core.Path.{_≡_, refl, sym, ap, _∙_}
 use mathlib.Core.Bool.{Bool, true, false}
-use mathlib.Core.List.{List, [], _∷_}
+use mathlib.Core.List.{List, [], _∷_, _++_, map}
 use Prim.Native.Nat.{ℕ, zero, suc, _+_, _-_, _*_, _/_, _%_, _<_, _≤_}
 use native.Mathlib.Omega.{arith}
 use lib.Dec.{eqb, ltb}
-use lib.ListN.{length, getD, take, drop}
-use borrow.Author.Tests.{lt-ltb, le-ltb, eq-eqb, ne-eqb}
+use lib.ListN.{length, getD, take, drop, length-map}
+use borrow.Author.Tests.{ltb-true, lt-ltb, le-ltb, eq-eqb, ne-eqb}
 use Rattle.base.specs.Pick.{pick}
-use Rattle.format.specs.Alphabet.{sextetOf}
-use Rattle.format.specs.Units.{textSextets, binarySextets, sextetsOf}
+use Rattle.base.specs.Lists.{getD-map-within}
+use Rattle.format.specs.Units.{binarySextets, sextetsOf}
 use Rattle.format.specs.Framing.{sextet}
-use Rattle.laws.specs.Domains.{text-reader, binary-reader}
-use Rattle.laws.specs.Local.{text-sextet, binary-sextet}
+use Rattle.format.specs.Registry.{codes, fixedAmong, fixed}
 use Rattle.format.specs.Conversion.{firstStranger}
-use Rattle.runs.specs.Plain.{unitBy, plainAt, run, runAt, cleanPart, cleanRun}
+use Rattle.laws.specs.Domains.{binary-reader}
+use Rattle.laws.specs.Local.{binary-sextet}
+use Rattle.runs.specs.Plain.{limitOf, plainRow, rowsOf, plainTable, known4, groupUnits, groupOf, unitBy, plainAt, run, runAt, sextetsBy, cleanPart, cleanRun}
+use Rattle.runs.specs.Tables.{is-table}
 use Rattle.runs.specs.Runs.{nonzero, run-is, run-fits}
 
--- ---- a unit
+-- ---- one unit
+
+pub no-group : (a b c d : ℕ) → groupUnits a b c d ≡ 0 → 0 ≡ groupOf a b c d
+unfolding groupOf
+no-group a b c d e = rw e (sym (both (known4 a b c d)))
+  where
+    both : (x : Bool) → _≡_ {A = ℕ} (pick x 0 0) 0
+    both true = refl
+    both false = refl
+
+pub known-second : (a b c d : ℕ) → known4 a b c d ≡ true → b < 64
+known-second a b c d e = go (ltb a 64) (ltb b 64) refl e
+  where
+    go : (x y : Bool) → ltb b 64 ≡ y → pick x (pick y (pick (ltb c 64) (ltb d 64) false) false) false ≡ true → b < 64
+    go true true f q = ltb-true b 64 f
+    go true false f q = absurd (let z : _≡_ {A = ℕ} 0 1 = cc in omega arith)
+    go false y f q = absurd (let z : _≡_ {A = ℕ} 0 1 = cc in omega arith)
+
+-- ---- a unit of a stream
 
 four : (f : ℕ → ℕ → ℕ → ℕ → ℕ) {a b c d x y z w : ℕ} → a ≡ x → b ≡ y → c ≡ z → d ≡ w → f a b c d ≡ f x y z w
 four f p q r s = cc
 
-module _ (f : ℕ → ℕ → ℕ → ℕ → ℕ) (s : List ℕ) (at : ℕ) where
-  pub text-unit : at < length s / 4 → (a b c d : ℕ) → a ≡ sextetOf (getD s (4 * at) 0) → b ≡ sextetOf (getD s (4 * at + 1) 0)
-      → c ≡ sextetOf (getD s (4 * at + 2) 0) → d ≡ sextetOf (getD s (4 * at + 3) 0) → f a b c d ≡ unitBy f (textSextets s) at
-  unfolding unitBy
-  text-unit h a b c d p q r t =
-      rw (text-reader .units s, lt-ltb _ _ h)
-      (four f (p ∙ sym (text-sextet s (4 * at) (omega arith))) (q ∙ sym (text-sextet s (4 * at + 1) (omega arith)))
-      (r ∙ sym (text-sextet s (4 * at + 2) (omega arith))) (t ∙ sym (text-sextet s (4 * at + 3) (omega arith))))
+pub text-units : (values s : List ℕ) → length (sextetsBy values s) ≡ length s
+unfolding sextetsBy
+text-units values s = length-map s (λ (c : ℕ). getD values c 0)
 
-  pub text-past : length s / 4 ≤ at → 0 ≡ unitBy f (textSextets s) at
-  unfolding unitBy
-  text-past h = rw (text-reader .units s, le-ltb _ _ h)
+pub text-value : (values s : List ℕ) (i c : ℕ) → i < length s → c ≡ getD s i 0 → getD values c 0 ≡ getD (sextetsBy values s) i 0
+unfolding sextetsBy
+text-value values s i c h e = ap (λ (x : ℕ). getD values x 0) e ∙ sym (getD-map-within (λ (x : ℕ). getD values x 0) s i 0 0 h)
 
-  pub binary-unit : at < length s / 3 → (q : List ℕ) → q ≡ sextetsOf (getD s (3 * at) 0 ∷ getD s (3 * at + 1) 0 ∷ getD s (3 * at + 2) 0 ∷ [])
+module _ (f : ℕ → ℕ → ℕ → ℕ → ℕ) (at : ℕ) where
+  pub text-unit : (values s : List ℕ) → at < length s / 4 → (a b c d : ℕ) → a ≡ getD (sextetsBy values s) (4 * at) 0 → b ≡ getD (sextetsBy values s) (4 * at + 1) 0
+      → c ≡ getD (sextetsBy values s) (4 * at + 2) 0 → d ≡ getD (sextetsBy values s) (4 * at + 3) 0 → f a b c d ≡ unitBy f (sextetsBy values s) at
+  unfolding unitBy
+  text-unit values s h a b c d p q r t = rw (text-units values s, lt-ltb _ _ h) (four f p q r t)
+
+  pub text-past : (values s : List ℕ) → length s / 4 ≤ at → 0 ≡ unitBy f (sextetsBy values s) at
+  unfolding unitBy
+  text-past values s h = rw (text-units values s, le-ltb _ _ h)
+
+  pub binary-unit : (s : List ℕ) → at < length s / 3 → (q : List ℕ) → q ≡ sextetsOf (getD s (3 * at) 0 ∷ getD s (3 * at + 1) 0 ∷ getD s (3 * at + 2) 0 ∷ [])
       → f (getD q 0 0) (getD q 1 0) (getD q 2 0) (getD q 3 0) ≡ unitBy f (binarySextets s) at
   unfolding unitBy sextetsOf
-  binary-unit h q e =
+  binary-unit s h q e =
       let z : 4 * at + 0 ≡ 4 * at = omega arith in
       let b0 = rw z at (binary-sextet s at 0 h (omega arith)) in
       rw (e, binary-reader .units s, lt-ltb _ _ h)
       (four f (omega (arith, b0)) (omega (arith, binary-sextet s at 1 h (omega arith))) (omega (arith, binary-sextet s at 2 h (omega arith)))
       (omega (arith, binary-sextet s at 3 h (omega arith))))
 
-  pub binary-past : length s / 3 ≤ at → 0 ≡ unitBy f (binarySextets s) at
+  pub binary-past : (s : List ℕ) → length s / 3 ≤ at → 0 ≡ unitBy f (binarySextets s) at
   unfolding unitBy
-  binary-past h = rw (binary-reader .units s, le-ltb _ _ h)
+  binary-past s h = rw (binary-reader .units s, le-ltb _ _ h)
 
 -- ---- a turn of a run
 
@@ -80,29 +105,58 @@ module _ (p : ℕ → ℕ) (k stop : ℕ) where
 
 -- ---- a run without strangers
 
-module _ (s : List ℕ) (k stop at n : ℕ) (room : stop ≤ length s / 4) (e : n ≡ runAt (plainAt (textSextets s)) k stop at) where
+module _ (values rows s : List ℕ) (k stop at n : ℕ) (room : stop ≤ length s / 4) (e : n ≡ runAt (plainAt rows (sextetsBy values s)) k stop at) where
   pub run-room : (n ≡ 0 → ⊥) → (at + n * k ≤ length s / 4) × (at + k ≤ length s / 4) × (0 < k)
   run-room p =
-      let R = run-is (textSextets s) k stop at n (sym e) (nonzero n p) in
-      let z : at + 0 * k ≡ at = omega arith in
-      (omega (arith, run-fits (textSextets s) k stop at n R (nonzero n p)), omega (arith, rw z at (R .each 0 (nonzero n p) .1)), R .some)
+      let R = run-is (plainAt rows (sextetsBy values s)) k stop at n (sym e) (nonzero n p) in
+      let z : at + 0 * k ≡ at = omega arith in (
+        omega (arith, run-fits (plainAt rows (sextetsBy values s)) k stop at n R (nonzero n p)),
+        omega (arith, rw z at (R .each 0 (nonzero n p) .1)),
+        R .some,
+      )
 
   module _ (bad : ℕ) (f : bad ≡ firstStranger (take (4 * at + 4 * (n * k) - 4 * at) (drop (4 * at) s))) where
     same : bad ≡ firstStranger (take (4 * (n * k)) (drop (4 * at) s))
     same = let z : 4 * at + 4 * (n * k) - 4 * at ≡ 4 * (n * k) = omega arith in rw z at f
 
-    pub clean-all : bad ≡ 4 * (n * k) → n ≡ cleanRun s k stop at
+    pub clean-all : bad ≡ 4 * (n * k) → n ≡ cleanRun values rows s k stop at
     unfolding cleanRun cleanPart
     clean-all q = rw (le-ltb _ _ room, ← e, ← same, eq-eqb bad (4 * (n * k)) q)
 
-    pub clean-some : (bad ≡ 4 * (n * k) → ⊥) → bad / (4 * k) ≡ cleanRun s k stop at
+    pub clean-some : (bad ≡ 4 * (n * k) → ⊥) → bad / (4 * k) ≡ cleanRun values rows s k stop at
     unfolding cleanRun cleanPart
     clean-some q = rw (le-ltb _ _ room, ← e, ← same, ne-eqb bad (4 * (n * k)) q)
 
-  pub clean-none : n ≡ 0 → 0 ≡ cleanRun s k stop at
+  pub clean-none : n ≡ 0 → 0 ≡ cleanRun values rows s k stop at
   unfolding cleanRun cleanPart firstStranger
   clean-none q = let z : 4 * (0 * k) ≡ 0 = omega arith in rw (le-ltb _ _ room, ← e, q, z)
 
-pub clean-past : (s : List ℕ) (k stop at : ℕ) → length s / 4 < stop → 0 ≡ cleanRun s k stop at
+pub clean-past : (values rows s : List ℕ) (k stop at : ℕ) → length s / 4 < stop → 0 ≡ cleanRun values rows s k stop at
 unfolding cleanRun
-clean-past s k stop at h = rw (lt-ltb _ _ h)
+clean-past values rows s k stop at h = rw (lt-ltb _ _ h)
+
+-- ---- the table
+
+abbrev pub ones : List ℕ
+ones =
+    1035 ∷ 1035 ∷ 1035 ∷ 1035 ∷ 1035 ∷ 1035 ∷ 1035 ∷ 1035 ∷ 1035 ∷ 1035 ∷ 1043 ∷ 1043 ∷ 1025 ∷ 1027 ∷ 1035 ∷ 1055 ∷ 1035 ∷
+    1026 ∷ 1028 ∷ 1029 ∷ 1030 ∷ 1 ∷ 1025 ∷ 4097 ∷ 4098 ∷ 4099 ∷ 1035 ∷ 0 ∷ 0 ∷ 0 ∷ 0 ∷ 0 ∷ 0 ∷ 0 ∷ 0 ∷ 0 ∷ 0 ∷ 0 ∷ 0 ∷ 0 ∷ 0
+    ∷ 0 ∷ 0 ∷ 0 ∷ 0 ∷ 0 ∷ 0 ∷ 0 ∷ 0 ∷ 0 ∷ 0 ∷ 0 ∷ 0 ∷ 0 ∷ 0 ∷ 0 ∷ 0 ∷ 0 ∷ 0 ∷ 0 ∷ 0 ∷ 0 ∷ 0 ∷ 0 ∷ []
+
+abbrev pub twos : List ℕ
+twos =
+    262 ∷ 278 ∷ 278 ∷ 278 ∷ 278 ∷ 278 ∷ 278 ∷ 258 ∷ 278 ∷ 1 ∷ 4097 ∷ 2 ∷ 4098 ∷ 3 ∷ 4099 ∷ 0 ∷ 0 ∷ 0 ∷ 0 ∷ 0 ∷ 0 ∷ 0 ∷ 0 ∷ 0
+    ∷ 0 ∷ 0 ∷ 0 ∷ 0 ∷ 0 ∷ 0 ∷ 0 ∷ 0 ∷ 0 ∷ 0 ∷ 0 ∷ 0 ∷ 0 ∷ 0 ∷ 0 ∷ 0 ∷ 0 ∷ 0 ∷ 0 ∷ 0 ∷ 0 ∷ 0 ∷ 0 ∷ 0 ∷ 0 ∷ 0 ∷ 0 ∷ 0 ∷ 0 ∷ 0
+    ∷ 0 ∷ 0 ∷ 0 ∷ 0 ∷ 0 ∷ 0 ∷ 0 ∷ 0 ∷ 0 ∷ 0 ∷ []
+
+ones-are : ones ≡ rowsOf 1
+unfolding rowsOf plainRow limitOf fixed fixedAmong codes
+ones-are = is-table (λ (letter : ℕ). plainRow (fixed 1 letter)) ones tt
+
+twos-are : twos ≡ rowsOf 2
+unfolding rowsOf plainRow limitOf fixed fixedAmong codes
+twos-are = is-table (λ (letter : ℕ). plainRow (fixed 2 letter)) twos tt
+
+pub table-is : ones ++ twos ≡ plainTable
+unfolding plainTable
+table-is = rw (← ones-are, ← twos-are)

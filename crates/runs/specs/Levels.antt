@@ -27,8 +27,8 @@ use Rattle.format.specs.Judging.{shift, andThen, unless, scan, behind, zeroBits
 use Rattle.laws.specs.Framing.{Known, known-next}
 use Rattle.laws.specs.Scan.{scan-below}
 use Rattle.laws.specs.Levels.{part, part-length, part-drop, part-take, frameNext, shift-shift, level, level-end, level-item}
-use Rattle.runs.specs.Plain.{known4, plainOf, groupOf, plainUnits, groupUnits, unitBy, plainAt, groupAt, letterAt, run}
-use Rattle.runs.specs.Opened.{Plain, plain-opens, Entered, group-opens}
+use Rattle.runs.specs.Plain.{known4, plainTable, rowIn, sizedOf, plainOf, groupOf, unitBy, sizedAt, plainAt, groupAt, letterAt, run}
+use Rattle.runs.specs.Opened.{Plain, plain-opens, sized-opens, Entered, group-opens}
 
 -- ---- a unit that is told
 
@@ -76,14 +76,29 @@ pub record Primitive (x : List ℕ) (n : ℕ) : Type 0 where
   pub plain : Plain (sextet x 0) (sextet x 1) (sextet x 2) (sextet x 3) n
   pub framed : (first : Bool) → frameNext first x ≡ Item (Fixed (plain .row)) 1 n
 
-pub plain-frames : (x : List ℕ) (n : ℕ) → plainOf (sextet x 0) (sextet x 1) (sextet x 2) (sextet x 3) ≡ n → 0 < n → n ≤ length x / 4 → Primitive x n
+pub plain-frames : (x : List ℕ) (n : ℕ) → plainOf plainTable (sextet x 0) (sextet x 1) (sextet x 2) (sextet x 3) ≡ n → 0 < n → n ≤ length x / 4 → Primitive x n
 unfolding plainOf
 plain-frames x n e p room =
     let k = known-of (sextet x 0) (sextet x 1) (sextet x 2) (sextet x 3) _ n e p in
-    let q = plain-opens (sextet x 0) (sextet x 1) (sextet x 2) (sextet x 3) n p (k .4) in
+    let q = plain-opens (sextet x 0) (sextet x 1) (sextet x 2) (sextet x 3) n p (ltb-true _ _ (k .0)) (ltb-true _ _ (k .1)) (k .4) in
     record {
       plain = q;
       framed = λ first. next-fixed first x (q .row) n (frame-short x (Fixed (q .row)) n (k .0, k .1, k .2, k .3) (q .opens) p room);
+    }
+
+-- so is every primitive of a fixed code
+pub record Fixed1 (x : List ℕ) (n : ℕ) : Type 0 where
+  pub row : CodeRow
+  pub framed : (first : Bool) → frameNext first x ≡ Item (Fixed row) 1 n
+
+sized-frames : (x : List ℕ) (n : ℕ) → sizedOf plainTable (sextet x 0) (sextet x 1) (sextet x 2) (sextet x 3) ≡ n → 0 < n → n ≤ length x / 4 → Fixed1 x n
+unfolding sizedOf
+sized-frames x n e p room =
+    let k = known-of (sextet x 0) (sextet x 1) (sextet x 2) (sextet x 3) _ n e p in
+    let q = sized-opens (sextet x 0) (sextet x 1) (sextet x 2) (sextet x 3) n p (ltb-true _ _ (k .0)) (ltb-true _ _ (k .1)) (k .4) in
+    record {
+      row = q .0;
+      framed = λ first. next-fixed first x (q .0) n (frame-short x (Fixed (q .0)) n (k .0, k .1, k .2, k .3) (q .1) p room);
     }
 
 pub record Small (x : List ℕ) (n : ℕ) : Type 0 where
@@ -126,8 +141,11 @@ told-drop f s at n e p =
     let z : 4 * at + 0 ≡ 4 * at = omega arith in
     five f (rw z at (getD-drop (4 * at) s 0 0)) (getD-drop (4 * at) s 1 0) (getD-drop (4 * at) s 2 0) (getD-drop (4 * at) s 3 0) (told f s at n e p)
 
-pub plain-drop : (s : List ℕ) (at n : ℕ) → plainAt s at ≡ n → 0 < n → at + n ≤ length s / 4 → Primitive (drop (4 * at) s) n
-plain-drop s at n e p h = plain-frames (drop (4 * at) s) n (told-drop plainOf s at n e p) p (omega (arith, length-drop (4 * at) s))
+pub plain-drop : (s : List ℕ) (at n : ℕ) → plainAt plainTable s at ≡ n → 0 < n → at + n ≤ length s / 4 → Primitive (drop (4 * at) s) n
+plain-drop s at n e p h = plain-frames (drop (4 * at) s) n (told-drop (plainOf plainTable) s at n e p) p (omega (arith, length-drop (4 * at) s))
+
+pub sized-drop : (s : List ℕ) (at n : ℕ) → sizedAt plainTable s at ≡ n → 0 < n → at + n ≤ length s / 4 → Fixed1 (drop (4 * at) s) n
+sized-drop s at n e p h = sized-frames (drop (4 * at) s) n (told-drop (sizedOf plainTable) s at n e p) p (omega (arith, length-drop (4 * at) s))
 
 pub group-drop : (s : List ℕ) (at n : ℕ) → groupAt s at ≡ n → 0 < n → at + n ≤ length s / 4 → frameRuled (drop (4 * at) s) ≡ Item (Group (letterAt s at)) 1 n
 unfolding unitBy
@@ -162,12 +180,12 @@ module _ (s : List ℕ) (l : ℕ) (stop : ℕ) (long : 4 * stop ≤ length s) wh
   in-part : (at n : ℕ) → at + n ≤ stop → n ≤ length (part s at stop) / 4
   in-part at n h = omega (arith, part-length s at stop long)
 
-  pub plain-level : (first : Bool) (at k : ℕ) → plainAt s at ≡ k → 0 < k → at + k ≤ stop → Below 64 (part s at (at + k))
+  pub plain-level : (first : Bool) (at k : ℕ) → plainAt plainTable s at ≡ k → 0 < k → at + k ≤ stop → Below 64 (part s at (at + k))
       → level s l first at stop ≡ level s l false (at + k) stop
   unfolding andThen shift
   plain-level first at k e p h b =
       let x : List ℕ = part s at stop in
-      let q = plain-frames x k (told-part plainOf s at stop k e p (omega arith)) p (in-part at k h) in
+      let q = plain-frames x k (told-part (plainOf plainTable) s at stop k e p (omega arith)) p (in-part at k h) in
       let same : (i : ℕ) → i < 4 → sextet (part s at (at + k)) i ≡ sextet x i =
       λ i j. part-at s at (at + k) i (omega arith) ∙ sym (part-at s at stop i (omega arith)) in
       level-item s l first at stop (Fixed (q .plain .row)) 1 k long (omega arith) (q .framed first)

@@ -1,4 +1,5 @@
 pub mod Plain
 pub mod Opened
 pub mod Levels
+pub mod Tables
 pub mod Runs

@@ -1,15 +1,16 @@
 -- What plain and group sizes say of the first unit: the code that it opens, and that its zero bits are zero. Assumes nothing.
 use Prim.Native.Nat.{ℕ, zero, suc, _+_, _-_, _*_, _/_, _%_, _^_, _≤_, _<_}
-use mathlib.Core.Path.{_≡_, refl, sym, _∙_, subst}
-use mathlib.Core.List.{List}
+use mathlib.Core.Path.{_≡_, refl, sym, ap, _∙_, subst}
+use mathlib.Core.List.{List, [], _∷_, _++_, map}
 use mathlib.Core.Bool.{Bool, true, false}
 use mathlib.Core.Logic.{⊎-elim}
 use native.Mathlib.Omega.{arith}
 use lib.Dec.{ltb, eqb}
-use lib.ListN.{length}
+use lib.ListN.{length, getD, length-map, List·getD-append}
 use borrow.Author.Tests.{ltb-true, ltb-false, lt-ltb, le-ltb, eqb-true, eqb-false, eq-eqb, ne-eqb}
 use Rattle.base.specs.Pick.{pick}
 use Rattle.base.specs.Cases.{whether}
+use Rattle.base.specs.Lists.{upTo, getD-table}
 use Rattle.format.specs.declared.CodeRow.{CodeRow}
 use Rattle.format.specs.declared.Kind.{Kind}
 use Rattle.format.specs.declared.Kind.the-variants.{Fixed, Variable, Group, Genus}
@@ -19,7 +20,7 @@ use Rattle.format.specs.Registry.{fixed, isGroup, isOpaque, zeroBitsOf, prepadO
 use Rattle.format.specs.Framing.{sextet}
 use Rattle.format.specs.Judging.{zeroBits}
 use Rattle.laws.specs.Registry.{Finds, fixed-finds}
-use Rattle.runs.specs.Plain.{limitOf, plainRow, limited, plainUnits, groupUnits}
+use Rattle.runs.specs.Plain.{limitOf, plainRow, rowsOf, plainTable, rowIn, next, limited, groupUnits}
 
 -- ---- choices that are not 0
 
@@ -80,6 +81,22 @@ row-of (LargeGroup l d) x n e p = absurd (no-row x n e p)
 row-of Version x n e p = absurd (no-row x n e p)
 row-of (Short (Fixed c) k) x n e p = fixed-row c k x n e p
 
+-- a size alone
+size-of : (op : Opening) (n : ℕ) → plainRow op % 64 ≡ n → 0 < n → (row : CodeRow) × (op ≡ Short (Fixed row) n)
+unfolding plainRow
+size-of Unknown n e p = absurd (omega arith)
+size-of (Short (Variable t l m) k) n e p = absurd (omega arith)
+size-of (Short (Group l) k) n e p = absurd (omega arith)
+size-of (Short Genus k) n e p = absurd (omega arith)
+size-of (LargeVariable t l) n e p = absurd (omega arith)
+size-of (LargeGroup l d) n e p = absurd (omega arith)
+size-of Version n e p = absurd (omega arith)
+size-of (Short (Fixed c) k) n e p = (c, ap (Short (Fixed c)) (sized-row (ltb k 64) refl e))
+  where
+    sized-row : (b : Bool) → ltb k 64 ≡ b → pick b (k + 64 * limitOf c) 0 % 64 ≡ n → k ≡ n
+    sized-row true f q = omega (arith, ltb-true k 64 f)
+    sized-row false f q = absurd (omega arith)
+
 -- ---- zero bits
 
 zero-by : (z x y w : ℕ) → z ≤ 6 → x < 2 ^ (6 - z) → y < 64 → w < 64 → eqb (((x * 64 + y) * 64 + w) / 2 ^ (18 - z)) 0 ≡ true
@@ -100,7 +117,29 @@ pub record Plain (a b c d n : ℕ) : Type 0 where
   pub bare : prepadOf row ≡ 0
   pub passes : (s : List ℕ) → sextet s 1 ≡ b → sextet s 2 ≡ c → ((i : ℕ) → sextet s i < 64) → zeroBits s (row .chars) (zeroBitsOf row) ≡ true
 
-module _ (a b c d n : ℕ) (p : 0 < n) where
+-- ---- the table
+
+second-half : (f g : List ℕ) (i : ℕ) → getD (f ++ g) (length f + i) 0 ≡ getD g i 0
+second-half [] g i = let z : 0 + i ≡ i = omega arith in rw z
+second-half (x ∷ f) g i = let z : suc (length f) + i ≡ suc (length f + i) = omega arith in rw z (second-half f g i)
+
+row-at : (chars letter : ℕ) → letter < 64 → getD (rowsOf chars) letter 0 ≡ plainRow (fixed chars letter)
+unfolding rowsOf
+row-at chars letter h = getD-table (λ (x : ℕ). plainRow (fixed chars x)) 64 letter h
+
+rows-long : (chars : ℕ) → length (rowsOf chars) ≡ 64
+unfolding rowsOf
+rows-long chars = length-map (upTo 64) (λ (x : ℕ). plainRow (fixed chars x))
+
+table-one : (a : ℕ) → a < 64 → getD plainTable a 0 ≡ plainRow (fixed 1 a)
+unfolding plainTable
+table-one a h = List·getD-append (rowsOf 1) (rowsOf 2) 0 a (rw (rows-long 1) h) ∙ row-at 1 a h
+
+table-two : (b : ℕ) → b < 64 → getD plainTable (64 + b) 0 ≡ plainRow (fixed 2 b)
+unfolding plainTable
+table-two b h = rw (← (rows-long 1)) (second-half (rowsOf 1) (rowsOf 2) b) ∙ row-at 2 b h
+
+module _ (a b c d n : ℕ) (p : 0 < n) (la : a < 64) (lb : b < 64) where
   one-plain : ltb a 52 ≡ true → limited (plainRow (fixed 1 a)) b ≡ n → Plain a b c d n
   unfolding opening zeroBits
   one-plain t e =
@@ -125,12 +164,28 @@ module _ (a b c d n : ℕ) (p : 0 < n) where
         passes = λ s x y k. rw (g .2, y) (zero-by (zeroBitsOf (r .row)) c _ _ (r .few) (r .low) (k 3) (k 4));
       }
 
-  pub plain-opens : plainUnits a b c ≡ n → Plain a b c d n
-  unfolding plainUnits
-  plain-opens e = ⊎-elim (λ t. one-plain t (rw t at e)) (λ f. behind f (rw f at e)) (whether (ltb a 52))
+  pub plain-opens : limited (rowIn plainTable a b) (next a b c) ≡ n → Plain a b c d n
+  unfolding rowIn
+  plain-opens e = ⊎-elim one (λ f. ⊎-elim (two f) (none f) (whether (eqb a 52))) (whether (ltb a 52))
     where
-      behind : ltb a 52 ≡ false → pick (eqb a 52) (limited (plainRow (fixed 2 b)) c) 0 ≡ n → Plain a b c d n
-      behind f q = let s = some-then (eqb a 52) _ n q p in two-plain f (s .0) (s .1)
+      one : ltb a 52 ≡ true → Plain a b c d n
+      one t = one-plain t (rw (t, table-one a la) at e)
+
+      two : ltb a 52 ≡ false → eqb a 52 ≡ true → Plain a b c d n
+      two f t = two-plain f t (rw (f, t, table-two b lb) at e)
+
+      none : ltb a 52 ≡ false → eqb a 52 ≡ false → Plain a b c d n
+      none f g = absurd (no-row c n (rw (f, g) at e) p)
+
+  pub sized-opens : rowIn plainTable a b % 64 ≡ n → (row : CodeRow) × (opening a b c d ≡ Short (Fixed row) n)
+  unfolding rowIn opening
+  sized-opens e = go (ltb a 52) (eqb a 52) refl refl e
+    where
+      go : (x y : Bool) → ltb a 52 ≡ x → eqb a 52 ≡ y → pick x (getD plainTable a 0) (pick y (getD plainTable (64 + b) 0) 0) % 64 ≡ n
+          → (row : CodeRow) × (opening a b c d ≡ Short (Fixed row) n)
+      go true y t u q = let r = size-of (fixed 1 a) n (ap (λ (m : ℕ). m % 64) (sym (table-one a la)) ∙ q) p in (r .0, rw t (r .1))
+      go false true t u q = let r = size-of (fixed 2 b) n (ap (λ (m : ℕ). m % 64) (sym (table-two b lb)) ∙ q) p in (r .0, rw (t, u) (r .1))
+      go false false t u q = absurd (omega arith)
 
 -- ---- a small group
 

@@ -1,18 +1,18 @@
--- What a first unit alone can decide: a primitive of a fixed code that is accepted if its characters are known, and a small group
--- whose contents are items. Runs of such primitives. Over sextets. Assumes nothing.
+-- What a first unit alone can decide: the size of a primitive of a fixed code, and whether it is accepted if its other characters are
+-- known; the size of a small group whose contents are items. Runs of such primitives. Over sextets. Assumes nothing.
 use Prim.Native.Nat.{ℕ, zero, suc, _+_, _-_, _*_, _/_, _%_, _^_}
-use mathlib.Core.List.{List}
+use mathlib.Core.List.{List, map, _++_}
 use mathlib.Core.Bool.{Bool, true, false}
 use lib.Dec.{ltb, eqb}
-use lib.ListN.{length, take, drop}
+use lib.ListN.{length, getD, take, drop}
 use Rattle.base.specs.Pick.{pick}
+use Rattle.base.specs.Lists.{upTo}
 use Rattle.format.specs.declared.CodeRow.{CodeRow}
 use Rattle.format.specs.declared.Kind.{Kind}
 use Rattle.format.specs.declared.Kind.the-variants.{Fixed, Variable, Group, Genus}
 use Rattle.format.specs.declared.Opening.{Opening}
 use Rattle.format.specs.declared.Opening.the-variants.{Unknown, Short, LargeVariable, LargeGroup, Version}
 use Rattle.format.specs.Registry.{fixed, isGroup, isOpaque, zeroBitsOf, prepadOf}
-use Rattle.format.specs.Units.{textSextets}
 use Rattle.format.specs.Framing.{sextet}
 use Rattle.format.specs.Conversion.{firstStranger}
 
@@ -33,13 +33,25 @@ plainRow (LargeVariable t l) = 0
 plainRow (LargeGroup l d) = 0
 plainRow Version = 0
 
+-- the rows of the codes of so many characters, by their letter
+unfoldable pub rowsOf : ℕ → List ℕ
+rowsOf chars = map (λ letter. plainRow (fixed chars letter)) (upTo 64)
+
+-- one letter, then `0` and a letter
+unfoldable pub plainTable : List ℕ
+plainTable = rowsOf 1 ++ rowsOf 2
+
+-- the row of a first unit's code in a table, 0 for everything else
+unfoldable pub rowIn : List ℕ → ℕ → ℕ → ℕ
+rowIn rows a b = pick (ltb a 52) (getD rows a 0) (pick (eqb a 52) (getD rows (64 + b) 0) 0)
+
+-- the sextet behind its code
+abbrev pub next : ℕ → ℕ → ℕ → ℕ
+next a b c = pick (ltb a 52) b c
+
 -- the size, if the sextet behind the code is below the limit
 unfoldable pub limited : ℕ → ℕ → ℕ
 limited row x = pick (ltb x (row / 64)) (row % 64) 0
-
--- the size in units of a plain primitive, by its first three sextets; 0 for everything else
-unfoldable pub plainUnits : ℕ → ℕ → ℕ → ℕ
-plainUnits a b c = pick (ltb a 52) (limited (plainRow (fixed 1 a)) b) (pick (eqb a 52) (limited (plainRow (fixed 2 b)) c) 0)
 
 -- ---- groups
 
@@ -52,8 +64,13 @@ groupUnits a b c d = pick (eqb a 62) (pick (isGroup b) (pick (isOpaque b) 0 (1 +
 abbrev pub known4 : ℕ → ℕ → ℕ → ℕ → Bool
 known4 a b c d = pick (ltb a 64) (pick (ltb b 64) (pick (ltb c 64) (ltb d 64) false) false) false
 
-unfoldable pub plainOf : ℕ → ℕ → ℕ → ℕ → ℕ
-plainOf a b c d = pick (known4 a b c d) (plainUnits a b c) 0
+-- the size in units of a primitive of a fixed code; 0 for everything else
+unfoldable pub sizedOf : List ℕ → ℕ → ℕ → ℕ → ℕ → ℕ
+sizedOf rows a b c d = pick (known4 a b c d) (rowIn rows a b % 64) 0
+
+-- and of one that is plain: accepted, if its other characters are known
+unfoldable pub plainOf : List ℕ → ℕ → ℕ → ℕ → ℕ → ℕ
+plainOf rows a b c d = pick (known4 a b c d) (limited (rowIn rows a b) (next a b c)) 0
 
 unfoldable pub groupOf : ℕ → ℕ → ℕ → ℕ → ℕ
 groupOf a b c d = pick (known4 a b c d) (groupUnits a b c d) 0
@@ -62,8 +79,11 @@ groupOf a b c d = pick (known4 a b c d) (groupUnits a b c d) 0
 unfoldable pub unitBy : (ℕ → ℕ → ℕ → ℕ → ℕ) → List ℕ → ℕ → ℕ
 unitBy f s at = pick (ltb at (length s / 4)) (f (sextet s (4 * at)) (sextet s (4 * at + 1)) (sextet s (4 * at + 2)) (sextet s (4 * at + 3))) 0
 
-abbrev pub plainAt : List ℕ → ℕ → ℕ
-plainAt s at = unitBy plainOf s at
+abbrev pub sizedAt : List ℕ → List ℕ → ℕ → ℕ
+sizedAt rows s at = unitBy (sizedOf rows) s at
+
+abbrev pub plainAt : List ℕ → List ℕ → ℕ → ℕ
+plainAt rows s at = unitBy (plainOf rows) s at
 
 abbrev pub groupAt : List ℕ → ℕ → ℕ
 groupAt s at = unitBy groupOf s at
@@ -86,10 +106,15 @@ most = 32
 unfoldable pub runAt : (ℕ → ℕ) → ℕ → ℕ → ℕ → ℕ
 runAt p k stop at = pick (eqb k 0) 0 (run p k stop most at)
 
--- the same of a text whose characters are known: the items in front of the first one that is not, where the units are there
+-- ---- text, its sextets by a table
+
+unfoldable pub sextetsBy : List ℕ → List ℕ → List ℕ
+sextetsBy values s = map (λ c. getD values c 0) s
+
+-- of a run, the items in front of the first character that is not of the alphabet
 unfoldable pub cleanPart : List ℕ → ℕ → ℕ → ℕ → ℕ
 cleanPart s k at n =
     pick (eqb (firstStranger (take (4 * (n * k)) (drop (4 * at) s))) (4 * (n * k))) n (firstStranger (take (4 * (n * k)) (drop (4 * at) s)) / (4 * k))
 
-unfoldable pub cleanRun : List ℕ → ℕ → ℕ → ℕ → ℕ
-cleanRun s k stop at = pick (ltb (length s / 4) stop) 0 (cleanPart s k at (runAt (plainAt (textSextets s)) k stop at))
+unfoldable pub cleanRun : List ℕ → List ℕ → List ℕ → ℕ → ℕ → ℕ → ℕ
+cleanRun values rows s k stop at = pick (ltb (length s / 4) stop) 0 (cleanPart s k at (runAt (plainAt rows (sextetsBy values s)) k stop at))

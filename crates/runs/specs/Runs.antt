@@ -7,7 +7,7 @@ use mathlib.Core.Logic.{⊎-elim}
 use native.Mathlib.Omega.{arith}
 use native.Mathlib.Nat.{suc-mul, mul-assoc, mul-comm, mul-le-mul-right, le-of-mul-le-mul-right, le-div-iff-mul-le}
 use lib.Dec.{ltb, eqb}
-use lib.ListN.{length, take, drop, length-take, length-drop}
+use lib.ListN.{length, getD, take, drop, length-take, length-drop}
 use lib.Seq.{take-take}
 use borrow.Author.Tests.{ltb-true, ltb-false, lt-ltb, le-ltb, eqb-true, eqb-false}
 use Rattle.base.specs.Pick.{pick, pick-by}
@@ -15,49 +15,50 @@ use Rattle.base.specs.Cases.{whether, lt-or-ge}
 use Rattle.base.specs.Lists.{map-take, map-drop}
 use Rattle.base.specs.Digits.{Below, none, more, below-take, below-drop}
 use Rattle.format.specs.declared.Verdict.{Verdict}
-use Rattle.format.specs.Alphabet.{sextetOf}
+use Rattle.format.specs.Alphabet.{sextetOf, sextetTable}
 use Rattle.format.specs.Units.{textSextets, binarySextets}
 use Rattle.format.specs.Conversion.{firstStranger}
 use Rattle.laws.specs.Conversion.{binary-below}
 use Rattle.laws.specs.Levels.{part, part-drop, part-take, take-of-drop, level}
-use Rattle.runs.specs.Plain.{plainAt, run, runAt, most, cleanPart, cleanRun}
+use Rattle.runs.specs.Plain.{plainTable, plainAt, run, runAt, most, cleanPart, cleanRun}
+use Rattle.runs.specs.Tables.{by-table}
 use Rattle.runs.specs.Levels.{plain-level, run-at, by-items}
 
--- r plain primitives of k units from a unit on, none of them past another
-pub record Run (s : List ℕ) (k stop at r : ℕ) : Type 0 where
+-- r items of k units by a rule p, from a unit on, none of them past another
+pub record Run (p : ℕ → ℕ) (k stop at r : ℕ) : Type 0 where
   pub some : 0 < k
-  pub each : (j : ℕ) → j < r → (plainAt s (at + j * k) ≡ k) × (at + j * k + k ≤ stop)
+  pub each : (j : ℕ) → j < r → (p (at + j * k) ≡ k) × (at + j * k + k ≤ stop)
 
-pub run-fits : (s : List ℕ) (k stop at r : ℕ) → Run s k stop at r → 0 < r → at + r * k ≤ stop
-run-fits s k stop at zero R p = absurd (omega arith)
-run-fits s k stop at (suc r) R p = omega (arith, R .each r (omega arith) .1, suc-mul r k)
+pub run-fits : (p : ℕ → ℕ) (k stop at r : ℕ) → Run p k stop at r → 0 < r → at + r * k ≤ stop
+run-fits p k stop at zero R q = absurd (omega arith)
+run-fits p k stop at (suc r) R q = omega (arith, R .each r (omega arith) .1, suc-mul r k)
 
-pub run-moves : (s : List ℕ) (k stop at r : ℕ) → Run s k stop at r → 0 < r → 0 < r * k
-run-moves s k stop at zero R p = absurd (omega arith)
-run-moves s k stop at (suc r) R p = omega (arith, R .some, suc-mul r k)
+pub run-moves : (p : ℕ → ℕ) (k stop at r : ℕ) → Run p k stop at r → 0 < r → 0 < r * k
+run-moves p k stop at zero R q = absurd (omega arith)
+run-moves p k stop at (suc r) R q = omega (arith, R .some, suc-mul r k)
 
 -- no more items than units
-pub run-many : (s : List ℕ) (k stop at r : ℕ) → Run s k stop at r → r ≤ r * k
-run-many s k stop at r R = le-of-one k r (R .some)
+pub run-many : (p : ℕ → ℕ) (k stop at r : ℕ) → Run p k stop at r → r ≤ r * k
+run-many p k stop at r R = le-of-one k r (R .some)
   where
     le-of-one : (k r : ℕ) → 0 < k → r ≤ r * k
     le-of-one k zero p = omega arith
     le-of-one k (suc r) p = omega (arith, suc-mul r k, le-of-one k r p)
 
 -- each fits by itself
-pub run-size : (s : List ℕ) (k stop at r : ℕ) → Run s k stop at r → 0 < r → at + k ≤ stop
-run-size s k stop at r R p = let z : at + 0 * k ≡ at = omega arith in omega (arith, rw z at (R .each 0 p .1))
+pub run-size : (p : ℕ → ℕ) (k stop at r : ℕ) → Run p k stop at r → 0 < r → at + k ≤ stop
+run-size p k stop at r R q = let z : at + 0 * k ≡ at = omega arith in omega (arith, rw z at (R .each 0 q .1))
 
 pub nonzero : (k : ℕ) → (k ≡ 0 → ⊥) → 0 < k
 nonzero k n = ⊎-elim (λ l. l) (λ g. absurd (n (omega arith))) (lt-or-ge 0 k)
 
-pub run-is : (s : List ℕ) (k stop at r : ℕ) → runAt (plainAt s) k stop at ≡ r → 0 < r → Run s k stop at r
+pub run-is : (p : ℕ → ℕ) (k stop at r : ℕ) → runAt p k stop at ≡ r → 0 < r → Run p k stop at r
 unfolding runAt
-run-is s k stop at r e p = go (eqb k 0) refl e
+run-is p k stop at r e l = go (eqb k 0) refl e
   where
-    go : (b : Bool) → eqb k 0 ≡ b → pick b 0 (run (plainAt s) k stop most at) ≡ r → Run s k stop at r
+    go : (b : Bool) → eqb k 0 ≡ b → pick b 0 (run p k stop most at) ≡ r → Run p k stop at r
     go true f q = absurd (omega arith)
-    go false f q = record { some = nonzero k (eqb-false k 0 f); each = λ j h. run-at (plainAt s) k stop most at j (omega arith) }
+    go false f q = record { some = nonzero k (eqb-false k 0 f); each = λ j h. run-at p k stop most at j (omega arith) }
 
 -- ---- what a run leaves
 
@@ -74,7 +75,7 @@ item-known s k at r b j h =
     let y : Below 64 (part s (at + j * k) (at + r * k)) = rw (← (part-drop s at (j * k) (at + r * k))) (below-drop 64 (4 * (j * k)) (part s at (at + r * k)) b) in
     rw (← (part-take s (at + j * k) k (at + r * k) (omega arith))) (below-take 64 (k * 4) (part s (at + j * k) (at + r * k)) y)
 
-module _ (s : List ℕ) (l stop : ℕ) (long : 4 * stop ≤ length s) (first : Bool) (k at r : ℕ) (R : Run s k stop at r) (b : Below 64 (part s at (at + r * k))) where
+module _ (s : List ℕ) (l stop : ℕ) (long : 4 * stop ≤ length s) (first : Bool) (k at r : ℕ) (R : Run (plainAt plainTable s) k stop at r) (b : Below 64 (part s at (at + r * k))) where
   pub run-level : 0 < r → level s l first at stop ≡ level s l false (at + r * k) stop
   unfolding asked
   run-level p =
@@ -138,33 +139,38 @@ module _ (s : List ℕ) (k at n r : ℕ) (p : 0 < k) where
       (stranger-part (take (4 * (n * k)) (drop (4 * at) s)) (4 * (r * k)) (few e))
 
 pub record Clean (s : List ℕ) (k stop at r : ℕ) : Type 0 where
-  pub run : Run s k stop at r
+  pub run : Run (plainAt plainTable s) k stop at r
   pub known : Below 64 (part s at (at + r * k))
 
 no-clean : (s : List ℕ) (k at r : ℕ) → cleanPart s k at 0 ≡ r → r ≡ 0
 unfolding cleanPart firstStranger
 no-clean s k at r e = let z : 4 * (0 * k) ≡ 0 = omega arith in sym (rw z at e)
 
-pub text-run : (s : List ℕ) (k stop at r : ℕ) → cleanRun s k stop at ≡ r → 0 < r → Clean (textSextets s) k stop at r
-unfolding cleanRun
-text-run s k stop at r e p = go (ltb (length s / 4) stop) e
+clean-run : (s : List ℕ) (k stop at r : ℕ) → cleanPart s k at (runAt (plainAt plainTable (textSextets s)) k stop at) ≡ r → 0 < r → Clean (textSextets s) k stop at r
+clean-run s k stop at r q p =
+    let n : ℕ = runAt (plainAt plainTable (textSextets s)) k stop at in
+    let R = run-is (plainAt plainTable (textSextets s)) k stop at n refl (some n q) in
+    let f = fewer s k at n r (R .some) q in
+    record { run = record { some = R .some; each = λ j h. R .each j (omega arith) }; known = clean s k at n r (R .some) q }
   where
-    some : (n : ℕ) → runAt (plainAt (textSextets s)) k stop at ≡ n → cleanPart s k at n ≡ r → 0 < n
-    some zero f q = absurd (omega (arith, no-clean s k at r q))
-    some (suc n) f q = omega arith
+    some : (n : ℕ) → cleanPart s k at n ≡ r → 0 < n
+    some zero q = absurd (omega (arith, no-clean s k at r q))
+    some (suc n) q = omega arith
 
-    go : (b : Bool) → pick b 0 (cleanPart s k at (runAt (plainAt (textSextets s)) k stop at)) ≡ r → Clean (textSextets s) k stop at r
+pub text-run : (values rows s : List ℕ) (k stop at r : ℕ) → values ≡ sextetTable → rows ≡ plainTable → ((i : ℕ) → getD s i 0 < 256) → cleanRun values rows s k stop at ≡ r → 0 < r
+    → Clean (textSextets s) k stop at r
+unfolding cleanRun
+text-run values rows s k stop at r v t b e p =
+    go (ltb (length s / 4) stop) (rw (v, t, by-table s b) at e)
+  where
+    go : (b : Bool) → pick b 0 (cleanPart s k at (runAt (plainAt plainTable (textSextets s)) k stop at)) ≡ r → Clean (textSextets s) k stop at r
     go true q = absurd (omega arith)
-    go false q =
-        let n : ℕ = runAt (plainAt (textSextets s)) k stop at in
-        let R = run-is (textSextets s) k stop at n refl (some n refl q) in
-        let f = fewer s k at n r (R .some) q in
-        record { run = record { some = R .some; each = λ j h. R .each j (omega arith) }; known = clean s k at n r (R .some) q }
+    go false q = clean-run s k stop at r q p
 
 -- ---- binary: all are known
 
-pub binary-run : (s : List ℕ) (k stop at r : ℕ) → runAt (plainAt (binarySextets s)) k stop at ≡ r → 0 < r → Clean (binarySextets s) k stop at r
-binary-run s k stop at r e p = record {
-  run = run-is (binarySextets s) k stop at r e p;
+pub binary-run : (rows s : List ℕ) (k stop at r : ℕ) → rows ≡ plainTable → runAt (plainAt rows (binarySextets s)) k stop at ≡ r → 0 < r → Clean (binarySextets s) k stop at r
+binary-run rows s k stop at r t e p = record {
+  run = run-is (plainAt plainTable (binarySextets s)) k stop at r (rw t at e) p;
   known = below-drop 64 (4 * at) _ (below-take 64 (4 * (at + r * k)) (binarySextets s) (binary-below s));
 }

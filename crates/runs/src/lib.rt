@@ -1,15 +1,153 @@
-// What a first unit alone decides, read from either form: primitives of a fixed code whose zero bits are zero, small groups whose
-// contents are items, and runs of such primitives, so that a long stream is judged without a frame of each item. Tables are
-// matches, which the back end lays in read-only memory; a constant array would be copied where it is named.
+// What a first unit alone decides, read from either form: the size of a primitive of a fixed code, whether it is accepted if its
+// characters are known, small groups whose contents are items, and runs of primitives of one size, so that a long stream is judged
+// without a frame of each item. The tables are lent, since naming a constant copies it.
 ghost use mathlib.Core.Path.{_≡_};
 ghost use Prim.Native.Nat.{_+_, _*_, _≤_, _<_};
-ghost use lib.ListN.{length};
-ghost use Rattle.format.specs.Units.{textSextets, binarySextets};
-ghost use Rattle.format.specs.Registry.{fixed};
-ghost use Rattle.runs.specs.Plain.{plainRow, limited, plainUnits, groupUnits, plainOf, groupOf, plainAt, groupAt, letterAt, runAt, cleanRun};
+ghost use lib.ListN.{length, getD};
+ghost use Rattle.format.specs.Units.{binarySextets};
+ghost use Rattle.runs.specs.Plain.{plainTable, known4, rowIn, limited, sizedOf, plainOf, groupOf, sizedAt, plainAt, groupAt, letterAt, runAt, sextetsBy, cleanRun};
 
 // The most items of a run that are looked at at once.
 const MOST: usize = 32;
+
+const ROWS: [u16; 128] = [
+    1035,
+    1035,
+    1035,
+    1035,
+    1035,
+    1035,
+    1035,
+    1035,
+    1035,
+    1035,
+    1043,
+    1043,
+    1025,
+    1027,
+    1035,
+    1055,
+    1035,
+    1026,
+    1028,
+    1029,
+    1030,
+    1,
+    1025,
+    4097,
+    4098,
+    4099,
+    1035,
+    0,
+    0,
+    0,
+    0,
+    0,
+    0,
+    0,
+    0,
+    0,
+    0,
+    0,
+    0,
+    0,
+    0,
+    0,
+    0,
+    0,
+    0,
+    0,
+    0,
+    0,
+    0,
+    0,
+    0,
+    0,
+    0,
+    0,
+    0,
+    0,
+    0,
+    0,
+    0,
+    0,
+    0,
+    0,
+    0,
+    0,
+    262,
+    278,
+    278,
+    278,
+    278,
+    278,
+    278,
+    258,
+    278,
+    1,
+    4097,
+    2,
+    4098,
+    3,
+    4099,
+    0,
+    0,
+    0,
+    0,
+    0,
+    0,
+    0,
+    0,
+    0,
+    0,
+    0,
+    0,
+    0,
+    0,
+    0,
+    0,
+    0,
+    0,
+    0,
+    0,
+    0,
+    0,
+    0,
+    0,
+    0,
+    0,
+    0,
+    0,
+    0,
+    0,
+    0,
+    0,
+    0,
+    0,
+    0,
+    0,
+    0,
+    0,
+    0,
+    0,
+    0,
+    0,
+    0,
+    0,
+    0,
+    0,
+    0,
+    0,
+    0,
+];
+
+// Of each one-letter code, then of each code `0` and a letter: the size in units, and 64 times the number below which the sextet
+// behind the code has the code's zero bits.
+pub fn rows() -> [u16; 128]
+    ensures { λ r. ⌜ r ≡ plainTable ⌝ }
+{
+    ROWS
+}
 
 // ---- one unit, as four sextets
 
@@ -19,63 +157,45 @@ fn wide(x: u8) -> usize
     x as usize
 }
 
-// One letter: the size in units and 64 times the limit of the sextet behind it.
-fn one_letter(a: u8) -> usize
-    ensures { λ r. ⌜ (r ≡ plainRow (fixed 1 a)) × (r < 65536) ⌝ }
+fn wide16(x: u16) -> usize
+    ensures { λ r. ⌜ (r ≡ x) × (r < 65536) ⌝ }
 {
-    match a {
-        0 => 1035,
-        1 => 1035,
-        2 => 1035,
-        3 => 1035,
-        4 => 1035,
-        5 => 1035,
-        6 => 1035,
-        7 => 1035,
-        8 => 1035,
-        9 => 1035,
-        10 => 1043,
-        11 => 1043,
-        12 => 1025,
-        13 => 1027,
-        14 => 1035,
-        15 => 1055,
-        16 => 1035,
-        17 => 1026,
-        18 => 1028,
-        19 => 1029,
-        20 => 1030,
-        21 => 1,
-        22 => 1025,
-        23 => 4097,
-        24 => 4098,
-        25 => 4099,
-        26 => 1035,
-        _ => 0,
-    }
+    x as usize
 }
 
-// `0` and a letter.
-fn zero_letter(b: u8) -> usize
-    ensures { λ r. ⌜ (r ≡ plainRow (fixed 2 b)) × (r < 65536) ⌝ }
+fn is_known(a: u8, b: u8, c: u8, d: u8) -> bool
+    ensures { λ r. ⌜ r ≡ known4 a b c d ⌝ }
 {
-    match b {
-        0 => 262,
-        1 => 278,
-        2 => 278,
-        3 => 278,
-        4 => 278,
-        5 => 278,
-        6 => 278,
-        7 => 258,
-        8 => 278,
-        9 => 1,
-        10 => 4097,
-        11 => 2,
-        12 => 4098,
-        13 => 3,
-        14 => 4099,
-        _ => 0,
+    if a < 64 {
+        if b < 64 {
+            if c < 64 {
+                return d < 64;
+            }
+        }
+    }
+    false
+}
+
+fn row_in(rows: &[u16; 128], a: u8, b: u8) -> usize
+    requires { ⌜ b < 64 ⌝ }
+    ensures { λ r. ⌜ (r ≡ rowIn (now (rows .entry)) a b) × (r < 65536) ⌝ }
+{
+    if a < 52 {
+        return wide16(rows[wide(a)]);
+    }
+    if a == 52 {
+        return wide16(rows[64 + wide(b)]);
+    }
+    0
+}
+
+fn sized(rows: &[u16; 128], a: u8, b: u8, c: u8, d: u8) -> usize
+    ensures { λ r. ⌜ r ≡ sizedOf (now (rows .entry)) a b c d ⌝ }
+{
+    if is_known(a, b, c, d) {
+        row_in(rows, a, b) % 64
+    } else {
+        0
     }
 }
 
@@ -85,22 +205,23 @@ fn limited(row: usize, x: u8) -> usize
     if wide(x) < row / 64 { row % 64 } else { 0 }
 }
 
-fn plain_units(a: u8, b: u8, c: u8) -> usize
-    ensures { λ r. ⌜ r ≡ plainUnits a b c ⌝ }
+fn plain(rows: &[u16; 128], a: u8, b: u8, c: u8, d: u8) -> usize
+    ensures { λ r. ⌜ r ≡ plainOf (now (rows .entry)) a b c d ⌝ }
 {
-    if a < 52 {
-        let row = one_letter(a);
-        return limited(row, b);
+    if is_known(a, b, c, d) {
+        let row = row_in(rows, a, b);
+        if a < 52 {
+            limited(row, b)
+        } else {
+            limited(row, c)
+        }
+    } else {
+        0
     }
-    if a == 52 {
-        let row = zero_letter(b);
-        return limited(row, c);
-    }
-    0
 }
 
-fn group_units(a: u8, b: u8, c: u8, d: u8) -> usize
-    ensures { λ r. ⌜ r ≡ groupUnits a b c d ⌝ }
+fn group(a: u8, b: u8, c: u8, d: u8) -> usize
+    ensures { λ r. ⌜ r ≡ groupOf a b c d ⌝ }
 {
     if a != 62 {
         return 0;
@@ -114,85 +235,94 @@ fn group_units(a: u8, b: u8, c: u8, d: u8) -> usize
     if b == 11 {
         return 0;
     }
+    if 63 < c {
+        return 0;
+    }
+    if 63 < d {
+        return 0;
+    }
     1 + (wide(c) * 64 + wide(d))
-}
-
-fn plain(a: u8, b: u8, c: u8, d: u8) -> usize
-    ensures { λ r. ⌜ r ≡ plainOf a b c d ⌝ }
-{
-    if a < 64 {
-        if b < 64 {
-            if c < 64 {
-                if d < 64 {
-                    return plain_units(a, b, c);
-                }
-            }
-        }
-    }
-    0
-}
-
-fn group(a: u8, b: u8, c: u8, d: u8) -> usize
-    ensures { λ r. ⌜ r ≡ groupOf a b c d ⌝ }
-{
-    if a < 64 {
-        if b < 64 {
-            if c < 64 {
-                if d < 64 {
-                    return group_units(a, b, c, d);
-                }
-            }
-        }
-    }
-    0
 }
 
 // ---- a unit of a text
 
-// The size in units of the plain primitive at a unit, or 0.
-pub fn plain_text(s: &[u8], at: usize) -> usize
-    ensures { λ r. ⌜ r ≡ plainAt (textSextets (now (s .entry))) at ⌝ }
+fn value(values: &[u8; 256], s: &[u8], i: usize) -> u8
+    requires { ⌜ i < length (now s) ⌝ }
+    ensures { λ r. ⌜ r ≡ getD (sextetsBy (now (values .entry)) (now (s .entry))) i 0 ⌝ }
+{
+    values[wide(s[i])]
+}
+
+// The size in units of the primitive of a fixed code at a unit, or 0.
+pub fn sized_text(values: &[u8; 256], rows: &[u16; 128], s: &[u8], at: usize) -> usize
+    ensures { λ r. ⌜ r ≡ sizedAt (now (rows .entry)) (sextetsBy (now (values .entry)) (now (s .entry))) at ⌝ }
 {
     if s.len() / 4 <= at {
         return 0;
     }
     let i = 4 * at;
-    let a = alphabet::sextet(s[i]);
-    let b = alphabet::sextet(s[i + 1]);
-    let c = alphabet::sextet(s[i + 2]);
-    let d = alphabet::sextet(s[i + 3]);
-    plain(a, b, c, d)
+    sized(
+        rows,
+        value(values, s, i),
+        value(values, s, i + 1),
+        value(values, s, i + 2),
+        value(values, s, i + 3),
+    )
+}
+
+// The same of a plain one.
+pub fn plain_text(values: &[u8; 256], rows: &[u16; 128], s: &[u8], at: usize) -> usize
+    ensures { λ r. ⌜ r ≡ plainAt (now (rows .entry)) (sextetsBy (now (values .entry)) (now (s .entry))) at ⌝ }
+{
+    if s.len() / 4 <= at {
+        return 0;
+    }
+    let i = 4 * at;
+    plain(
+        rows,
+        value(values, s, i),
+        value(values, s, i + 1),
+        value(values, s, i + 2),
+        value(values, s, i + 3),
+    )
 }
 
 // The size in units of the small group at a unit whose contents are items, or 0.
-pub fn group_text(s: &[u8], at: usize) -> usize
-    ensures { λ r. ⌜ r ≡ groupAt (textSextets (now (s .entry))) at ⌝ }
+pub fn group_text(values: &[u8; 256], s: &[u8], at: usize) -> usize
+    ensures { λ r. ⌜ r ≡ groupAt (sextetsBy (now (values .entry)) (now (s .entry))) at ⌝ }
 {
     if s.len() / 4 <= at {
         return 0;
     }
     let i = 4 * at;
-    let a = alphabet::sextet(s[i]);
-    let b = alphabet::sextet(s[i + 1]);
-    let c = alphabet::sextet(s[i + 2]);
-    let d = alphabet::sextet(s[i + 3]);
-    group(a, b, c, d)
+    group(
+        value(values, s, i),
+        value(values, s, i + 1),
+        value(values, s, i + 2),
+        value(values, s, i + 3),
+    )
 }
 
-// The second sextet of a unit.
-pub fn letter_text(s: &[u8], at: usize) -> u8
-    ensures { λ r. ⌜ r ≡ letterAt (textSextets (now (s .entry))) at ⌝ }
+// The second sextet of a unit: a small group's letter.
+pub fn letter_text(values: &[u8; 256], s: &[u8], at: usize) -> u8
+    ensures { λ r. ⌜ r ≡ letterAt (sextetsBy (now (values .entry)) (now (s .entry))) at ⌝ }
 {
     if s.len() / 4 <= at {
         return 0;
     }
-    let i = 4 * at + 1;
-    alphabet::sextet(s[i])
+    value(values, s, 4 * at + 1)
 }
 
-// How many plain primitives of k units follow one another from a unit on, none of them past another.
-pub fn run_text(s: &[u8], at: usize, stop: usize, k: usize) -> usize
-    ensures { λ r. ⌜ r ≡ runAt (plainAt (textSextets (now (s .entry)))) k stop at ⌝ }
+// How many primitives of k units follow one another from a unit on, none of them past another.
+pub fn sized_run_text(
+    values: &[u8; 256],
+    rows: &[u16; 128],
+    s: &[u8],
+    at: usize,
+    stop: usize,
+    k: usize,
+) -> usize
+    ensures { λ r. ⌜ r ≡ runAt (sizedAt (now (rows .entry)) (sextetsBy (now (values .entry)) (now (s .entry)))) k stop at ⌝ }
 {
     if k == 0 {
         return 0;
@@ -206,7 +336,39 @@ pub fn run_text(s: &[u8], at: usize, stop: usize, k: usize) -> usize
         if stop - i < k {
             return n;
         }
-        if plain_text(s, i) != k {
+        if sized_text(values, rows, s, i) != k {
+            return n;
+        }
+        i = i + k;
+        n = n + 1;
+    }
+    n
+}
+
+// The same of plain ones.
+pub fn plain_run_text(
+    values: &[u8; 256],
+    rows: &[u16; 128],
+    s: &[u8],
+    at: usize,
+    stop: usize,
+    k: usize,
+) -> usize
+    ensures { λ r. ⌜ r ≡ runAt (plainAt (now (rows .entry)) (sextetsBy (now (values .entry)) (now (s .entry)))) k stop at ⌝ }
+{
+    if k == 0 {
+        return 0;
+    }
+    let mut i = at;
+    let mut n = 0;
+    while n < MOST {
+        if stop < i {
+            return n;
+        }
+        if stop - i < k {
+            return n;
+        }
+        if plain_text(values, rows, s, i) != k {
             return n;
         }
         i = i + k;
@@ -216,13 +378,20 @@ pub fn run_text(s: &[u8], at: usize, stop: usize, k: usize) -> usize
 }
 
 // The same where all characters are known: those in front of the first one that is not.
-pub fn clean_run_text(s: &[u8], at: usize, stop: usize, k: usize) -> usize
-    ensures { λ r. ⌜ r ≡ cleanRun (now (s .entry)) k stop at ⌝ }
+pub fn clean_run_text(
+    values: &[u8; 256],
+    rows: &[u16; 128],
+    s: &[u8],
+    at: usize,
+    stop: usize,
+    k: usize,
+) -> usize
+    ensures { λ r. ⌜ r ≡ cleanRun (now (values .entry)) (now (rows .entry)) (now (s .entry)) k stop at ⌝ }
 {
     if s.len() / 4 < stop {
         return 0;
     }
-    let n = run_text(s, at, stop, k);
+    let n = plain_run_text(values, rows, s, at, stop, k);
     if n == 0 {
         return 0;
     }
@@ -235,15 +404,26 @@ pub fn clean_run_text(s: &[u8], at: usize, stop: usize, k: usize) -> usize
 
 // ---- a unit of a binary
 
-pub fn plain_binary(s: &[u8], at: usize) -> usize
-    ensures { λ r. ⌜ r ≡ plainAt (binarySextets (now (s .entry))) at ⌝ }
+pub fn sized_binary(rows: &[u16; 128], s: &[u8], at: usize) -> usize
+    ensures { λ r. ⌜ r ≡ sizedAt (now (rows .entry)) (binarySextets (now (s .entry))) at ⌝ }
 {
     if s.len() / 3 <= at {
         return 0;
     }
     let i = 3 * at;
     let q = units::unpack([s[i], s[i + 1], s[i + 2]]);
-    plain(q[0], q[1], q[2], q[3])
+    sized(rows, q[0], q[1], q[2], q[3])
+}
+
+pub fn plain_binary(rows: &[u16; 128], s: &[u8], at: usize) -> usize
+    ensures { λ r. ⌜ r ≡ plainAt (now (rows .entry)) (binarySextets (now (s .entry))) at ⌝ }
+{
+    if s.len() / 3 <= at {
+        return 0;
+    }
+    let i = 3 * at;
+    let q = units::unpack([s[i], s[i + 1], s[i + 2]]);
+    plain(rows, q[0], q[1], q[2], q[3])
 }
 
 pub fn group_binary(s: &[u8], at: usize) -> usize
@@ -268,8 +448,9 @@ pub fn letter_binary(s: &[u8], at: usize) -> u8
     q[1]
 }
 
-pub fn run_binary(s: &[u8], at: usize, stop: usize, k: usize) -> usize
-    ensures { λ r. ⌜ r ≡ runAt (plainAt (binarySextets (now (s .entry)))) k stop at ⌝ }
+// As in text.
+pub fn sized_run_binary(rows: &[u16; 128], s: &[u8], at: usize, stop: usize, k: usize) -> usize
+    ensures { λ r. ⌜ r ≡ runAt (sizedAt (now (rows .entry)) (binarySextets (now (s .entry)))) k stop at ⌝ }
 {
     if k == 0 {
         return 0;
@@ -283,7 +464,32 @@ pub fn run_binary(s: &[u8], at: usize, stop: usize, k: usize) -> usize
         if stop - i < k {
             return n;
         }
-        if plain_binary(s, i) != k {
+        if sized_binary(rows, s, i) != k {
+            return n;
+        }
+        i = i + k;
+        n = n + 1;
+    }
+    n
+}
+
+// As in text.
+pub fn plain_run_binary(rows: &[u16; 128], s: &[u8], at: usize, stop: usize, k: usize) -> usize
+    ensures { λ r. ⌜ r ≡ runAt (plainAt (now (rows .entry)) (binarySextets (now (s .entry)))) k stop at ⌝ }
+{
+    if k == 0 {
+        return 0;
+    }
+    let mut i = at;
+    let mut n = 0;
+    while n < MOST {
+        if stop < i {
+            return n;
+        }
+        if stop - i < k {
+            return n;
+        }
+        if plain_binary(rows, s, i) != k {
             return n;
         }
         i = i + k;

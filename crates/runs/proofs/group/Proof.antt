@@ -1,41 +1,86 @@
-use borrow.Author.Tests.{lt-ltb, le-ltb}
-use Rattle.runs.specs.Plain.{groupOf}
+use borrow.Author.Tests.{lt-ltb, le-ltb, eq-eqb, ne-eqb}
+use native.Mathlib.Omega.{arith}
+use Rattle.format.specs.Registry.{isGroup, isOpaque}
+use Rattle.runs.specs.Plain.{groupUnits, groupOf}
+use Rattle.runs.proofs.Laws.{no-group}
 use borrow.Author.Needs.{needs}
 use Rattle.runs.proofs.group.Statement.{statement}
 use Rattle.runs.proofs.group.Tie as tie
 use Rattle.runs.proofs.group.Reads as reads
 use Rattle.runs.proofs.group.Lts as lts
-use Rattle.runs.proofs.group_units.Reads as group-units-reads
+use Rattle.runs.proofs.wide.Reads as wide-reads
 
--- src/lib.rt:118:21
-group-units-requires : tie.Need-group-units-requires
-group-units-requires c κs = search needs
-
--- src/lib.rt:118:21
+-- src/lib.rt:223:9
 returns : tie.Need-returns
-unfolding groupOf
-returns c = rw (lt-ltb _ _ (c .before .before .before .before .if1 .taken), lt-ltb _ _ (c .before .before .before .if2 .taken), lt-ltb _ _ (c .before .before .if3 .taken), lt-ltb _ _ (c .before .if4 .taken)) (c .group-units .ensures)
+unfolding groupUnits
+returns c = no-group _ _ _ _ (rw (ne-eqb _ _ (c .if1 .taken)))
 
--- src/lib.rt:111:1
+-- src/lib.rt:226:9
 returns-2 : tie.Need-returns-2
-unfolding groupOf
-returns-2 c = rw (lt-ltb _ _ (c .before .before .before .if1 .taken), lt-ltb _ _ (c .before .before .if2 .taken), lt-ltb _ _ (c .before .if3 .taken), le-ltb _ _ (c .if4 .left))
+unfolding groupUnits isGroup
+returns-2 c = no-group _ _ _ _ (rw (eq-eqb _ _ (c .before .if1 .left), le-ltb (c .before .before .args .b) 29 (omega (arith, c .if2 .taken))))
 
--- src/lib.rt:111:1
+-- src/lib.rt:229:9
 returns-3 : tie.Need-returns-3
-unfolding groupOf
-returns-3 c = rw (lt-ltb _ _ (c .before .before .if1 .taken), lt-ltb _ _ (c .before .if2 .taken), le-ltb _ _ (c .if3 .left))
+unfolding groupUnits isGroup isOpaque
+returns-3 c = no-group _ _ _ _ (rw (eq-eqb _ _ (c .before .before .if1 .left), c .if3 .taken))
 
--- src/lib.rt:111:1
+-- src/lib.rt:232:9
 returns-4 : tie.Need-returns-4
-unfolding groupOf
-returns-4 c = rw (lt-ltb _ _ (c .before .if1 .taken), le-ltb _ _ (c .if2 .left))
+unfolding groupUnits isGroup isOpaque
+returns-4 c = no-group _ _ _ _ (rw (eq-eqb _ _ (c .before .before .before .if1 .left), c .if4 .taken))
 
--- src/lib.rt:111:1
+-- src/lib.rt:235:9
 returns-5 : tie.Need-returns-5
 unfolding groupOf
-returns-5 c = rw (le-ltb _ _ (c .if1 .left))
+returns-5 c = rw (lt-ltb (c .before .before .before .before .before .args .a) 64 (omega (arith, c .before .before .before .before .if1 .left)), lt-ltb (c .before .before .before .before .before .args .b) 64 (omega (arith, c .before .before .before .if2 .left)), le-ltb (c .before .before .before .before .before .args .c) 64 (omega (arith, c .if5 .taken)))
+
+-- src/lib.rt:238:9
+returns-6 : tie.Need-returns-6
+unfolding groupOf
+returns-6 c = rw (lt-ltb (c .before .before .before .before .before .before .args .a) 64 (omega (arith, c .before .before .before .before .before .if1 .left)), lt-ltb (c .before .before .before .before .before .before .args .b) 64 (omega (arith, c .before .before .before .before .if2 .left)), lt-ltb (c .before .before .before .before .before .before .args .c) 64 (omega (arith, c .before .if5 .left)), le-ltb (c .before .before .before .before .before .before .args .d) 64 (omega (arith, c .if6 .taken)))
+
+-- src/lib.rt:240:10
+wide-requires : tie.Need-wide-requires
+wide-requires c κs = search needs
+
+-- src/lib.rt:240:10
+mul-result : tie.Need-mul-result
+mul-result c = search needs
+
+-- src/lib.rt:240:25
+wide-requires-2 : tie.Need-wide-requires-2
+wide-requires-2 c κs = search needs
+
+-- src/lib.rt:240:10
+add-result : tie.Need-add-result
+add-result c = search needs
+
+-- src/lib.rt:240:5
+add-result-2 : tie.Need-add-result-2
+add-result-2 c = search needs
+
+-- src/lib.rt:219:1
+returns-7 : tie.Need-returns-7
+unfolding groupOf groupUnits isGroup isOpaque
+returns-7 c =
+    let b = c .before .before .before .before .before .before .before .before .args in
+    rw (lt-ltb (b .a) 64 (omega (arith, c .before .before .before .before .before .before .before .if1 .left)), lt-ltb (b .b) 64 (omega (arith, c .before .before .before .before .before .before .if2 .left)), lt-ltb (b .c) 64 (omega (arith, c .before .before .before .if5 .left)), lt-ltb (b .d) 64 (omega (arith, c .before .before .if6 .left)), eq-eqb _ _ (c .before .before .before .before .before .before .before .if1 .left), lt-ltb (b .b) 29 (omega (arith, c .before .before .before .before .before .before .if2 .left)), ne-eqb _ _ (c .before .before .before .before .before .if3 .left), ne-eqb _ _ (c .before .before .before .before .if4 .left))
+    (omega (arith, c .wide2 .ensures, c .before .wide .ensures))
 
 pub group-spec : {M : Type 1} → statement M
 group-spec =
-    tie.close (tie.spec group-units-requires returns returns-2 returns-3 returns-4 returns-5)
+    tie.close
+    (tie.spec
+    returns
+    returns-2
+    returns-3
+    returns-4
+    returns-5
+    returns-6
+    wide-requires
+    mul-result
+    wide-requires-2
+    add-result
+    add-result-2
+    returns-7)

@@ -9,59 +9,59 @@ use Rattle.runs.proofs.group_binary.Lts as lts
 use Rattle.runs.proofs.group.Reads as group-reads
 use Rattle.units.proofs.unpack.Reads as unpack-reads
 
--- src/lib.rt:211:9
+-- src/lib.rt:430:9
 returns : tie.Need-returns
 returns c = binary-past groupOf _ _ (c .if1 .taken)
 
--- src/lib.rt:213:13
+-- src/lib.rt:432:13
 mul-i : tie.Need-mul-i
 mul-i c = search needs
 
--- src/lib.rt:214:28
+-- src/lib.rt:433:28
 shared-slice-read-group : tie.Need-shared-slice-read-group
 shared-slice-read-group c = search needs
 
--- src/lib.rt:214:36
+-- src/lib.rt:433:36
 add-group : tie.Need-add-group
 add-group c = search needs
 
--- src/lib.rt:214:34
+-- src/lib.rt:433:34
 shared-slice-read-group-2 : tie.Need-shared-slice-read-group-2
 shared-slice-read-group-2 c = search needs
 
--- src/lib.rt:214:46
+-- src/lib.rt:433:46
 add-group-2 : tie.Need-add-group-2
 add-group-2 c = search needs
 
--- src/lib.rt:214:44
+-- src/lib.rt:433:44
 shared-slice-read-group-3 : tie.Need-shared-slice-read-group-3
 shared-slice-read-group-3 c = search needs
 
--- src/lib.rt:214:13
+-- src/lib.rt:433:13
 unpack-requires : tie.Need-unpack-requires
 unpack-requires c κs = search needs
 
--- src/lib.rt:215:11
+-- src/lib.rt:434:11
 array-read-group : tie.Need-array-read-group
 array-read-group c = search needs
 
--- src/lib.rt:215:17
+-- src/lib.rt:434:17
 array-read-group-2 : tie.Need-array-read-group-2
 array-read-group-2 c = search needs
 
--- src/lib.rt:215:23
+-- src/lib.rt:434:23
 array-read-group-3 : tie.Need-array-read-group-3
 array-read-group-3 c = search needs
 
--- src/lib.rt:215:29
+-- src/lib.rt:434:29
 array-read-group-4 : tie.Need-array-read-group-4
 array-read-group-4 c = search needs
 
--- src/lib.rt:215:5
+-- src/lib.rt:434:5
 group-requires : tie.Need-group-requires
 group-requires c κs = search needs
 
--- src/lib.rt:207:1
+-- src/lib.rt:426:1
 returns-2 : tie.Need-returns-2
 returns-2 c = c .group .ensures ∙ binary-unit groupOf _ _ (search needs) _ (c .before .unpack .ensures)
 

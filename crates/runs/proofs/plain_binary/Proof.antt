@@ -9,61 +9,61 @@ use Rattle.runs.proofs.plain_binary.Lts as lts
 use Rattle.runs.proofs.plain.Reads as plain-reads
 use Rattle.units.proofs.unpack.Reads as unpack-reads
 
--- src/lib.rt:200:9
+-- src/lib.rt:419:9
 returns : tie.Need-returns
-returns c = binary-past plainOf _ _ (c .if1 .taken)
+returns c = binary-past (plainOf ((c .before .before .args) .rows .now)) _ _ (c .if1 .taken)
 
--- src/lib.rt:202:13
+-- src/lib.rt:421:13
 mul-i : tie.Need-mul-i
 mul-i c = search needs
 
--- src/lib.rt:203:28
+-- src/lib.rt:422:28
 shared-slice-read-plain : tie.Need-shared-slice-read-plain
 shared-slice-read-plain c = search needs
 
--- src/lib.rt:203:36
+-- src/lib.rt:422:36
 add-plain : tie.Need-add-plain
 add-plain c = search needs
 
--- src/lib.rt:203:34
+-- src/lib.rt:422:34
 shared-slice-read-plain-2 : tie.Need-shared-slice-read-plain-2
 shared-slice-read-plain-2 c = search needs
 
--- src/lib.rt:203:46
+-- src/lib.rt:422:46
 add-plain-2 : tie.Need-add-plain-2
 add-plain-2 c = search needs
 
--- src/lib.rt:203:44
+-- src/lib.rt:422:44
 shared-slice-read-plain-3 : tie.Need-shared-slice-read-plain-3
 shared-slice-read-plain-3 c = search needs
 
--- src/lib.rt:203:13
+-- src/lib.rt:422:13
 unpack-requires : tie.Need-unpack-requires
 unpack-requires c κs = search needs
 
--- src/lib.rt:204:11
+-- src/lib.rt:423:17
 array-read-plain : tie.Need-array-read-plain
 array-read-plain c = search needs
 
--- src/lib.rt:204:17
+-- src/lib.rt:423:23
 array-read-plain-2 : tie.Need-array-read-plain-2
 array-read-plain-2 c = search needs
 
--- src/lib.rt:204:23
+-- src/lib.rt:423:29
 array-read-plain-3 : tie.Need-array-read-plain-3
 array-read-plain-3 c = search needs
 
--- src/lib.rt:204:29
+-- src/lib.rt:423:35
 array-read-plain-4 : tie.Need-array-read-plain-4
 array-read-plain-4 c = search needs
 
--- src/lib.rt:204:5
+-- src/lib.rt:423:5
 plain-requires : tie.Need-plain-requires
 plain-requires c κs = search needs
 
--- src/lib.rt:196:1
+-- src/lib.rt:415:1
 returns-2 : tie.Need-returns-2
-returns-2 c = c .plain .ensures ∙ binary-unit plainOf _ _ (search needs) _ (c .before .unpack .ensures)
+returns-2 c = c .plain .ensures ∙ binary-unit (plainOf ((c .before .before .before .before .before .before .before .args) .rows .now)) _ _ (search needs) _ (c .before .unpack .ensures)
 
 pub plain-binary-spec : {M : Type 1} → statement M
 plain-binary-spec =

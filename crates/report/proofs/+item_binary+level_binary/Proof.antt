@@ -4,60 +4,60 @@ use native.Mathlib.Omega.{arith}
 use lib.ListN.{length}
 use borrow.Author.Needs.{needs}
 use Rattle.format.specs.Units.{binarySextets}
-use Rattle.format.specs.Registry.{isOverrideable}
 use Rattle.laws.specs.Levels.{level, level-end, part-length}
+use Rattle.runs.specs.Plain.{plainTable, plainAt}
 use Rattle.runs.specs.Levels.{tail-level}
 use Rattle.runs.specs.Runs.{run-fits, run-moves, run-level, binary-run}
 use Rattle.contents.specs.Next.{Judged}
 use Rattle.contents.proofs.Laws.{binary-part, length-binary, next-near, judged-refused, judged-sizes, judged-levels, judged-plain, judged-entered, tail-is, marked}
 use Prim.Native.Nat.{ℕ, _<_}
 use borrow.Fn.Kinds.{In}
 use borrow.Fn.PlainCycle.{Measures, is, falls, and}
-use Rattle.contents.proofs.item_binary.Reads as item-binary
-use Rattle.contents.proofs.item_binary.Kinds as item-binary-kinds
-use Rattle.contents.proofs.+item_binary+level_binary.Lts-item_binary as item-binary-lts
-use Rattle.contents.proofs.level_binary.Reads as level-binary
-use Rattle.contents.proofs.level_binary.Kinds as level-binary-kinds
-use Rattle.contents.proofs.+item_binary+level_binary.Lts-level_binary as level-binary-lts
+use Rattle.report.proofs.item_binary.Reads as item-binary
+use Rattle.report.proofs.item_binary.Kinds as item-binary-kinds
+use Rattle.report.proofs.+item_binary+level_binary.Lts-item_binary as item-binary-lts
+use Rattle.report.proofs.level_binary.Reads as level-binary
+use Rattle.report.proofs.level_binary.Kinds as level-binary-kinds
+use Rattle.report.proofs.+item_binary+level_binary.Lts-level_binary as level-binary-lts
 use Rattle.contents.proofs.is_entered.Reads as is-entered-reads
 use Rattle.contents.proofs.is_ruled.Reads as is-ruled-reads
 use Rattle.contents.proofs.is_tail.Reads as is-tail-reads
 use Rattle.contents.proofs.next_binary.Reads as next-binary-reads
 use Rattle.judging.proofs.told.Reads as told-reads
 use Rattle.runs.proofs.group_binary.Reads as group-binary-reads
 use Rattle.runs.proofs.letter_binary.Reads as letter-binary-reads
 use Rattle.runs.proofs.plain_binary.Reads as plain-binary-reads
-use Rattle.runs.proofs.run_binary.Reads as run-binary-reads
-use Rattle.contents.proofs.+item_binary+level_binary.{statement}
-use Rattle.contents.proofs.+item_binary+level_binary.Tie.{close}
+use Rattle.runs.proofs.plain_run_binary.Reads as plain-run-binary-reads
+use Rattle.report.proofs.+item_binary+level_binary.{statement}
+use Rattle.report.proofs.+item_binary+level_binary.Tie.{close}
 
-abbrev μ-item-binary : Measures 1 item-binary-kinds.ps ℕ
-μ-item-binary κs a = 2 * a .1 .0
+abbrev μ-item-binary : Measures 2 item-binary-kinds.ps ℕ
+μ-item-binary κs a = 2 * a .1 .1 .0
 
-abbrev μ-level-binary : Measures 1 level-binary-kinds.ps ℕ
-μ-level-binary κs a = 2 * a .1 .0 + 1
+abbrev μ-level-binary : Measures 2 level-binary-kinds.ps ℕ
+μ-level-binary κs a = 2 * a .1 .1 .0 + 1
 
-abbrev item-binary-at : ℕ → In 1 item-binary-kinds.ps
+abbrev item-binary-at : ℕ → In 2 item-binary-kinds.ps
 item-binary-at t =
-    and 1 item-binary-kinds.ps (is 1 item-binary-kinds.ps μ-item-binary t) item-binary.Pre
+    and 2 item-binary-kinds.ps (is 2 item-binary-kinds.ps μ-item-binary t) item-binary.Pre
 
-abbrev item-binary-below : ℕ → In 1 item-binary-kinds.ps
+abbrev item-binary-below : ℕ → In 2 item-binary-kinds.ps
 item-binary-below t =
-    and 1 item-binary-kinds.ps (falls 1 item-binary-kinds.ps _<_ μ-item-binary t) item-binary.Pre
+    and 2 item-binary-kinds.ps (falls 2 item-binary-kinds.ps _<_ μ-item-binary t) item-binary.Pre
 
-abbrev level-binary-at : ℕ → In 1 level-binary-kinds.ps
+abbrev level-binary-at : ℕ → In 2 level-binary-kinds.ps
 level-binary-at t =
-    and 1 level-binary-kinds.ps (is 1 level-binary-kinds.ps μ-level-binary t) level-binary.Pre
+    and 2 level-binary-kinds.ps (is 2 level-binary-kinds.ps μ-level-binary t) level-binary.Pre
 
-abbrev level-binary-below : ℕ → In 1 level-binary-kinds.ps
+abbrev level-binary-below : ℕ → In 2 level-binary-kinds.ps
 level-binary-below t =
     and
-    1
+    2
     level-binary-kinds.ps
-    (falls 1 level-binary-kinds.ps _<_ μ-level-binary t)
+    (falls 2 level-binary-kinds.ps _<_ μ-level-binary t)
     level-binary.Pre
 
--- src/lib.rt:164:16
+-- src/lib.rt:335:16
 item-binary-mul-from : (t : ℕ) → item-binary-lts.Need-mul-from (
   next-binary-reads.Asked,
   next-binary-reads.Learnt,
@@ -72,7 +72,7 @@ item-binary-mul-from : (t : ℕ) → item-binary-lts.Need-mul-from (
 ) (item-binary-at t) item-binary.Post
 item-binary-mul-from t c = search needs
 
--- src/lib.rt:165:14
+-- src/lib.rt:336:14
 item-binary-mul-to : (t : ℕ) → item-binary-lts.Need-mul-to (
   next-binary-reads.Asked,
   next-binary-reads.Learnt,
@@ -87,7 +87,7 @@ item-binary-mul-to : (t : ℕ) → item-binary-lts.Need-mul-to (
 ) (item-binary-at t) item-binary.Post
 item-binary-mul-to t c = search needs
 
--- src/lib.rt:166:28
+-- src/lib.rt:337:38
 item-binary-sub-next-binary : (t : ℕ) → item-binary-lts.Need-sub-next-binary (
   next-binary-reads.Asked,
   next-binary-reads.Learnt,
@@ -102,7 +102,7 @@ item-binary-sub-next-binary : (t : ℕ) → item-binary-lts.Need-sub-next-binary
 ) (item-binary-at t) item-binary.Post
 item-binary-sub-next-binary t c = search needs
 
--- src/lib.rt:166:28
+-- src/lib.rt:337:38
 item-binary-part-next-binary-start : (t : ℕ) → item-binary-lts.Need-part-next-binary-start (
   next-binary-reads.Asked,
   next-binary-reads.Learnt,
@@ -117,7 +117,7 @@ item-binary-part-next-binary-start : (t : ℕ) → item-binary-lts.Need-part-nex
 ) (item-binary-at t) item-binary.Post
 item-binary-part-next-binary-start t c = search needs
 
--- src/lib.rt:166:28
+-- src/lib.rt:337:38
 item-binary-part-next-binary-end : (t : ℕ) → item-binary-lts.Need-part-next-binary-end (
   next-binary-reads.Asked,
   next-binary-reads.Learnt,
@@ -132,7 +132,7 @@ item-binary-part-next-binary-end : (t : ℕ) → item-binary-lts.Need-part-next-
 ) (item-binary-at t) item-binary.Post
 item-binary-part-next-binary-end t c = search needs
 
--- src/lib.rt:166:9
+-- src/lib.rt:337:9
 item-binary-next-binary-requires : (t : ℕ) → item-binary-lts.Need-next-binary-requires (
   next-binary-reads.Asked,
   next-binary-reads.Learnt,
@@ -147,7 +147,7 @@ item-binary-next-binary-requires : (t : ℕ) → item-binary-lts.Need-next-binar
 ) (item-binary-at t) item-binary.Post
 item-binary-next-binary-requires t c κs = search needs
 
--- src/lib.rt:168:28
+-- src/lib.rt:339:28
 item-binary-enum-known-next : (t : ℕ) → item-binary-lts.Need-enum-known-next (
   next-binary-reads.Asked,
   next-binary-reads.Learnt,
@@ -162,8 +162,8 @@ item-binary-enum-known-next : (t : ℕ) → item-binary-lts.Need-enum-known-next
 ) (item-binary-at t) item-binary.Post
 item-binary-enum-known-next t c = search needs
 
--- src/lib.rt:170:20
-item-binary-mul-t20 : (t : ℕ) → item-binary-lts.Need-mul-t20 (
+-- src/lib.rt:341:20
+item-binary-mul-t22 : (t : ℕ) → item-binary-lts.Need-mul-t22 (
   next-binary-reads.Asked,
   next-binary-reads.Learnt,
   is-entered-reads.Asked,
@@ -175,10 +175,10 @@ item-binary-mul-t20 : (t : ℕ) → item-binary-lts.Need-mul-t20 (
   told-reads.Asked,
   told-reads.Learnt,
 ) (item-binary-at t) item-binary.Post
-item-binary-mul-t20 t c = search needs
+item-binary-mul-t22 t c = search needs
 
--- src/lib.rt:170:20
-item-binary-add-t21 : (t : ℕ) → item-binary-lts.Need-add-t21 (
+-- src/lib.rt:341:20
+item-binary-add-t23 : (t : ℕ) → item-binary-lts.Need-add-t23 (
   next-binary-reads.Asked,
   next-binary-reads.Learnt,
   is-entered-reads.Asked,
@@ -190,14 +190,14 @@ item-binary-add-t21 : (t : ℕ) → item-binary-lts.Need-add-t21 (
   told-reads.Asked,
   told-reads.Learnt,
 ) (item-binary-at t) item-binary.Post
-item-binary-add-t21 t c =
+item-binary-add-t23 t c =
     let a = c .before .before .before .before .before .before .args in
     let q = c .before .before .before .before .before .before .pre .1 in
-    let long : 4 * a .stop ≤ length (binarySextets (a .s .now)) = omega (arith, length-binary (a .s .now), q .0) in
-    let e = rw (binary-part (a .s .now) (a .at) (a .stop) (omega arith) (omega (arith, q .0))) at (c .before .before .before .next-binary .ensures) in
+    let long : 4 * a .stop ≤ length (binarySextets (a .s .now)) = omega (arith, length-binary (a .s .now), q .1) in
+    let e = rw (binary-part (a .s .now) (a .at) (a .stop) (omega (arith, q .2)) (omega (arith, q .1))) at (c .before .before .before .next-binary .ensures) in
     omega (arith, next-near _ _ _ _ _ (sym e ∙ c .before .next .given .1), part-length (binarySextets (a .s .now)) (a .at) (a .stop) long, length-binary (a .s .now))
 
--- src/lib.rt:172:24
+-- src/lib.rt:343:24
 item-binary-enum-known-next-2 : (t : ℕ) → item-binary-lts.Need-enum-known-next-2 (
   next-binary-reads.Asked,
   next-binary-reads.Learnt,
@@ -212,7 +212,7 @@ item-binary-enum-known-next-2 : (t : ℕ) → item-binary-lts.Need-enum-known-ne
 ) (item-binary-at t) item-binary.Post
 item-binary-enum-known-next-2 t c = search needs
 
--- src/lib.rt:173:16
+-- src/lib.rt:344:16
 item-binary-is-entered-requires : (t : ℕ) → item-binary-lts.Need-is-entered-requires (
   next-binary-reads.Asked,
   next-binary-reads.Learnt,
@@ -227,27 +227,7 @@ item-binary-is-entered-requires : (t : ℕ) → item-binary-lts.Need-is-entered-
 ) (item-binary-at t) item-binary.Post
 item-binary-is-entered-requires t c κs = search needs
 
--- src/lib.rt:174:41
-item-binary-sub-level-binary : (t : ℕ) → item-binary-lts.Need-sub-level-binary (
-  next-binary-reads.Asked,
-  next-binary-reads.Learnt,
-  is-entered-reads.Asked,
-  is-entered-reads.Learnt,
-  is-ruled-reads.Asked,
-  is-ruled-reads.Learnt,
-  level-binary-below t,
-  level-binary.Post,
-  told-reads.Asked,
-  told-reads.Learnt,
-) (item-binary-at t) item-binary.Post
-item-binary-sub-level-binary t c =
-    let a = c .before .before .before .before .before .before .before .before .args in
-    let q = c .before .before .before .before .before .before .before .before .pre .1 in
-    let long : 4 * a .stop ≤ length (binarySextets (a .s .now)) = omega (arith, length-binary (a .s .now), q .0) in
-    let e = rw (binary-part (a .s .now) (a .at) (a .stop) (omega arith) (omega (arith, q .0))) at (c .before .before .before .before .before .next-binary .ensures) in
-    omega (arith, judged-levels (binarySextets (a .s .now)) (a .levels) (a .first) (a .at) (a .stop) long (omega arith) _ _ _ _ e (c .before .before .before .next2 .given .1) (sym (c .before .is-entered .ensures) ∙ c .if1 .taken))
-
--- src/lib.rt:174:53
+-- src/lib.rt:345:21
 item-binary-is-ruled-requires : (t : ℕ) → item-binary-lts.Need-is-ruled-requires (
   next-binary-reads.Asked,
   next-binary-reads.Learnt,
@@ -262,7 +242,27 @@ item-binary-is-ruled-requires : (t : ℕ) → item-binary-lts.Need-is-ruled-requ
 ) (item-binary-at t) item-binary.Post
 item-binary-is-ruled-requires t c κs = search needs
 
--- src/lib.rt:174:69
+-- src/lib.rt:346:47
+item-binary-sub-level-binary : (t : ℕ) → item-binary-lts.Need-sub-level-binary (
+  next-binary-reads.Asked,
+  next-binary-reads.Learnt,
+  is-entered-reads.Asked,
+  is-entered-reads.Learnt,
+  is-ruled-reads.Asked,
+  is-ruled-reads.Learnt,
+  level-binary-below t,
+  level-binary.Post,
+  told-reads.Asked,
+  told-reads.Learnt,
+) (item-binary-at t) item-binary.Post
+item-binary-sub-level-binary t c =
+    let a = c .before .before .before .before .before .before .before .before .before .args in
+    let q = c .before .before .before .before .before .before .before .before .before .pre .1 in
+    let long : 4 * a .stop ≤ length (binarySextets (a .s .now)) = omega (arith, length-binary (a .s .now), q .1) in
+    let e = rw (binary-part (a .s .now) (a .at) (a .stop) (omega (arith, q .2)) (omega (arith, q .1))) at (c .before .before .before .before .before .before .next-binary .ensures) in
+    omega (arith, judged-levels (binarySextets (a .s .now)) (a .levels) (a .first) (a .at) (a .stop) long (q .2) _ _ _ _ e (c .before .before .before .before .next2 .given .1) (sym (c .before .before .is-entered .ensures) ∙ c .before .if1 .taken))
+
+-- src/lib.rt:346:66
 item-binary-add-level-binary : (t : ℕ) → item-binary-lts.Need-add-level-binary (
   next-binary-reads.Asked,
   next-binary-reads.Learnt,
@@ -278,11 +278,11 @@ item-binary-add-level-binary : (t : ℕ) → item-binary-lts.Need-add-level-bina
 item-binary-add-level-binary t c =
     let a = c .before .before .before .before .before .before .before .before .before .args in
     let q = c .before .before .before .before .before .before .before .before .before .pre .1 in
-    let long : 4 * a .stop ≤ length (binarySextets (a .s .now)) = omega (arith, length-binary (a .s .now), q .0) in
-    let e = rw (binary-part (a .s .now) (a .at) (a .stop) (omega arith) (omega (arith, q .0))) at (c .before .before .before .before .before .before .next-binary .ensures) in
-    omega (arith, judged-sizes (binarySextets (a .s .now)) (a .levels) (a .first) (a .at) (a .stop) long (omega arith) _ _ _ _ e (c .before .before .before .before .next2 .given .1))
+    let long : 4 * a .stop ≤ length (binarySextets (a .s .now)) = omega (arith, length-binary (a .s .now), q .1) in
+    let e = rw (binary-part (a .s .now) (a .at) (a .stop) (omega (arith, q .2)) (omega (arith, q .1))) at (c .before .before .before .before .before .before .next-binary .ensures) in
+    omega (arith, judged-sizes (binarySextets (a .s .now)) (a .levels) (a .first) (a .at) (a .stop) long (q .2) _ _ _ _ e (c .before .before .before .before .next2 .given .1))
 
--- src/lib.rt:174:80
+-- src/lib.rt:346:77
 item-binary-add-level-binary-2 : (t : ℕ) → item-binary-lts.Need-add-level-binary-2 (
   next-binary-reads.Asked,
   next-binary-reads.Learnt,
@@ -298,11 +298,11 @@ item-binary-add-level-binary-2 : (t : ℕ) → item-binary-lts.Need-add-level-bi
 item-binary-add-level-binary-2 t c =
     let a = c .before .before .before .before .before .before .before .before .before .args in
     let q = c .before .before .before .before .before .before .before .before .before .pre .1 in
-    let long : 4 * a .stop ≤ length (binarySextets (a .s .now)) = omega (arith, length-binary (a .s .now), q .0) in
-    let e = rw (binary-part (a .s .now) (a .at) (a .stop) (omega arith) (omega (arith, q .0))) at (c .before .before .before .before .before .before .next-binary .ensures) in
-    omega (arith, judged-sizes (binarySextets (a .s .now)) (a .levels) (a .first) (a .at) (a .stop) long (omega arith) _ _ _ _ e (c .before .before .before .before .next2 .given .1))
+    let long : 4 * a .stop ≤ length (binarySextets (a .s .now)) = omega (arith, length-binary (a .s .now), q .1) in
+    let e = rw (binary-part (a .s .now) (a .at) (a .stop) (omega (arith, q .2)) (omega (arith, q .1))) at (c .before .before .before .before .before .before .next-binary .ensures) in
+    omega (arith, judged-sizes (binarySextets (a .s .now)) (a .levels) (a .first) (a .at) (a .stop) long (q .2) _ _ _ _ e (c .before .before .before .before .next2 .given .1))
 
--- src/lib.rt:174:21
+-- src/lib.rt:346:21
 item-binary-level-binary-requires : (t : ℕ) → item-binary-lts.Need-level-binary-requires (
   next-binary-reads.Asked,
   next-binary-reads.Learnt,
@@ -318,13 +318,13 @@ item-binary-level-binary-requires : (t : ℕ) → item-binary-lts.Need-level-bin
 item-binary-level-binary-requires t c κs =
     let a = c .before .before .before .before .before .before .before .before .before .args in
     let q = c .before .before .before .before .before .before .before .before .before .pre .1 in
-    let long : 4 * a .stop ≤ length (binarySextets (a .s .now)) = omega (arith, length-binary (a .s .now), q .0) in
-    let e = rw (binary-part (a .s .now) (a .at) (a .stop) (omega arith) (omega (arith, q .0))) at (c .before .before .before .before .before .before .next-binary .ensures) in
-    let z = judged-sizes (binarySextets (a .s .now)) (a .levels) (a .first) (a .at) (a .stop) long (omega arith) _ _ _ _ e (c .before .before .before .before .next2 .given .1) in
-    let p = judged-levels (binarySextets (a .s .now)) (a .levels) (a .first) (a .at) (a .stop) long (omega arith) _ _ _ _ e (c .before .before .before .before .next2 .given .1) (sym (c .before .before .is-entered .ensures) ∙ c .before .if1 .taken) in
-    (omega (arith, p, c .before .before .before .before .before .before .before .before .before .pre .0), (omega (arith, z .2, q .0), omega (arith, z .1), q .2))
+    let long : 4 * a .stop ≤ length (binarySextets (a .s .now)) = omega (arith, length-binary (a .s .now), q .1) in
+    let e = rw (binary-part (a .s .now) (a .at) (a .stop) (omega (arith, q .2)) (omega (arith, q .1))) at (c .before .before .before .before .before .before .next-binary .ensures) in
+    let z = judged-sizes (binarySextets (a .s .now)) (a .levels) (a .first) (a .at) (a .stop) long (q .2) _ _ _ _ e (c .before .before .before .before .next2 .given .1) in
+    let p = judged-levels (binarySextets (a .s .now)) (a .levels) (a .first) (a .at) (a .stop) long (q .2) _ _ _ _ e (c .before .before .before .before .next2 .given .1) (sym (c .before .before .is-entered .ensures) ∙ c .before .if1 .taken) in
+    (omega (arith, p, c .before .before .before .before .before .before .before .before .before .pre .0), (q .0, omega (arith, z .2, q .1), omega (arith, z .1), q .3))
 
--- src/lib.rt:175:17
+-- src/lib.rt:347:17
 item-binary-told-requires : (t : ℕ) → item-binary-lts.Need-told-requires (
   next-binary-reads.Asked,
   next-binary-reads.Learnt,
@@ -339,7 +339,7 @@ item-binary-told-requires : (t : ℕ) → item-binary-lts.Need-told-requires (
 ) (item-binary-at t) item-binary.Post
 item-binary-told-requires t c κs = search needs
 
--- src/lib.rt:160:1
+-- src/lib.rt:324:1
 item-binary-returns : (t : ℕ) → item-binary-lts.Need-returns (
   next-binary-reads.Asked,
   next-binary-reads.Learnt,
@@ -355,11 +355,11 @@ item-binary-returns : (t : ℕ) → item-binary-lts.Need-returns (
 item-binary-returns t c =
     let a = c .before .before .before .before .before .before .args in
     let q = c .before .before .before .before .before .before .pre .1 in
-    let long : 4 * a .stop ≤ length (binarySextets (a .s .now)) = omega (arith, length-binary (a .s .now), q .0) in
-    let e = rw (binary-part (a .s .now) (a .at) (a .stop) (omega arith) (omega (arith, q .0))) at (c .before .before .before .next-binary .ensures) in
-    judged-refused (binarySextets (a .s .now)) (a .levels) (a .first) (a .at) (a .stop) long (omega arith) _ _ (sym e ∙ c .before .next .given .1)
+    let long : 4 * a .stop ≤ length (binarySextets (a .s .now)) = omega (arith, length-binary (a .s .now), q .1) in
+    let e = rw (binary-part (a .s .now) (a .at) (a .stop) (omega (arith, q .2)) (omega (arith, q .1))) at (c .before .before .before .next-binary .ensures) in
+    judged-refused (binarySextets (a .s .now)) (a .levels) (a .first) (a .at) (a .stop) long (q .2) _ _ (sym e ∙ c .before .next .given .1)
 
--- src/lib.rt:160:1
+-- src/lib.rt:324:1
 item-binary-returns-2 : (t : ℕ) → item-binary-lts.Need-returns-2 (
   next-binary-reads.Asked,
   next-binary-reads.Learnt,
@@ -375,11 +375,11 @@ item-binary-returns-2 : (t : ℕ) → item-binary-lts.Need-returns-2 (
 item-binary-returns-2 t c =
     let a = c .before .before .before .before .before .before .before .before .before .before .before .args in
     let q = c .before .before .before .before .before .before .before .before .before .before .before .pre .1 in
-    let long : 4 * a .stop ≤ length (binarySextets (a .s .now)) = omega (arith, length-binary (a .s .now), q .0) in
-    let e = rw (binary-part (a .s .now) (a .at) (a .stop) (omega arith) (omega (arith, q .0))) at (c .before .before .before .before .before .before .before .before .next-binary .ensures) in
-    judged-entered (binarySextets (a .s .now)) (a .levels) (a .first) (a .at) (a .stop) long (omega arith) _ _ _ _ e (c .before .before .before .before .before .before .next2 .given .1) (sym (c .before .before .before .before .is-entered .ensures) ∙ c .before .before .before .if1 .taken) _ (rw (c .before .before .is-ruled .ensures) at (c .before .level-binary .ensures)) _ (c .told .ensures)
+    let long : 4 * a .stop ≤ length (binarySextets (a .s .now)) = omega (arith, length-binary (a .s .now), q .1) in
+    let e = rw (binary-part (a .s .now) (a .at) (a .stop) (omega (arith, q .2)) (omega (arith, q .1))) at (c .before .before .before .before .before .before .before .before .next-binary .ensures) in
+    judged-entered (binarySextets (a .s .now)) (a .levels) (a .first) (a .at) (a .stop) long (q .2) _ _ _ _ e (c .before .before .before .before .before .before .next2 .given .1) (sym (c .before .before .before .before .is-entered .ensures) ∙ c .before .before .before .if1 .taken) _ (rw (c .before .before .is-ruled .ensures) at (c .before .level-binary .ensures)) _ (c .told .ensures)
 
--- src/lib.rt:160:1
+-- src/lib.rt:324:1
 item-binary-returns-3 : (t : ℕ) → item-binary-lts.Need-returns-3 (
   next-binary-reads.Asked,
   next-binary-reads.Learnt,
@@ -395,469 +395,474 @@ item-binary-returns-3 : (t : ℕ) → item-binary-lts.Need-returns-3 (
 item-binary-returns-3 t c =
     let a = c .before .before .before .before .before .before .before .before .args in
     let q = c .before .before .before .before .before .before .before .before .pre .1 in
-    let long : 4 * a .stop ≤ length (binarySextets (a .s .now)) = omega (arith, length-binary (a .s .now), q .0) in
-    let e = rw (binary-part (a .s .now) (a .at) (a .stop) (omega arith) (omega (arith, q .0))) at (c .before .before .before .before .before .next-binary .ensures) in
-    judged-plain (binarySextets (a .s .now)) (a .levels) (a .first) (a .at) (a .stop) long (omega arith) _ _ _ _ e (c .before .before .before .next2 .given .1) (sym (c .before .is-entered .ensures) ∙ c .if1 .left)
+    let long : 4 * a .stop ≤ length (binarySextets (a .s .now)) = omega (arith, length-binary (a .s .now), q .1) in
+    let e = rw (binary-part (a .s .now) (a .at) (a .stop) (omega (arith, q .2)) (omega (arith, q .1))) at (c .before .before .before .before .before .next-binary .ensures) in
+    judged-plain (binarySextets (a .s .now)) (a .levels) (a .first) (a .at) (a .stop) long (q .2) _ _ _ _ e (c .before .before .before .next2 .given .1) (sym (c .before .is-entered .ensures) ∙ c .if1 .left)
 
 abbrev level-binary-Inv-loop : level-binary-lts.InvT-loop
-level-binary-Inv-loop s levels first at stop i₀ ruled₀ left₀ i ruled left = (i ≤ stop) × (left ≤ levels) × (level (binarySextets s) levels first at stop ≡ level (binarySextets s) left ruled i stop)
+level-binary-Inv-loop rows s levels first at stop i₀ ruled₀ left₀ i ruled left = (i ≤ stop) × (left ≤ levels) × (level (binarySextets s) levels first at stop ≡ level (binarySextets s) left ruled i stop)
 
 abbrev level-binary-μ-loop : level-binary-lts.MeasureT-loop
-level-binary-μ-loop s levels first at stop i₀ ruled₀ left₀ i ruled left = stop - i
+level-binary-μ-loop rows s levels first at stop i₀ ruled₀ left₀ i ruled left = stop - i
 
--- src/lib.rt:192:5
+-- src/lib.rt:371:5
 level-binary-loop-holds : (t : ℕ) → level-binary-lts.Need-loop-holds (
-  plain-binary-reads.Asked,
-  plain-binary-reads.Learnt,
-  run-binary-reads.Asked,
-  run-binary-reads.Learnt,
   group-binary-reads.Asked,
   group-binary-reads.Learnt,
   is-tail-reads.Asked,
   is-tail-reads.Learnt,
   letter-binary-reads.Asked,
   letter-binary-reads.Learnt,
+  plain-binary-reads.Asked,
+  plain-binary-reads.Learnt,
+  plain-run-binary-reads.Asked,
+  plain-run-binary-reads.Learnt,
   item-binary-below t,
   item-binary.Post,
 ) (level-binary-at t) level-binary.Post level-binary-Inv-loop level-binary-μ-loop
 level-binary-loop-holds t c = (search needs, search needs, refl)
 
--- src/lib.rt:193:13
-level-binary-plain-binary-requires : (t : ℕ) → level-binary-lts.Need-plain-binary-requires (
-  plain-binary-reads.Asked,
-  plain-binary-reads.Learnt,
-  run-binary-reads.Asked,
-  run-binary-reads.Learnt,
-  group-binary-reads.Asked,
-  group-binary-reads.Learnt,
-  is-tail-reads.Asked,
-  is-tail-reads.Learnt,
-  letter-binary-reads.Asked,
-  letter-binary-reads.Learnt,
-  item-binary-below t,
-  item-binary.Post,
-) (level-binary-at t) level-binary.Post level-binary-Inv-loop level-binary-μ-loop
-level-binary-plain-binary-requires t c κs = search needs
-
--- src/lib.rt:194:13
-level-binary-run-binary-requires : (t : ℕ) → level-binary-lts.Need-run-binary-requires (
-  plain-binary-reads.Asked,
-  plain-binary-reads.Learnt,
-  run-binary-reads.Asked,
-  run-binary-reads.Learnt,
-  group-binary-reads.Asked,
-  group-binary-reads.Learnt,
-  is-tail-reads.Asked,
-  is-tail-reads.Learnt,
-  letter-binary-reads.Asked,
-  letter-binary-reads.Learnt,
-  item-binary-below t,
-  item-binary.Post,
-) (level-binary-at t) level-binary.Post level-binary-Inv-loop level-binary-μ-loop
-level-binary-run-binary-requires t c κs = search needs
-
--- src/lib.rt:196:21
-level-binary-mul-i : (t : ℕ) → level-binary-lts.Need-mul-i (
-  plain-binary-reads.Asked,
-  plain-binary-reads.Learnt,
-  run-binary-reads.Asked,
-  run-binary-reads.Learnt,
-  group-binary-reads.Asked,
-  group-binary-reads.Learnt,
-  is-tail-reads.Asked,
-  is-tail-reads.Learnt,
-  letter-binary-reads.Asked,
-  letter-binary-reads.Learnt,
-  item-binary-below t,
-  item-binary.Post,
-) (level-binary-at t) level-binary.Post level-binary-Inv-loop level-binary-μ-loop
-level-binary-mul-i t c =
-    let l = c .before .before .before .before in
-    let a = l .before .before .args in
-    let q = l .before .before .pre .1 in
-    let long : 4 * a .stop ≤ length (binarySextets (a .s .now)) = omega (arith, length-binary (a .s .now), q .0) in
-    let R = binary-run (a .s .now) _ (a .stop) (l .loop .i) _ (sym (c .before .run-binary .ensures)) (c .if1 .taken) in
-    let z = run-fits (binarySextets (a .s .now)) _ (a .stop) (l .loop .i) _ (R .run) (c .if1 .taken) in
-    omega (arith, z)
-
--- src/lib.rt:196:17
-level-binary-add-i : (t : ℕ) → level-binary-lts.Need-add-i (
-  plain-binary-reads.Asked,
-  plain-binary-reads.Learnt,
-  run-binary-reads.Asked,
-  run-binary-reads.Learnt,
-  group-binary-reads.Asked,
-  group-binary-reads.Learnt,
-  is-tail-reads.Asked,
-  is-tail-reads.Learnt,
-  letter-binary-reads.Asked,
-  letter-binary-reads.Learnt,
-  item-binary-below t,
-  item-binary.Post,
-) (level-binary-at t) level-binary.Post level-binary-Inv-loop level-binary-μ-loop
-level-binary-add-i t c =
-    let l = c .before .before .before .before in
-    let a = l .before .before .args in
-    let q = l .before .before .pre .1 in
-    let long : 4 * a .stop ≤ length (binarySextets (a .s .now)) = omega (arith, length-binary (a .s .now), q .0) in
-    let R = binary-run (a .s .now) _ (a .stop) (l .loop .i) _ (sym (c .before .run-binary .ensures)) (c .if1 .taken) in
-    let z = run-fits (binarySextets (a .s .now)) _ (a .stop) (l .loop .i) _ (R .run) (c .if1 .taken) in
-    omega (arith, z)
-
--- src/lib.rt:192:5
-level-binary-loop-less : (t : ℕ) → level-binary-lts.Need-loop-less (
-  plain-binary-reads.Asked,
-  plain-binary-reads.Learnt,
-  run-binary-reads.Asked,
-  run-binary-reads.Learnt,
-  group-binary-reads.Asked,
-  group-binary-reads.Learnt,
-  is-tail-reads.Asked,
-  is-tail-reads.Learnt,
-  letter-binary-reads.Asked,
-  letter-binary-reads.Learnt,
-  item-binary-below t,
-  item-binary.Post,
-) (level-binary-at t) level-binary.Post level-binary-Inv-loop level-binary-μ-loop
-level-binary-loop-less t c =
-    let l = c .before .before .before .before in
-    let a = l .before .before .args in
-    let q = l .before .before .pre .1 in
-    let long : 4 * a .stop ≤ length (binarySextets (a .s .now)) = omega (arith, length-binary (a .s .now), q .0) in
-    let R = binary-run (a .s .now) _ (a .stop) (l .loop .i) _ (sym (c .before .run-binary .ensures)) (c .if1 .taken) in
-    let z = run-fits (binarySextets (a .s .now)) _ (a .stop) (l .loop .i) _ (R .run) (c .if1 .taken) in
-    omega (arith, z, run-moves (binarySextets (a .s .now)) _ (a .stop) (l .loop .i) _ (R .run) (c .if1 .taken))
-
--- src/lib.rt:192:5
-level-binary-loop-again : (t : ℕ) → level-binary-lts.Need-loop-again (
-  plain-binary-reads.Asked,
-  plain-binary-reads.Learnt,
-  run-binary-reads.Asked,
-  run-binary-reads.Learnt,
-  group-binary-reads.Asked,
-  group-binary-reads.Learnt,
-  is-tail-reads.Asked,
-  is-tail-reads.Learnt,
-  letter-binary-reads.Asked,
-  letter-binary-reads.Learnt,
-  item-binary-below t,
-  item-binary.Post,
-) (level-binary-at t) level-binary.Post level-binary-Inv-loop level-binary-μ-loop
-level-binary-loop-again t c =
-    let l = c .before .before .before .before in
-    let a = l .before .before .args in
-    let q = l .before .before .pre .1 in
-    let long : 4 * a .stop ≤ length (binarySextets (a .s .now)) = omega (arith, length-binary (a .s .now), q .0) in
-    let R = binary-run (a .s .now) _ (a .stop) (l .loop .i) _ (sym (c .before .run-binary .ensures)) (c .if1 .taken) in
-    let z = run-fits (binarySextets (a .s .now)) _ (a .stop) (l .loop .i) _ (R .run) (c .if1 .taken) in
-    (omega (arith, z), l .loop .inv .1, l .loop .inv .2 ∙ run-level (binarySextets (a .s .now)) (l .loop .left) (a .stop) long (l .loop .ruled) _ (l .loop .i) _ (R .run) (R .known) (c .if1 .taken))
-
--- src/lib.rt:199:17
+-- src/lib.rt:372:13
 level-binary-group-binary-requires : (t : ℕ) → level-binary-lts.Need-group-binary-requires (
-  plain-binary-reads.Asked,
-  plain-binary-reads.Learnt,
-  run-binary-reads.Asked,
-  run-binary-reads.Learnt,
   group-binary-reads.Asked,
   group-binary-reads.Learnt,
   is-tail-reads.Asked,
   is-tail-reads.Learnt,
   letter-binary-reads.Asked,
   letter-binary-reads.Learnt,
+  plain-binary-reads.Asked,
+  plain-binary-reads.Learnt,
+  plain-run-binary-reads.Asked,
+  plain-run-binary-reads.Learnt,
   item-binary-below t,
   item-binary.Post,
 ) (level-binary-at t) level-binary.Post level-binary-Inv-loop level-binary-μ-loop
 level-binary-group-binary-requires t c κs = search needs
 
--- src/lib.rt:200:27
+-- src/lib.rt:373:33
 level-binary-sub-is-tail : (t : ℕ) → level-binary-lts.Need-sub-is-tail (
-  plain-binary-reads.Asked,
-  plain-binary-reads.Learnt,
-  run-binary-reads.Asked,
-  run-binary-reads.Learnt,
   group-binary-reads.Asked,
   group-binary-reads.Learnt,
   is-tail-reads.Asked,
   is-tail-reads.Learnt,
   letter-binary-reads.Asked,
   letter-binary-reads.Learnt,
+  plain-binary-reads.Asked,
+  plain-binary-reads.Learnt,
+  plain-run-binary-reads.Asked,
+  plain-run-binary-reads.Learnt,
   item-binary-below t,
   item-binary.Post,
 ) (level-binary-at t) level-binary.Post level-binary-Inv-loop level-binary-μ-loop
 level-binary-sub-is-tail t c = search needs
 
--- src/lib.rt:200:16
+-- src/lib.rt:373:12
 level-binary-is-tail-requires : (t : ℕ) → level-binary-lts.Need-is-tail-requires (
-  plain-binary-reads.Asked,
-  plain-binary-reads.Learnt,
-  run-binary-reads.Asked,
-  run-binary-reads.Learnt,
   group-binary-reads.Asked,
   group-binary-reads.Learnt,
   is-tail-reads.Asked,
   is-tail-reads.Learnt,
   letter-binary-reads.Asked,
   letter-binary-reads.Learnt,
+  plain-binary-reads.Asked,
+  plain-binary-reads.Learnt,
+  plain-run-binary-reads.Asked,
+  plain-run-binary-reads.Learnt,
   item-binary-below t,
   item-binary.Post,
 ) (level-binary-at t) level-binary.Post level-binary-Inv-loop level-binary-μ-loop
 level-binary-is-tail-requires t c κs = search needs
 
--- src/lib.rt:201:25
+-- src/lib.rt:374:21
 level-binary-letter-binary-requires : (t : ℕ) → level-binary-lts.Need-letter-binary-requires (
-  plain-binary-reads.Asked,
-  plain-binary-reads.Learnt,
-  run-binary-reads.Asked,
-  run-binary-reads.Learnt,
   group-binary-reads.Asked,
   group-binary-reads.Learnt,
   is-tail-reads.Asked,
   is-tail-reads.Learnt,
   letter-binary-reads.Asked,
   letter-binary-reads.Learnt,
+  plain-binary-reads.Asked,
+  plain-binary-reads.Learnt,
+  plain-run-binary-reads.Asked,
+  plain-run-binary-reads.Learnt,
   item-binary-below t,
   item-binary.Post,
 ) (level-binary-at t) level-binary.Post level-binary-Inv-loop level-binary-μ-loop
 level-binary-letter-binary-requires t c κs = search needs
 
--- src/lib.rt:202:21
-level-binary-add-i-2 : (t : ℕ) → level-binary-lts.Need-add-i-2 (
-  plain-binary-reads.Asked,
-  plain-binary-reads.Learnt,
-  run-binary-reads.Asked,
-  run-binary-reads.Learnt,
+-- src/lib.rt:375:17
+level-binary-add-i : (t : ℕ) → level-binary-lts.Need-add-i (
   group-binary-reads.Asked,
   group-binary-reads.Learnt,
   is-tail-reads.Asked,
   is-tail-reads.Learnt,
   letter-binary-reads.Asked,
   letter-binary-reads.Learnt,
+  plain-binary-reads.Asked,
+  plain-binary-reads.Learnt,
+  plain-run-binary-reads.Asked,
+  plain-run-binary-reads.Learnt,
   item-binary-below t,
   item-binary.Post,
 ) (level-binary-at t) level-binary.Post level-binary-Inv-loop level-binary-μ-loop
-level-binary-add-i-2 t c = search needs
+level-binary-add-i t c = search needs
 
--- src/lib.rt:203:24
+-- src/lib.rt:376:20
 level-binary-sub-left : (t : ℕ) → level-binary-lts.Need-sub-left (
-  plain-binary-reads.Asked,
-  plain-binary-reads.Learnt,
-  run-binary-reads.Asked,
-  run-binary-reads.Learnt,
   group-binary-reads.Asked,
   group-binary-reads.Learnt,
   is-tail-reads.Asked,
   is-tail-reads.Learnt,
   letter-binary-reads.Asked,
   letter-binary-reads.Learnt,
+  plain-binary-reads.Asked,
+  plain-binary-reads.Learnt,
+  plain-run-binary-reads.Asked,
+  plain-run-binary-reads.Learnt,
   item-binary-below t,
   item-binary.Post,
 ) (level-binary-at t) level-binary.Post level-binary-Inv-loop level-binary-μ-loop
 level-binary-sub-left t c =
-    let l = c .before .before .before .before .before .before .before .before in
-    let a = l .before .before .args in
-    let q = l .before .before .pre .1 in
-    let long : 4 * a .stop ≤ length (binarySextets (a .s .now)) = omega (arith, length-binary (a .s .now), q .0) in
-    let w = tail-is _ _ _ (sym (c .before .before .is-tail .ensures) ∙ c .before .if2 .taken) in
+    let l = c .before .before .before .before .before in
+    let a = c .before .before .before .before .before .before .before .args in
+    let q = c .before .before .before .before .before .before .before .pre .1 in
+    let long : 4 * a .stop ≤ length (binarySextets (a .s .now)) = omega (arith, length-binary (a .s .now), q .1) in
+    let w = tail-is _ _ _ (sym (c .before .before .is-tail .ensures) ∙ c .before .if1 .taken) in
     omega (arith, w .1)
 
--- src/lib.rt:192:5
-level-binary-loop-less-2 : (t : ℕ) → level-binary-lts.Need-loop-less-2 (
-  plain-binary-reads.Asked,
-  plain-binary-reads.Learnt,
-  run-binary-reads.Asked,
-  run-binary-reads.Learnt,
+-- src/lib.rt:371:5
+level-binary-loop-less : (t : ℕ) → level-binary-lts.Need-loop-less (
   group-binary-reads.Asked,
   group-binary-reads.Learnt,
   is-tail-reads.Asked,
   is-tail-reads.Learnt,
   letter-binary-reads.Asked,
   letter-binary-reads.Learnt,
+  plain-binary-reads.Asked,
+  plain-binary-reads.Learnt,
+  plain-run-binary-reads.Asked,
+  plain-run-binary-reads.Learnt,
+  item-binary-below t,
+  item-binary.Post,
+) (level-binary-at t) level-binary.Post level-binary-Inv-loop level-binary-μ-loop
+level-binary-loop-less t c =
+    let l = c .before .before .before .before .before in
+    let a = c .before .before .before .before .before .before .before .args in
+    let q = c .before .before .before .before .before .before .before .pre .1 in
+    let long : 4 * a .stop ≤ length (binarySextets (a .s .now)) = omega (arith, length-binary (a .s .now), q .1) in
+    omega arith
+
+-- src/lib.rt:371:5
+level-binary-loop-again : (t : ℕ) → level-binary-lts.Need-loop-again (
+  group-binary-reads.Asked,
+  group-binary-reads.Learnt,
+  is-tail-reads.Asked,
+  is-tail-reads.Learnt,
+  letter-binary-reads.Asked,
+  letter-binary-reads.Learnt,
+  plain-binary-reads.Asked,
+  plain-binary-reads.Learnt,
+  plain-run-binary-reads.Asked,
+  plain-run-binary-reads.Learnt,
+  item-binary-below t,
+  item-binary.Post,
+) (level-binary-at t) level-binary.Post level-binary-Inv-loop level-binary-μ-loop
+level-binary-loop-again t c =
+    let l = c .before .before .before .before .before in
+    let a = c .before .before .before .before .before .before .before .args in
+    let q = c .before .before .before .before .before .before .before .pre .1 in
+    let long : 4 * a .stop ≤ length (binarySextets (a .s .now)) = omega (arith, length-binary (a .s .now), q .1) in
+    let w = tail-is _ _ _ (sym (c .before .before .is-tail .ensures) ∙ c .before .if1 .taken) in
+    (omega arith, omega arith, l .loop .inv .2 ∙ tail-level (binarySextets (a .s .now)) (l .loop .left) (a .stop) long (l .loop .ruled) (l .loop .i) ((sym (c .before .before .before .group-binary .ensures)) ∙ w .0) (omega arith) (w .1) ∙ marked (binarySextets (a .s .now)) _ _ _ _ _ (c .letter-binary .ensures))
+
+-- src/lib.rt:378:17
+level-binary-plain-binary-requires : (t : ℕ) → level-binary-lts.Need-plain-binary-requires (
+  group-binary-reads.Asked,
+  group-binary-reads.Learnt,
+  is-tail-reads.Asked,
+  is-tail-reads.Learnt,
+  letter-binary-reads.Asked,
+  letter-binary-reads.Learnt,
+  plain-binary-reads.Asked,
+  plain-binary-reads.Learnt,
+  plain-run-binary-reads.Asked,
+  plain-run-binary-reads.Learnt,
+  item-binary-below t,
+  item-binary.Post,
+) (level-binary-at t) level-binary.Post level-binary-Inv-loop level-binary-μ-loop
+level-binary-plain-binary-requires t c κs = search needs
+
+-- src/lib.rt:379:17
+level-binary-plain-run-binary-requires : (t : ℕ) → level-binary-lts.Need-plain-run-binary-requires (
+  group-binary-reads.Asked,
+  group-binary-reads.Learnt,
+  is-tail-reads.Asked,
+  is-tail-reads.Learnt,
+  letter-binary-reads.Asked,
+  letter-binary-reads.Learnt,
+  plain-binary-reads.Asked,
+  plain-binary-reads.Learnt,
+  plain-run-binary-reads.Asked,
+  plain-run-binary-reads.Learnt,
+  item-binary-below t,
+  item-binary.Post,
+) (level-binary-at t) level-binary.Post level-binary-Inv-loop level-binary-μ-loop
+level-binary-plain-run-binary-requires t c κs = search needs
+
+-- src/lib.rt:381:25
+level-binary-mul-i : (t : ℕ) → level-binary-lts.Need-mul-i (
+  group-binary-reads.Asked,
+  group-binary-reads.Learnt,
+  is-tail-reads.Asked,
+  is-tail-reads.Learnt,
+  letter-binary-reads.Asked,
+  letter-binary-reads.Learnt,
+  plain-binary-reads.Asked,
+  plain-binary-reads.Learnt,
+  plain-run-binary-reads.Asked,
+  plain-run-binary-reads.Learnt,
+  item-binary-below t,
+  item-binary.Post,
+) (level-binary-at t) level-binary.Post level-binary-Inv-loop level-binary-μ-loop
+level-binary-mul-i t c =
+    let l = c .before .before .before .before .before .before .before in
+    let a = c .before .before .before .before .before .before .before .before .before .args in
+    let q = c .before .before .before .before .before .before .before .before .before .pre .1 in
+    let long : 4 * a .stop ≤ length (binarySextets (a .s .now)) = omega (arith, length-binary (a .s .now), q .1) in
+    let R = binary-run (a .rows .now) (a .s .now) _ (a .stop) (l .loop .i) _ (q .0) (sym (c .before .plain-run-binary .ensures)) (c .if2 .taken) in
+    let z = run-fits (plainAt plainTable (binarySextets (a .s .now))) _ (a .stop) (l .loop .i) _ (R .run) (c .if2 .taken) in
+    omega (arith, z)
+
+-- src/lib.rt:381:21
+level-binary-add-i-2 : (t : ℕ) → level-binary-lts.Need-add-i-2 (
+  group-binary-reads.Asked,
+  group-binary-reads.Learnt,
+  is-tail-reads.Asked,
+  is-tail-reads.Learnt,
+  letter-binary-reads.Asked,
+  letter-binary-reads.Learnt,
+  plain-binary-reads.Asked,
+  plain-binary-reads.Learnt,
+  plain-run-binary-reads.Asked,
+  plain-run-binary-reads.Learnt,
+  item-binary-below t,
+  item-binary.Post,
+) (level-binary-at t) level-binary.Post level-binary-Inv-loop level-binary-μ-loop
+level-binary-add-i-2 t c =
+    let l = c .before .before .before .before .before .before .before in
+    let a = c .before .before .before .before .before .before .before .before .before .args in
+    let q = c .before .before .before .before .before .before .before .before .before .pre .1 in
+    let long : 4 * a .stop ≤ length (binarySextets (a .s .now)) = omega (arith, length-binary (a .s .now), q .1) in
+    let R = binary-run (a .rows .now) (a .s .now) _ (a .stop) (l .loop .i) _ (q .0) (sym (c .before .plain-run-binary .ensures)) (c .if2 .taken) in
+    let z = run-fits (plainAt plainTable (binarySextets (a .s .now))) _ (a .stop) (l .loop .i) _ (R .run) (c .if2 .taken) in
+    omega (arith, z)
+
+-- src/lib.rt:371:5
+level-binary-loop-less-2 : (t : ℕ) → level-binary-lts.Need-loop-less-2 (
+  group-binary-reads.Asked,
+  group-binary-reads.Learnt,
+  is-tail-reads.Asked,
+  is-tail-reads.Learnt,
+  letter-binary-reads.Asked,
+  letter-binary-reads.Learnt,
+  plain-binary-reads.Asked,
+  plain-binary-reads.Learnt,
+  plain-run-binary-reads.Asked,
+  plain-run-binary-reads.Learnt,
   item-binary-below t,
   item-binary.Post,
 ) (level-binary-at t) level-binary.Post level-binary-Inv-loop level-binary-μ-loop
 level-binary-loop-less-2 t c =
-    let l = c .before .before .before .before .before .before .before .before in
-    let a = l .before .before .args in
-    let q = l .before .before .pre .1 in
-    let long : 4 * a .stop ≤ length (binarySextets (a .s .now)) = omega (arith, length-binary (a .s .now), q .0) in
-    omega arith
+    let l = c .before .before .before .before .before .before .before in
+    let a = c .before .before .before .before .before .before .before .before .before .args in
+    let q = c .before .before .before .before .before .before .before .before .before .pre .1 in
+    let long : 4 * a .stop ≤ length (binarySextets (a .s .now)) = omega (arith, length-binary (a .s .now), q .1) in
+    let R = binary-run (a .rows .now) (a .s .now) _ (a .stop) (l .loop .i) _ (q .0) (sym (c .before .plain-run-binary .ensures)) (c .if2 .taken) in
+    let z = run-fits (plainAt plainTable (binarySextets (a .s .now))) _ (a .stop) (l .loop .i) _ (R .run) (c .if2 .taken) in
+    omega (arith, z, run-moves (plainAt plainTable (binarySextets (a .s .now))) _ (a .stop) (l .loop .i) _ (R .run) (c .if2 .taken))
 
--- src/lib.rt:192:5
+-- src/lib.rt:371:5
 level-binary-loop-again-2 : (t : ℕ) → level-binary-lts.Need-loop-again-2 (
-  plain-binary-reads.Asked,
-  plain-binary-reads.Learnt,
-  run-binary-reads.Asked,
-  run-binary-reads.Learnt,
   group-binary-reads.Asked,
   group-binary-reads.Learnt,
   is-tail-reads.Asked,
   is-tail-reads.Learnt,
   letter-binary-reads.Asked,
   letter-binary-reads.Learnt,
+  plain-binary-reads.Asked,
+  plain-binary-reads.Learnt,
+  plain-run-binary-reads.Asked,
+  plain-run-binary-reads.Learnt,
   item-binary-below t,
   item-binary.Post,
 ) (level-binary-at t) level-binary.Post level-binary-Inv-loop level-binary-μ-loop
 level-binary-loop-again-2 t c =
-    let l = c .before .before .before .before .before .before .before .before in
-    let a = l .before .before .args in
-    let q = l .before .before .pre .1 in
-    let long : 4 * a .stop ≤ length (binarySextets (a .s .now)) = omega (arith, length-binary (a .s .now), q .0) in
-    let w = tail-is _ _ _ (sym (c .before .before .is-tail .ensures) ∙ c .before .if2 .taken) in
-    (omega arith, omega arith, l .loop .inv .2 ∙ tail-level (binarySextets (a .s .now)) (l .loop .left) (a .stop) long (l .loop .ruled) (l .loop .i) (sym (c .before .before .before .group-binary .ensures) ∙ w .0) (omega arith) (w .1) ∙ marked (binarySextets (a .s .now)) _ _ _ _ _ (c .letter-binary .ensures))
+    let l = c .before .before .before .before .before .before .before in
+    let a = c .before .before .before .before .before .before .before .before .before .args in
+    let q = c .before .before .before .before .before .before .before .before .before .pre .1 in
+    let long : 4 * a .stop ≤ length (binarySextets (a .s .now)) = omega (arith, length-binary (a .s .now), q .1) in
+    let R = binary-run (a .rows .now) (a .s .now) _ (a .stop) (l .loop .i) _ (q .0) (sym (c .before .plain-run-binary .ensures)) (c .if2 .taken) in
+    let z = run-fits (plainAt plainTable (binarySextets (a .s .now))) _ (a .stop) (l .loop .i) _ (R .run) (c .if2 .taken) in
+    (omega (arith, z), l .loop .inv .1, l .loop .inv .2 ∙ run-level (binarySextets (a .s .now)) (l .loop .left) (a .stop) long (l .loop .ruled) _ (l .loop .i) _ (R .run) (R .known) (c .if2 .taken))
 
--- src/lib.rt:205:23
+-- src/lib.rt:384:23
 level-binary-item-binary-requires : (t : ℕ) → level-binary-lts.Need-item-binary-requires (
-  plain-binary-reads.Asked,
-  plain-binary-reads.Learnt,
-  run-binary-reads.Asked,
-  run-binary-reads.Learnt,
   group-binary-reads.Asked,
   group-binary-reads.Learnt,
   is-tail-reads.Asked,
   is-tail-reads.Learnt,
   letter-binary-reads.Asked,
   letter-binary-reads.Learnt,
+  plain-binary-reads.Asked,
+  plain-binary-reads.Learnt,
+  plain-run-binary-reads.Asked,
+  plain-run-binary-reads.Learnt,
   item-binary-below t,
   item-binary.Post,
 ) (level-binary-at t) level-binary.Post level-binary-Inv-loop level-binary-μ-loop
 level-binary-item-binary-requires t c κs =
     let l = c .before .before .before .before .before .before .before in
-    let a = l .before .before .args in
-    let q = l .before .before .pre .1 in
-    let long : 4 * a .stop ≤ length (binarySextets (a .s .now)) = omega (arith, length-binary (a .s .now), q .0) in
-    (omega (arith, l .loop .inv .1, l .before .before .pre .0), (q .0, omega arith, q .2))
+    let a = c .before .before .before .before .before .before .before .before .before .args in
+    let q = c .before .before .before .before .before .before .before .before .before .pre .1 in
+    let long : 4 * a .stop ≤ length (binarySextets (a .s .now)) = omega (arith, length-binary (a .s .now), q .1) in
+    (omega (arith, l .loop .inv .1, c .before .before .before .before .before .before .before .before .before .pre .0), (q .0, q .1, omega arith, q .3))
 
--- src/lib.rt:206:40
+-- src/lib.rt:385:40
 level-binary-enum-known-number : (t : ℕ) → level-binary-lts.Need-enum-known-number (
-  plain-binary-reads.Asked,
-  plain-binary-reads.Learnt,
-  run-binary-reads.Asked,
-  run-binary-reads.Learnt,
   group-binary-reads.Asked,
   group-binary-reads.Learnt,
   is-tail-reads.Asked,
   is-tail-reads.Learnt,
   letter-binary-reads.Asked,
   letter-binary-reads.Learnt,
+  plain-binary-reads.Asked,
+  plain-binary-reads.Learnt,
+  plain-run-binary-reads.Asked,
+  plain-run-binary-reads.Learnt,
   item-binary-below t,
   item-binary.Post,
 ) (level-binary-at t) level-binary.Post level-binary-Inv-loop level-binary-μ-loop
 level-binary-enum-known-number t c = search needs
 
--- src/lib.rt:207:25
+-- src/lib.rt:386:25
 level-binary-returns : (t : ℕ) → level-binary-lts.Need-returns (
-  plain-binary-reads.Asked,
-  plain-binary-reads.Learnt,
-  run-binary-reads.Asked,
-  run-binary-reads.Learnt,
   group-binary-reads.Asked,
   group-binary-reads.Learnt,
   is-tail-reads.Asked,
   is-tail-reads.Learnt,
   letter-binary-reads.Asked,
   letter-binary-reads.Learnt,
+  plain-binary-reads.Asked,
+  plain-binary-reads.Learnt,
+  plain-run-binary-reads.Asked,
+  plain-run-binary-reads.Learnt,
   item-binary-below t,
   item-binary.Post,
 ) (level-binary-at t) level-binary.Post level-binary-Inv-loop level-binary-μ-loop
 level-binary-returns t c =
     let l = c .before .before .before .before .before .before .before .before .before .before .before in
-    subst (Judged (binarySextets (l .before .before .args .s .now)) (l .loop .left) (l .loop .ruled) (l .loop .i) (l .before .before .args .stop)) (c .before .number .given .1) (c .before .before .before .item-binary .ensures) ∙ sym (l .loop .inv .2)
+    let a = c .before .before .before .before .before .before .before .before .before .before .before .before .before .args in
+    let j = subst (Judged (binarySextets (a .s .now)) (l .loop .left) (l .loop .ruled) (l .loop .i) (a .stop)) (c .before .number .given .1) (c .before .before .before .item-binary .ensures) in
+    j ∙ sym (l .loop .inv .2)
 
--- src/lib.rt:212:25
+-- src/lib.rt:391:25
 level-binary-enum-known-size : (t : ℕ) → level-binary-lts.Need-enum-known-size (
-  plain-binary-reads.Asked,
-  plain-binary-reads.Learnt,
-  run-binary-reads.Asked,
-  run-binary-reads.Learnt,
   group-binary-reads.Asked,
   group-binary-reads.Learnt,
   is-tail-reads.Asked,
   is-tail-reads.Learnt,
   letter-binary-reads.Asked,
   letter-binary-reads.Learnt,
+  plain-binary-reads.Asked,
+  plain-binary-reads.Learnt,
+  plain-run-binary-reads.Asked,
+  plain-run-binary-reads.Learnt,
   item-binary-below t,
   item-binary.Post,
 ) (level-binary-at t) level-binary.Post level-binary-Inv-loop level-binary-μ-loop
 level-binary-enum-known-size t c = search needs
 
--- src/lib.rt:214:29
+-- src/lib.rt:393:29
 level-binary-add-i-3 : (t : ℕ) → level-binary-lts.Need-add-i-3 (
-  plain-binary-reads.Asked,
-  plain-binary-reads.Learnt,
-  run-binary-reads.Asked,
-  run-binary-reads.Learnt,
   group-binary-reads.Asked,
   group-binary-reads.Learnt,
   is-tail-reads.Asked,
   is-tail-reads.Learnt,
   letter-binary-reads.Asked,
   letter-binary-reads.Learnt,
+  plain-binary-reads.Asked,
+  plain-binary-reads.Learnt,
+  plain-run-binary-reads.Asked,
+  plain-run-binary-reads.Learnt,
   item-binary-below t,
   item-binary.Post,
 ) (level-binary-at t) level-binary.Post level-binary-Inv-loop level-binary-μ-loop
 level-binary-add-i-3 t c =
     let l = c .before .before .before .before .before .before .before .before .before .before .before in
-    let j = subst (Judged (binarySextets (l .before .before .args .s .now)) (l .loop .left) (l .loop .ruled) (l .loop .i) (l .before .before .args .stop)) (c .before .size .given .1) (c .before .before .before .item-binary .ensures) in
-    omega (arith, j .2, l .before .before .pre .1)
+    let a = c .before .before .before .before .before .before .before .before .before .before .before .before .before .args in
+    let j = subst (Judged (binarySextets (a .s .now)) (l .loop .left) (l .loop .ruled) (l .loop .i) (a .stop)) (c .before .size .given .1) (c .before .before .before .item-binary .ensures) in
+    omega (arith, j .2, c .before .before .before .before .before .before .before .before .before .before .before .before .before .pre .1)
 
--- src/lib.rt:192:5
+-- src/lib.rt:371:5
 level-binary-loop-less-3 : (t : ℕ) → level-binary-lts.Need-loop-less-3 (
-  plain-binary-reads.Asked,
-  plain-binary-reads.Learnt,
-  run-binary-reads.Asked,
-  run-binary-reads.Learnt,
   group-binary-reads.Asked,
   group-binary-reads.Learnt,
   is-tail-reads.Asked,
   is-tail-reads.Learnt,
   letter-binary-reads.Asked,
   letter-binary-reads.Learnt,
+  plain-binary-reads.Asked,
+  plain-binary-reads.Learnt,
+  plain-run-binary-reads.Asked,
+  plain-run-binary-reads.Learnt,
   item-binary-below t,
   item-binary.Post,
 ) (level-binary-at t) level-binary.Post level-binary-Inv-loop level-binary-μ-loop
 level-binary-loop-less-3 t c =
     let l = c .before .before .before .before .before .before .before .before .before .before .before in
-    let j = subst (Judged (binarySextets (l .before .before .args .s .now)) (l .loop .left) (l .loop .ruled) (l .loop .i) (l .before .before .args .stop)) (c .before .size .given .1) (c .before .before .before .item-binary .ensures) in
+    let a = c .before .before .before .before .before .before .before .before .before .before .before .before .before .args in
+    let j = subst (Judged (binarySextets (a .s .now)) (l .loop .left) (l .loop .ruled) (l .loop .i) (a .stop)) (c .before .size .given .1) (c .before .before .before .item-binary .ensures) in
     omega (arith, j .1, j .2)
 
--- src/lib.rt:192:5
+-- src/lib.rt:371:5
 level-binary-loop-again-3 : (t : ℕ) → level-binary-lts.Need-loop-again-3 (
-  plain-binary-reads.Asked,
-  plain-binary-reads.Learnt,
-  run-binary-reads.Asked,
-  run-binary-reads.Learnt,
   group-binary-reads.Asked,
   group-binary-reads.Learnt,
   is-tail-reads.Asked,
   is-tail-reads.Learnt,
   letter-binary-reads.Asked,
   letter-binary-reads.Learnt,
+  plain-binary-reads.Asked,
+  plain-binary-reads.Learnt,
+  plain-run-binary-reads.Asked,
+  plain-run-binary-reads.Learnt,
   item-binary-below t,
   item-binary.Post,
 ) (level-binary-at t) level-binary.Post level-binary-Inv-loop level-binary-μ-loop
 level-binary-loop-again-3 t c =
     let l = c .before .before .before .before .before .before .before .before .before .before .before in
-    let j = subst (Judged (binarySextets (l .before .before .args .s .now)) (l .loop .left) (l .loop .ruled) (l .loop .i) (l .before .before .args .stop)) (c .before .size .given .1) (c .before .before .before .item-binary .ensures) in
+    let a = c .before .before .before .before .before .before .before .before .before .before .before .before .before .args in
+    let j = subst (Judged (binarySextets (a .s .now)) (l .loop .left) (l .loop .ruled) (l .loop .i) (a .stop)) (c .before .size .given .1) (c .before .before .before .item-binary .ensures) in
     (j .2, l .loop .inv .1, l .loop .inv .2 ∙ j .0)
 
--- src/lib.rt:185:1
+-- src/lib.rt:357:1
 level-binary-returns-2 : (t : ℕ) → level-binary-lts.Need-returns-2 (
-  plain-binary-reads.Asked,
-  plain-binary-reads.Learnt,
-  run-binary-reads.Asked,
-  run-binary-reads.Learnt,
   group-binary-reads.Asked,
   group-binary-reads.Learnt,
   is-tail-reads.Asked,
   is-tail-reads.Learnt,
   letter-binary-reads.Asked,
   letter-binary-reads.Learnt,
+  plain-binary-reads.Asked,
+  plain-binary-reads.Learnt,
+  plain-run-binary-reads.Asked,
+  plain-run-binary-reads.Learnt,
   item-binary-below t,
   item-binary.Post,
 ) (level-binary-at t) level-binary.Post level-binary-Inv-loop level-binary-μ-loop
 level-binary-returns-2 t c =
     let l = c .before in
-    let a = l .before .before .args in
+    let a = c .before .before .before .args in
     let z : l .loop .i ≡ a .stop = omega arith in
     sym (l .loop .inv .2 ∙ rw z (level-end (binarySextets (a .s .now)) (l .loop .left) (l .loop .ruled) (a .stop)))
 
@@ -883,12 +888,12 @@ pub +item-binary+level-binary-spec : {M : Type 1} → statement M
     (item-binary-part-next-binary-end t)
     (item-binary-next-binary-requires t)
     (item-binary-enum-known-next t)
-    (item-binary-mul-t20 t)
-    (item-binary-add-t21 t)
+    (item-binary-mul-t22 t)
+    (item-binary-add-t23 t)
     (item-binary-enum-known-next-2 t)
     (item-binary-is-entered-requires t)
-    (item-binary-sub-level-binary t)
     (item-binary-is-ruled-requires t)
+    (item-binary-sub-level-binary t)
     (item-binary-add-level-binary t)
     (item-binary-add-level-binary-2 t)
     (item-binary-level-binary-requires t)
@@ -897,16 +902,16 @@ pub +item-binary+level-binary-spec : {M : Type 1} → statement M
     (item-binary-returns-2 t)
     (item-binary-returns-3 t))
     λ t. level-binary-lts.spec (
-      plain-binary-reads.Asked,
-      plain-binary-reads.Learnt,
-      run-binary-reads.Asked,
-      run-binary-reads.Learnt,
       group-binary-reads.Asked,
       group-binary-reads.Learnt,
       is-tail-reads.Asked,
       is-tail-reads.Learnt,
       letter-binary-reads.Asked,
       letter-binary-reads.Learnt,
+      plain-binary-reads.Asked,
+      plain-binary-reads.Learnt,
+      plain-run-binary-reads.Asked,
+      plain-run-binary-reads.Learnt,
       item-binary-below t,
       item-binary.Post,
     )
@@ -915,18 +920,18 @@ pub +item-binary+level-binary-spec : {M : Type 1} → statement M
     level-binary-Inv-loop
     level-binary-μ-loop
     (level-binary-loop-holds t)
-    (level-binary-plain-binary-requires t)
-    (level-binary-run-binary-requires t)
-    (level-binary-mul-i t)
-    (level-binary-add-i t)
-    (level-binary-loop-less t)
-    (level-binary-loop-again t)
     (level-binary-group-binary-requires t)
     (level-binary-sub-is-tail t)
     (level-binary-is-tail-requires t)
     (level-binary-letter-binary-requires t)
-    (level-binary-add-i-2 t)
+    (level-binary-add-i t)
     (level-binary-sub-left t)
+    (level-binary-loop-less t)
+    (level-binary-loop-again t)
+    (level-binary-plain-binary-requires t)
+    (level-binary-plain-run-binary-requires t)
+    (level-binary-mul-i t)
+    (level-binary-add-i-2 t)
     (level-binary-loop-less-2 t)
     (level-binary-loop-again-2 t)
     (level-binary-item-binary-requires t)
