@@ -58,9 +58,9 @@ mod refusal;
 mod report;
 mod walk;
 
-pub use code::{Code, Head, NoCode};
+pub use code::{Code, Head, ParseCodeError};
 pub use convert::{to_binary, to_binary_into, to_text, to_text_into};
-pub use form::{Form, NoForm};
+pub use form::{Form, ParseFormError};
 pub use primitive::{read, read_binary, read_text_into, write, write_into, Primitive, Tag};
 pub use refusal::{Number, Refusal};
 pub use report::{
