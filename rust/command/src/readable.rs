@@ -117,8 +117,7 @@ fn refused(
     let (code, name) = code_and_name(input.form, item.of(&input.bytes));
     let size = measured(input.form, item.size);
     writeln!(out, "        {code} {name}, {size} from {}", item.offset)?;
-    let end = item.offset.saturating_add(item.size);
-    bytes_at(out, input, item.offset..end, row.refusal)
+    bytes_at(out, input, item.range(), row.refusal)
 }
 
 fn remainder(out: &mut dyn Write, input: &Input, rest: Remainder, paint: Paint) -> io::Result<()> {

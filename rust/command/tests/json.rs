@@ -63,12 +63,14 @@ fn names_come_back_whole() {
         "\u{1b}[31m",
         "\u{e9}\u{1f600}\u{85}",
         "\u{7f}",
+        "a\u{202e}b\u{2028}c",
     ] {
         let path = folder.file(name, b"MAAB");
         let ran = run(&["judge", "--json", &path]);
         let script = "import json, sys; sys.stdout.buffer.write(json.loads(sys.stdin.buffer.read())['stream'].encode())";
         assert_eq!(python(script, &ran.out), path);
         assert_eq!(ran.out.iter().filter(|byte| **byte == b'\n').count(), 1);
+        assert!(!ran.text().contains(['\u{1b}', '\u{85}', '\u{202e}']));
     }
 }
 

@@ -82,6 +82,51 @@ assert any(play(['judge', 'samples/clean.cesr'], False, True)[0] == b'' for _ in
     );
 }
 
+/// A stream that is typed: one end is enough, and no progress is written over
+/// what somebody types.
+#[test]
+fn a_stream_is_typed() {
+    holds(
+        "
+import pty
+pid, main = pty.fork()
+if pid == 0:
+    os.environ['TERM'] = 'xterm'
+    os.execvp('cesr', ['cesr', 'judge'])
+said = os.read(main, 65536)
+os.write(main, b'MAAB1AAK')
+time.sleep(0.8)
+os.write(main, b'\\x04\\x04')
+while True:
+    try: piece = os.read(main, 65536)
+    except OSError: break
+    if not piece: break
+    said += piece
+assert os.waitstatus_to_exitcode(os.waitpid(pid, 0)[1]) == 0
+assert b'bytes read' not in said and said.startswith(b'cesr: reading standard input'), said
+assert b'MAAB1AAK\\r\\n\\x1b[32mpassed' in said, said
+",
+    );
+}
+
+/// A stream that can't be read is told once where both outputs are seen.
+#[test]
+fn a_complaint_is_seen_once() {
+    holds(
+        "
+names = ['samples/clean.cesr', 'gone.cesr']
+at, _ = play(['judge'] + names, True, True)
+assert at.count(b'No such file') == 1, at
+at, _ = play(['judge'] + names[1:], True, True)
+assert at.count(b'No such file') == 1, at
+at, piped = play(['judge'] + names, True, False)
+assert at.count(b'No such file') == piped.count(b'No such file') == 1, (at, piped)
+at, piped = play(['judge', '--json'] + names, True, True)
+assert at.count(b'No such file') == 2, at
+",
+    );
+}
+
 /// Bytes that are no text stay off a terminal.
 #[test]
 fn bytes_are_not_written_to_a_terminal() {
