@@ -53,7 +53,7 @@ pub struct Show {
 struct Given {
     form: Option<Form>,
     to: Option<Form>,
-    out: Option<PathBuf>,
+    out: Option<OsString>,
     all: bool,
     json: bool,
     report: bool,
@@ -61,25 +61,22 @@ struct Given {
     names: Vec<OsString>,
 }
 
+/// Makes a command's task of what is given.
+type Made = fn(Given) -> Result<Task, String>;
+
 /// The task, or in words what is wrong with the call.
 pub fn parse(mut arguments: impl Iterator<Item = OsString>) -> Result<Task, String> {
     let Some(command) = arguments.next() else {
         return Err(format!("which command? {COMMANDS}"));
     };
     let command = command.to_string_lossy();
-    let allowed: &[&str] = match &*command {
-        "judge" => &["--form", "--all", "--json", "--report"],
-        "convert" => &["--to", "--out"],
-        "show" => &["--form"],
-        _ => &[],
-    };
-    let task = match &*command {
-        "judge" => judge,
-        "convert" => convert,
-        "show" => show,
-        "numbers" => |given| said(given, help::numbers()),
-        "help" | "--help" | "-h" => |given| said(given, help::HELP.to_string()),
-        "--version" | "-V" => |given| said(given, help::VERSION.to_string()),
+    let (task, allowed): (Made, &[&str]) = match &*command {
+        "judge" => (judge, &["--form", "--all", "--json", "--report"]),
+        "convert" => (convert, &["--to", "--out"]),
+        "show" => (show, &["--form"]),
+        "numbers" => (|given| said(given, help::numbers()), &[]),
+        "help" | "--help" | "-h" => (|given| said(given, help::HELP.to_string()), &[]),
+        "--version" | "-V" => (|given| said(given, help::VERSION.to_string()), &[]),
         _ => return Err(format!("no such command: {command} ({COMMANDS})")),
     };
     let given = Given::from(arguments, allowed)?;
@@ -132,11 +129,7 @@ impl Given {
         match name {
             "--form" => self.form = Some(form(valued()?)?),
             "--to" => self.to = Some(form(valued()?)?),
-            "--out" => {
-                self.out = Some(valued()?)
-                    .filter(|name| name != "-")
-                    .map(PathBuf::from)
-            }
+            "--out" => self.out = Some(valued()?).filter(|name| name != "-"),
             "--all" => self.all = true,
             "--json" => self.json = true,
             _ => self.report = true,
@@ -193,7 +186,7 @@ fn judge(given: Given) -> Result<Task, String> {
 fn convert(given: Given) -> Result<Task, String> {
     Ok(Task::Convert(Convert {
         to: given.to,
-        out: given.out,
+        out: given.out.map(PathBuf::from),
         source: at_most_one(given.names)?,
     }))
 }
