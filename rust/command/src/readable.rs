@@ -152,6 +152,9 @@ pub fn note(input: &Input, number: Number, place: usize) -> Option<String> {
     let ends_line = input.bytes.ends_with(b"\n");
     let last = place.saturating_add(2) >= input.bytes.len();
     match (number, input.form) {
+        _ if place == 0 && input.bytes.starts_with(b"\xEF\xBB\xBF") => {
+            Some("the stream opens with a byte order mark, which is no part of it".to_string())
+        }
         (Number::CHARACTER, _) => {
             let kind = kind_of(byte);
             Some(format!(
