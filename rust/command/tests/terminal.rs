@@ -9,6 +9,14 @@ use common::python;
 /// longer than half a second.
 const PLAY: &str = r#"
 import os, pty, subprocess, tempfile, time
+def to_end(main):
+    said = b''
+    while True:
+        try: piece = os.read(main, 65536)
+        except OSError: break
+        if not piece: break
+        said += piece
+    return said
 def play(arguments, out, err, slow=False, **settings):
     main, side = pty.openpty()
     env = {k: v for k, v in os.environ.items() if k not in ('NO_COLOR', 'TERM')}
@@ -23,12 +31,7 @@ def play(arguments, out, err, slow=False, **settings):
             child.stdin.flush()
             time.sleep(0.1)
     child.stdin.close()
-    said = b''
-    while True:
-        try: piece = os.read(main, 65536)
-        except OSError: break
-        if not piece: break
-        said += piece
+    said = to_end(main)
     child.wait()
     rest.seek(0)
     return said, rest.read()
@@ -88,7 +91,6 @@ assert any(play(['judge', 'samples/clean.cesr'], False, True)[0] == b'' for _ in
 fn a_stream_is_typed() {
     holds(
         "
-import pty
 pid, main = pty.fork()
 if pid == 0:
     os.environ['TERM'] = 'xterm'
@@ -97,11 +99,7 @@ said = os.read(main, 65536)
 os.write(main, b'MAAB1AAK')
 time.sleep(0.8)
 os.write(main, b'\\x04\\x04')
-while True:
-    try: piece = os.read(main, 65536)
-    except OSError: break
-    if not piece: break
-    said += piece
+said += to_end(main)
 assert os.waitstatus_to_exitcode(os.waitpid(pid, 0)[1]) == 0
 assert b'bytes read' not in said and said.startswith(b'cesr: reading standard input'), said
 assert b'MAAB1AAK\\r\\n\\x1b[32mpassed' in said, said
