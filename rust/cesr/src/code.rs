@@ -118,15 +118,15 @@ fn lettered(table: &[(u8, &'static str)], letter: u8) -> Option<&'static str> {
 
 /// Characters that can be no primitive's code.
 #[derive(Clone, Copy, Debug, PartialEq, Eq)]
-pub struct NoCode;
+pub struct ParseCodeError;
 
-impl fmt::Display for NoCode {
+impl fmt::Display for ParseCodeError {
     fn fmt(&self, f: &mut fmt::Formatter<'_>) -> fmt::Result {
         f.write_str("a primitive's code is like M, 0H, 1AAM, 4B or 7AAB")
     }
 }
 
-impl std::error::Error for NoCode {}
+impl std::error::Error for ParseCodeError {}
 
 /// A primitive's code by its characters. A variable's selector tells small
 /// from large; the lead follows from the raw length.
@@ -138,16 +138,16 @@ impl std::error::Error for NoCode {}
 /// assert!("-A".parse::<Code>().is_err());
 /// ```
 impl FromStr for Code {
-    type Err = NoCode;
+    type Err = ParseCodeError;
 
-    fn from_str(characters: &str) -> Result<Code, NoCode> {
+    fn from_str(characters: &str) -> Result<Code, ParseCodeError> {
         match *characters.as_bytes() {
             [letter @ (b'A'..=b'Z' | b'a'..=b'z')] => Ok(Code::fixed(1, letter)),
             [b'0', letter] => Ok(Code::fixed(2, letter)),
             [b'1', b'A', b'A', letter] => Ok(Code::fixed(4, letter)),
             [b'4'..=b'6', letter] => Ok(Code::small(letter)),
             [b'7'..=b'9', b'A', b'A', letter] => Ok(Code::large(letter)),
-            _ => Err(NoCode),
+            _ => Err(ParseCodeError),
         }
     }
 }

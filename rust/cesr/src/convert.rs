@@ -41,11 +41,7 @@ type Into = fn(&[u8], &mut [u8]) -> Result<usize, Refusal>;
 
 /// The conversion with room for every stream of this length.
 fn grown(from: Form, stream: &[u8], convert: Into) -> Result<Vec<u8>, Refusal> {
-    let to = match from {
-        Form::Text => Form::Binary,
-        Form::Binary => Form::Text,
-    };
-    let mut out = vec![0; to.room(from.units(stream.len()))];
+    let mut out = vec![0; from.other().room(from.units(stream.len()))];
     let length = convert(stream, &mut out)?;
     out.truncate(length);
     Ok(out)

@@ -3,9 +3,6 @@
 use std::fmt;
 use std::str::FromStr;
 
-/// How many of a stream's first bytes tell its form.
-const TELLING: usize = 16;
-
 /// The form of a stream. The same rules hold in both.
 #[derive(Clone, Copy, Debug, PartialEq, Eq, Hash)]
 pub enum Form {
@@ -16,6 +13,17 @@ pub enum Form {
 }
 
 impl Form {
+    /// How many of a stream's first bytes tell its form.
+    pub const TELLING: usize = 16;
+
+    /// Binary for text, text for binary.
+    pub const fn other(self) -> Form {
+        match self {
+            Form::Text => Form::Binary,
+            Form::Binary => Form::Text,
+        }
+    }
+
     /// The length of a unit: 4 characters or 3 bytes.
     pub const fn unit(self) -> usize {
         match self {
@@ -33,16 +41,17 @@ impl Form {
         }
     }
 
-    /// What offsets, sizes and places count: `characters` or `bytes`.
+    /// What offsets, sizes and places count: a `character` or a `byte`.
     pub const fn measure(self) -> &'static str {
         match self {
-            Form::Text => "characters",
-            Form::Binary => "bytes",
+            Form::Text => "character",
+            Form::Binary => "byte",
         }
     }
 
-    /// Tells the form from a stream's first sixteen bytes: text if each of
-    /// them is printable ASCII, a tab or a line end, else binary.
+    /// Tells the form from a stream's first [`Form::TELLING`] bytes, or fewer
+    /// if there are no more: text if each of them is printable ASCII, a tab or
+    /// a line end, else binary.
     ///
     /// It is a guess for people and no verdict: a short binary stream may look
     /// like text (`WGhp` in binary is `Xhi`), and a program that knows the
@@ -56,7 +65,7 @@ impl Form {
     /// assert_eq!(Form::told_from(b"\x30\x00\x01"), Form::Binary);
     /// ```
     pub fn told_from(first: &[u8]) -> Form {
-        let mut telling = first.iter().take(TELLING);
+        let mut telling = first.iter().take(Form::TELLING);
         match telling.all(|byte| matches!(byte, b'\t' | b'\n' | b'\r' | 0x20..=0x7E)) {
             true => Form::Text,
             false => Form::Binary,
@@ -89,24 +98,24 @@ impl fmt::Display for Form {
 
 /// The name of no form.
 #[derive(Clone, Copy, Debug, PartialEq, Eq)]
-pub struct NoForm;
+pub struct ParseFormError;
 
-impl fmt::Display for NoForm {
+impl fmt::Display for ParseFormError {
     fn fmt(&self, f: &mut fmt::Formatter<'_>) -> fmt::Result {
         f.write_str("a form is text or binary")
     }
 }
 
-impl std::error::Error for NoForm {}
+impl std::error::Error for ParseFormError {}
 
 impl FromStr for Form {
-    type Err = NoForm;
+    type Err = ParseFormError;
 
-    fn from_str(name: &str) -> Result<Form, NoForm> {
+    fn from_str(name: &str) -> Result<Form, ParseFormError> {
         match name {
             "text" => Ok(Form::Text),
             "binary" => Ok(Form::Binary),
-            _ => Err(NoForm),
+            _ => Err(ParseFormError),
         }
     }
 }

@@ -18,7 +18,15 @@
 //! A stream is *text* (characters of URL-safe Base64) or *binary*, see
 //! [`Form`]. Offsets, sizes and places count characters in text and bytes in
 //! binary, always from the stream's start. A refused call gives a
-//! [`Refusal`]: a [`Number`] with its meaning in words, and the place.
+//! [`Refusal`]: a [`Number`] with its meaning in words, and the place. A
+//! stream longer than [`Form::limit`] is refused.
+//!
+//! `Ok` of [`judge`] is a report and no pass: refused items stand in it.
+//! [`Report::accepts_all`] says whether every byte of a stream is accepted.
+//!
+//! The library keeps nothing between calls and allocates nothing; all calls
+//! may be made from many threads at once. It is built by `rt staticlib
+//! exports` at the project's top before this crate is.
 //!
 //! ```
 //! use cesr::{judge, Form, Number};
@@ -58,9 +66,9 @@ mod refusal;
 mod report;
 mod walk;
 
-pub use code::{Code, Head, NoCode};
+pub use code::{Code, Head, ParseCodeError};
 pub use convert::{to_binary, to_binary_into, to_text, to_text_into};
-pub use form::{Form, NoForm};
+pub use form::{Form, ParseFormError};
 pub use primitive::{read, read_binary, read_text_into, write, write_into, Primitive, Tag};
 pub use refusal::{Number, Refusal};
 pub use report::{

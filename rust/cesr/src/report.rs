@@ -3,6 +3,7 @@
 use crate::{Form, Number, Refusal, State, Walk};
 use std::borrow::Cow;
 use std::iter::{Enumerate, FusedIterator};
+use std::ops::Range;
 use std::slice::ChunksExact;
 
 /// Bytes of a row of items or refusals.
@@ -11,6 +12,9 @@ const ROW: usize = 9;
 const REMAINDER: usize = 5;
 
 /// Judges a stream: refused 1 if it is too long, else its report.
+///
+/// A report is no pass: what is refused stands in it. [`Report::accepts_all`]
+/// says whether all of the stream is accepted.
 ///
 /// ```
 /// use cesr::{judge, Form, Verdict};
@@ -55,6 +59,7 @@ fn report(form: Form, stream: &[u8], out: &mut [u8]) -> Result<usize, Refusal> {
 
 /// What the library says of a stream: its top-level items in order, the
 /// refusals among them, and the remainder that could not be framed.
+#[must_use = "a report may hold refusals"]
 #[derive(Clone, Debug, PartialEq, Eq)]
 pub struct Report<'a> {
     bytes: Cow<'a, [u8]>,
@@ -121,15 +126,26 @@ impl<'a> Report<'a> {
         self.items().filter(|item| !item.is_accepted()).count()
     }
 
-    /// Does every byte of the stream of this length lie in an accepted item?
+    /// Has the stream of this length a byte, and does each of its bytes lie in
+    /// an accepted item? This is what a certificate asks.
     ///
     /// It asks for the evidence and not for the absence of refusals: the sizes
-    /// of the accepted items must make up the length. The empty stream has no
-    /// byte outside an accepted item; whoever certifies asks for one at least.
+    /// of the accepted items must make up the length. Of the empty stream there
+    /// is none, so the answer is no.
+    ///
+    /// ```
+    /// use cesr::{judge, Form};
+    /// assert!(judge(Form::Text, b"MAAB1AAM")?.accepts_all(8));
+    /// // An item is accepted and none is refused, yet four bytes are left over.
+    /// assert!(!judge(Form::Text, b"MAABE8wY")?.accepts_all(8));
+    /// assert!(!judge(Form::Text, b"")?.accepts_all(0));
+    /// # Ok::<(), cesr::Refusal>(())
+    /// ```
     pub fn accepts_all(&self, length: usize) -> bool {
         let accepted = self.items().filter(Item::is_accepted);
         let sum = accepted.fold(0, |sum: usize, item| sum.saturating_add(item.size));
-        sum == length && self.refusals().next().is_none() && self.remainder().is_none()
+        let complaints = self.refusals().next().is_some() || self.remainder().is_some();
+        length > 0 && sum == length && !complaints
     }
 
     /// Each section stands behind its count in 4 bytes. Where bytes are
@@ -177,10 +193,14 @@ impl Item {
         self.verdict == Verdict::Accepted
     }
 
+    /// From its start to its end in the stream.
+    pub fn range(&self) -> Range<usize> {
+        self.offset..self.offset.saturating_add(self.size)
+    }
+
     /// The item's own part of its stream; empty for another stream.
     pub fn of<'s>(&self, stream: &'s [u8]) -> &'s [u8] {
-        let end = self.offset.saturating_add(self.size);
-        stream.get(self.offset..end).unwrap_or_default()
+        stream.get(self.range()).unwrap_or_default()
     }
 }
 

@@ -104,7 +104,10 @@ fn every_byte_lies_in_an_item_or_the_remainder() {
             }
         }
         let clean = report.refused() == 0 && report.remainder().is_none();
-        assert_eq!(report.accepts_all(stream.len()), clean);
+        assert_eq!(
+            report.accepts_all(stream.len()),
+            clean && !stream.is_empty()
+        );
         assert!(!report.accepts_all(stream.len() + 1));
     });
 }

@@ -2,9 +2,12 @@
 
 use crate::help;
 use crate::input::Source;
+use crate::standing::Standing;
 use cesr::Form;
 use std::ffi::OsString;
 use std::path::PathBuf;
+
+const COMMANDS: &str = "judge, convert, show or numbers";
 
 /// What is asked for.
 #[derive(Debug)]
@@ -12,8 +15,8 @@ pub enum Task {
     Judge(Judge),
     Convert(Convert),
     Show(Show),
-    /// A text of the command's own.
-    Say(String),
+    /// A text of the command's own, and how the call stands that asked for it.
+    Say(String, Standing),
 }
 
 #[derive(Debug)]
@@ -50,7 +53,7 @@ pub struct Show {
 struct Given {
     form: Option<Form>,
     to: Option<Form>,
-    out: Option<PathBuf>,
+    out: Option<OsString>,
     all: bool,
     json: bool,
     report: bool,
@@ -58,30 +61,29 @@ struct Given {
     names: Vec<OsString>,
 }
 
+/// Makes a command's task of what is given.
+type Made = fn(Given) -> Result<Task, String>;
+
 /// The task, or in words what is wrong with the call.
 pub fn parse(mut arguments: impl Iterator<Item = OsString>) -> Result<Task, String> {
     let Some(command) = arguments.next() else {
-        return Err("which command? judge, convert, show or numbers".to_string());
+        return Err(format!("which command? {COMMANDS}"));
     };
-    let allowed: &[&str] = match command.to_str() {
-        Some("judge") => &["--form", "--all", "--json", "--report"],
-        Some("convert") => &["--to", "--out"],
-        Some("show") => &["--form"],
-        Some("numbers") => &[],
-        Some("help" | "--help" | "-h") => return Ok(Task::Say(help::HELP.to_string())),
-        Some("--version" | "-V") => return Ok(Task::Say(help::VERSION.to_string())),
-        _ => return Err(format!("no such command: {}", command.to_string_lossy())),
+    let command = command.to_string_lossy();
+    let (task, allowed): (Made, &[&str]) = match &*command {
+        "judge" => (judge, &["--form", "--all", "--json", "--report"]),
+        "convert" => (convert, &["--to", "--out"]),
+        "show" => (show, &["--form"]),
+        "numbers" => (|given| said(given, help::numbers()), &[]),
+        "help" | "--help" | "-h" => (|given| said(given, help::HELP.to_string()), &[]),
+        "--version" | "-V" => (|given| said(given, help::VERSION.to_string()), &[]),
+        _ => return Err(format!("no such command: {command} ({COMMANDS})")),
     };
     let given = Given::from(arguments, allowed)?;
-    if given.help {
-        return Ok(Task::Say(help::HELP.to_string()));
-    }
-    match command.to_str() {
-        Some("judge") => judge(given),
-        Some("convert") => convert(given),
-        Some("show") => show(given),
-        _ if given.names.is_empty() => Ok(Task::Say(help::numbers())),
-        _ => Err("numbers takes no FILE".to_string()),
+    match given.help {
+        // A file may have this name: nothing was judged, so it is no pass.
+        true => Ok(Task::Say(help::HELP.to_string(), Standing::Error)),
+        false => task(given),
     }
 }
 
@@ -97,6 +99,9 @@ impl Given {
                 Some("--help" | "-h") => given.help = true,
                 Some(option) if option.starts_with('-') && option != "-" => {
                     given.option(option, &mut arguments, allowed)?;
+                }
+                None if argument.as_encoded_bytes().starts_with(b"-") => {
+                    return Err(no_such_option(&argument.to_string_lossy()));
                 }
                 _ => given.names.push(argument),
             }
@@ -115,7 +120,7 @@ impl Given {
             None => (option, None),
         };
         if !allowed.contains(&name) {
-            return Err(format!("no such option here: {option}"));
+            return Err(no_such_option(option));
         }
         let mut valued = || {
             let value = value.take().or_else(|| arguments.next());
@@ -124,7 +129,7 @@ impl Given {
         match name {
             "--form" => self.form = Some(form(valued()?)?),
             "--to" => self.to = Some(form(valued()?)?),
-            "--out" => self.out = Some(PathBuf::from(valued()?)),
+            "--out" => self.out = Some(valued()?).filter(|name| name != "-"),
             "--all" => self.all = true,
             "--json" => self.json = true,
             _ => self.report = true,
@@ -136,9 +141,20 @@ impl Given {
     }
 }
 
+fn no_such_option(option: &str) -> String {
+    format!("no such option here: {option}")
+}
+
 fn form(name: OsString) -> Result<Form, String> {
     let name = name.to_string_lossy();
     name.parse().map_err(|wrong| format!("{wrong}, not {name}"))
+}
+
+fn said(given: Given, text: String) -> Result<Task, String> {
+    match given.names.is_empty() {
+        true => Ok(Task::Say(text, Standing::Passed)),
+        false => Err("there is no FILE for this".to_string()),
+    }
 }
 
 fn judge(given: Given) -> Result<Task, String> {
@@ -152,6 +168,9 @@ fn judge(given: Given) -> Result<Task, String> {
     let names = given.names;
     if style == Style::Report && names.len() > 1 {
         return Err("--report is of one stream".to_string());
+    }
+    if names.iter().filter(|name| *name == "-").count() > 1 {
+        return Err("standard input can be read once".to_string());
     }
     let sources = match names.is_empty() {
         true => vec![Source::Standard],
@@ -167,7 +186,7 @@ fn judge(given: Given) -> Result<Task, String> {
 fn convert(given: Given) -> Result<Task, String> {
     Ok(Task::Convert(Convert {
         to: given.to,
-        out: given.out,
+        out: given.out.map(PathBuf::from),
         source: at_most_one(given.names)?,
     }))
 }

@@ -7,7 +7,7 @@ use crate::standing::Standing;
 use crate::terminal::Progress;
 use crate::words::{self, on_one_line};
 use crate::{complain, excerpt, readable};
-use cesr::{Form, Refusal};
+use cesr::{Form, Number, Refusal};
 use std::fs;
 use std::io::{self, IsTerminal, Write};
 use std::path::Path;
@@ -15,7 +15,7 @@ use std::path::Path;
 /// Passed where all of the stream was converted and written.
 pub fn run(task: &Convert, out: &mut dyn Write) -> io::Result<Standing> {
     let name = on_one_line(&task.source.name());
-    let from = task.to.map(other);
+    let from = task.to.map(Form::other);
     let input = match input::read(&task.source, from, &mut Progress::told()) {
         Ok(input) => input,
         Err(why) => return failed(&format!("{name}: {why}")),
@@ -29,6 +29,9 @@ pub fn run(task: &Convert, out: &mut dyn Write) -> io::Result<Standing> {
     if input.told {
         complain(&format!("{name}: {}", input.form_in_words()));
     }
+    if task.to == Some(Form::Text) && Form::told_from(&input.bytes) == Form::Text {
+        complain(&format!("{name}: looks like text, is converted as binary"));
+    }
     let answer = match input.form {
         Form::Text => cesr::to_binary(&input.bytes),
         Form::Binary => cesr::to_text(&input.bytes),
@@ -40,13 +43,6 @@ pub fn run(task: &Convert, out: &mut dyn Write) -> io::Result<Standing> {
             failed("binary is not for a terminal: give --out FILE, or send it to a pipe")
         }
         (Ok(converted), None) => out.write_all(&converted).map(|()| Standing::Passed),
-    }
-}
-
-fn other(form: Form) -> Form {
-    match form {
-        Form::Text => Form::Binary,
-        Form::Binary => Form::Text,
     }
 }
 
@@ -65,20 +61,17 @@ fn to_file(path: &Path, converted: &[u8]) -> io::Result<Standing> {
     }
 }
 
-/// The refusal; where it has a place in the stream, with the bytes there.
+/// The refusal; where it has a place in the stream, with the bytes there. What
+/// makes units not whole is looked for at the end.
 fn explained(input: &Input, refusal: Refusal) -> String {
     let mut text = refusal.to_string();
-    if refusal.number == cesr::Number::CHARACTER {
-        let lines = excerpt::at(input.form, &input.bytes, 0..0, refusal.place);
+    let mut place = input.bytes.len().saturating_sub(1);
+    if refusal.number == Number::CHARACTER {
+        place = refusal.place;
+        let lines = excerpt::at(input.form, &input.bytes, 0..0, place);
         text.push('\n');
         text.push_str(lines.unwrap_or_default().trim_end());
     }
-    let last = input.bytes.len().saturating_sub(1);
-    let place = if refusal.place > 0 {
-        refusal.place
-    } else {
-        last
-    };
     if let Some(note) = readable::note(input, refusal.number, place) {
         text.push_str(&format!("\n        {note}"));
     }

@@ -12,25 +12,23 @@ const BINARY: usize = 20;
 /// place outside the stream.
 pub fn at(form: Form, stream: &[u8], item: Range<usize>, place: usize) -> Option<String> {
     stream.get(place)?;
-    let (width, gap) = match form {
-        Form::Text => (TEXT, ""),
-        Form::Binary => (BINARY, " "),
+    let width = match form {
+        Form::Text => TEXT,
+        Form::Binary => BINARY,
     };
     let from = window(form, item.start.min(place), place, width);
-    let part = stream.get(from..)?;
-    let shown: Vec<String> = part
-        .iter()
-        .take(width)
-        .map(|byte| one(form, *byte))
-        .collect();
-    let marks: Vec<&str> = (from..item.end.max(place.saturating_add(1)))
+    let part = stream.get(from..)?.iter().take(width);
+    let shown: String = match form {
+        Form::Text => part.map(|byte| printable(*byte)).collect(),
+        Form::Binary => part.map(|byte| format!("{byte:02X} ")).collect(),
+    };
+    let marked = from..item.end.max(place.saturating_add(1));
+    let marks: String = marked
         .take(width)
         .map(|at| mark(form, at == place, item.contains(&at)))
         .collect();
-    let label = format!("{from:>8}  ");
-    let margin = " ".repeat(label.len());
-    let (shown, marks) = (shown.join(gap), marks.join(gap));
-    Some(format!("{label}{shown}\n{margin}{marks}\n"))
+    let (shown, marks) = (shown.trim_end(), marks.trim_end());
+    Some(format!("{from:>8}  {shown}\n{:10}{marks}\n", ""))
 }
 
 /// The item's start if the place is then in sight; else a whole number of
@@ -45,11 +43,10 @@ fn window(form: Form, start: usize, place: usize, width: usize) -> usize {
     start.saturating_add(aligned)
 }
 
-fn one(form: Form, byte: u8) -> String {
-    match (form, byte) {
-        (Form::Binary, _) => format!("{byte:02X}"),
-        (Form::Text, 0x20..=0x7E) => char::from(byte).to_string(),
-        (Form::Text, _) => ".".to_string(),
+fn printable(byte: u8) -> char {
+    match byte {
+        0x20..=0x7E => char::from(byte),
+        _ => '.',
     }
 }
 
@@ -58,8 +55,8 @@ fn mark(form: Form, is_place: bool, is_item: bool) -> &'static str {
         (Form::Text, true, _) => "^",
         (Form::Text, _, true) => "~",
         (Form::Text, _, _) => " ",
-        (Form::Binary, true, _) => "^^",
-        (Form::Binary, _, true) => "~~",
-        (Form::Binary, _, _) => "  ",
+        (Form::Binary, true, _) => "^^ ",
+        (Form::Binary, _, true) => "~~ ",
+        (Form::Binary, _, _) => "   ",
     }
 }

@@ -5,11 +5,9 @@ use crate::terminal::Progress;
 use crate::words;
 use cesr::Form;
 use std::fs::File;
-use std::io::{self, Read};
+use std::io::{self, Read, Write};
 use std::path::PathBuf;
 
-/// Bytes that tell the form where it isn't given.
-const TELLING: usize = 16;
 /// Bytes read at once, between two looks at the clock.
 const PIECE: usize = 1 << 14;
 
@@ -52,13 +50,21 @@ impl Input {
 /// Reads a stream, or says in words why it could not be read.
 pub fn read(source: &Source, form: Option<Form>, progress: &mut Progress) -> Result<Input, String> {
     let input = match source {
-        Source::Standard => {
-            progress.waits();
-            limited(&mut io::stdin().lock(), form, progress)
-        }
+        Source::Standard => typed_or_piped(form, progress),
         Source::File(path) => whole(path, form, progress),
     };
+    progress.clear();
     input.map_err(|error| words::of_error(&error))
+}
+
+/// What is typed ends without a line feed, so that the report needs a new line.
+fn typed_or_piped(form: Option<Form>, progress: &mut Progress) -> io::Result<Input> {
+    let typed = progress.waits();
+    let input = limited(&mut io::stdin().lock(), form, progress);
+    if typed {
+        let _ = writeln!(io::stderr());
+    }
+    input
 }
 
 fn whole(path: &PathBuf, form: Option<Form>, progress: &mut Progress) -> io::Result<Input> {
@@ -86,31 +92,34 @@ fn limited(
     progress: &mut Progress,
 ) -> io::Result<Input> {
     let mut bytes = Vec::new();
-    filled(reader, &mut bytes, TELLING, progress)?;
+    let ended = filled(reader, &mut bytes, Form::TELLING, progress)?;
     let told = form.is_none();
     let form = form.unwrap_or_else(|| Form::told_from(&bytes));
-    let most = form.limit().saturating_add(1);
-    filled(reader, &mut bytes, most, progress)?;
+    if !ended {
+        let most = form.limit().saturating_add(1);
+        filled(reader, &mut bytes, most, progress)?;
+    }
     Ok(Input { bytes, form, told })
 }
 
-/// Reads on until there are so many bytes, or the end comes.
+/// Reads on until there are so many bytes, or the end comes: true then. The
+/// end is taken at its first word, since a terminal that is asked again waits
+/// for a second one.
 fn filled(
     mut reader: &mut dyn Read,
     bytes: &mut Vec<u8>,
     most: usize,
     progress: &mut Progress,
-) -> io::Result<()> {
-    loop {
-        let before = bytes.len();
-        let left = most.saturating_sub(before).min(PIECE);
-        let left = u64::try_from(left).unwrap_or(u64::MAX);
-        (&mut reader).take(left).read_to_end(bytes)?;
-        progress.tick(|| format!("{} bytes read", bytes.len()));
-        if bytes.len() == before {
-            return Ok(());
+) -> io::Result<bool> {
+    while bytes.len() < most {
+        let asked = most.saturating_sub(bytes.len()).min(PIECE);
+        let limit = u64::try_from(asked).unwrap_or(u64::MAX);
+        if (&mut reader).take(limit).read_to_end(bytes)? < asked {
+            return Ok(true);
         }
+        progress.tick(|| format!("{} bytes read", bytes.len()));
     }
+    Ok(false)
 }
 
 #[cfg(test)]

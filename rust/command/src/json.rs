@@ -2,6 +2,7 @@
 
 use crate::input::Input;
 use crate::outcome::{code_and_name, Found, Outcome};
+use crate::words::is_unseen;
 use cesr::{Item, Number, RefusalRow, Remainder, Report};
 use std::io::{self, Write};
 
@@ -119,7 +120,7 @@ fn quoted(text: &str) -> String {
     for c in text.chars() {
         match c {
             '"' | '\\' => quoted.extend(['\\', c]),
-            c if c.is_control() => quoted.push_str(&format!("\\u{:04x}", u32::from(c))),
+            c if is_unseen(c) => quoted.push_str(&format!("\\u{:04x}", u32::from(c))),
             c => quoted.push(c),
         }
     }

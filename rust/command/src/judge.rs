@@ -16,22 +16,24 @@ pub fn run(task: &Judge, out: &mut dyn Write) -> io::Result<Standing> {
         complain("a report is bytes: send it to a file or a pipe");
         return Ok(Standing::Error);
     }
+    let many = task.sources.len() > 1 && matches!(task.style, Style::Plain | Style::All);
+    // A stream's line and the complaint would stand there one below the other.
+    let one_terminal = io::stdout().is_terminal() && io::stderr().is_terminal();
     let (paint, mut progress) = (Paint::told(), Progress::told());
     let mut total = Total::default();
     for (index, source) in task.sources.iter().enumerate() {
         progress.at(index.saturating_add(1), task.sources.len());
         progress.tick(|| "judging".to_string());
         let outcome = Outcome::of(source, task.form, &mut progress);
-        progress.clear();
         one(task, out, &outcome, paint)?;
         // A stream's line leaves whole, also where many write to one file.
         out.flush()?;
-        if let Some(why) = outcome.complaint() {
+        if let Some(why) = outcome.complaint().filter(|_| !(many && one_terminal)) {
             complain(&format!("{}: {why}", on_one_line(&outcome.name)));
         }
         total.add(&outcome);
     }
-    if task.sources.len() > 1 && matches!(task.style, Style::Plain | Style::All) {
+    if many {
         writeln!(out, "{}", total.in_words())?;
     }
     Ok(total.worst())

@@ -33,12 +33,13 @@ use arguments::Task;
 use standing::Standing;
 use std::io::{self, Write};
 use std::process::ExitCode;
+use words::on_one_line;
 
 fn main() -> ExitCode {
     let standing = match arguments::parse(std::env::args_os().skip(1)) {
         Ok(task) => done(task),
         Err(usage) => {
-            complain(&format!("{usage}\nTry 'cesr --help'."));
+            complain(&format!("{}\nTry 'cesr --help'.", on_one_line(&usage)));
             Standing::Error
         }
     };
@@ -56,7 +57,7 @@ fn done(task: Task) -> Standing {
         Task::Judge(task) => judge::run(&task, &mut out),
         Task::Convert(task) => convert::run(&task, &mut out),
         Task::Show(task) => show::run(&task, &mut out),
-        Task::Say(text) => out.write_all(text.as_bytes()).map(|()| Standing::Passed),
+        Task::Say(text, standing) => out.write_all(text.as_bytes()).map(|()| standing),
     };
     let written = standing.and_then(|standing| out.flush().map(|()| standing));
     match written {

@@ -117,8 +117,7 @@ fn refused(
     let (code, name) = code_and_name(input.form, item.of(&input.bytes));
     let size = measured(input.form, item.size);
     writeln!(out, "        {code} {name}, {size} from {}", item.offset)?;
-    let end = item.offset.saturating_add(item.size);
-    bytes_at(out, input, item.offset..end, row.refusal)
+    bytes_at(out, input, item.range(), row.refusal)
 }
 
 fn remainder(out: &mut dyn Write, input: &Input, rest: Remainder, paint: Paint) -> io::Result<()> {
@@ -153,6 +152,9 @@ pub fn note(input: &Input, number: Number, place: usize) -> Option<String> {
     let ends_line = input.bytes.ends_with(b"\n");
     let last = place.saturating_add(2) >= input.bytes.len();
     match (number, input.form) {
+        _ if place == 0 && input.bytes.starts_with(b"\xEF\xBB\xBF") => {
+            Some("the stream opens with a byte order mark, which is no part of it".to_string())
+        }
         (Number::CHARACTER, _) => {
             let kind = kind_of(byte);
             Some(format!(

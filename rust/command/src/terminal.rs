@@ -1,5 +1,6 @@
 //! What only a terminal gets: colours, and the progress of long work.
 
+use crate::complain;
 use std::env;
 use std::io::{self, IsTerminal, Write};
 use std::time::{Duration, Instant};
@@ -8,6 +9,11 @@ use std::time::{Duration, Instant};
 const LONG: Duration = Duration::from_millis(500);
 /// And not more often than this.
 const PAUSE: Duration = Duration::from_millis(100);
+
+/// A terminal that takes no escape sequences.
+fn is_dumb() -> bool {
+    env::var_os("TERM").is_none_or(|name| name == "dumb")
+}
 
 /// Colours for standard output, or none.
 #[derive(Clone, Copy, Debug)]
@@ -18,10 +24,9 @@ pub struct Paint {
 impl Paint {
     /// Colours at a terminal that has some, unless NO_COLOR is set.
     pub fn told() -> Paint {
-        let dumb = env::var_os("TERM").is_none_or(|name| name == "dumb");
-        let wanted = env::var_os("NO_COLOR").is_none() && !dumb;
+        let wanted = env::var_os("NO_COLOR").is_none();
         Paint {
-            on: wanted && io::stdout().is_terminal(),
+            on: wanted && io::stdout().is_terminal() && !is_dumb(),
         }
     }
 
@@ -57,7 +62,7 @@ pub struct Progress {
 impl Progress {
     pub fn told() -> Progress {
         Progress {
-            on: io::stderr().is_terminal(),
+            on: io::stderr().is_terminal() && !is_dumb(),
             // The first line comes after `LONG`, the others after `PAUSE`.
             last: Instant::now()
                 .checked_add(LONG.saturating_sub(PAUSE))
@@ -74,11 +79,15 @@ impl Progress {
         }
     }
 
-    /// Says that a terminal is asked for the stream.
-    pub fn waits(&self) {
-        if self.on && io::stdin().is_terminal() {
-            let _ = writeln!(io::stderr(), "cesr: reading standard input to its end");
+    /// Is the stream typed at a terminal? Says then that it is waited for, and
+    /// keeps off the line that somebody types on.
+    pub fn waits(&mut self) -> bool {
+        let typed = io::stdin().is_terminal();
+        if typed {
+            self.on = false;
+            complain("reading standard input to its end");
         }
+        typed
     }
 
     pub fn tick(&mut self, text: impl FnOnce() -> String) {
@@ -96,11 +105,5 @@ impl Progress {
             let _ = write!(io::stderr(), "\r\u{1b}[K");
             self.shown = false;
         }
-    }
-}
-
-impl Drop for Progress {
-    fn drop(&mut self) {
-        self.clear();
     }
 }

@@ -124,6 +124,23 @@ fn strangers_by_name() {
     }
 }
 
+/// An editor's byte order mark: EF is 111011 and BB goes on with it, `77u_` in
+/// characters, which heads no code.
+#[test]
+fn a_byte_order_mark() {
+    let stream = [b"\xEF\xBB\xBF", &sample("clean.cesr")[..]].concat();
+    let note = "the stream opens with a byte order mark, which is no part of it\n";
+    told(&stream, 1, note);
+    let ran = fed(&["judge"], &stream);
+    assert!(ran
+        .text()
+        .contains("remainder 6 from 0\n        binary (told"));
+    assert!(ran.text().ends_with(note));
+    assert!(fed(&["convert", "--to", "binary"], &stream)
+        .err
+        .contains("not whole units"));
+}
+
 /// A stranger anywhere is never passed over.
 #[test]
 fn a_stranger_at_every_place() {

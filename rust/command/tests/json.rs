@@ -53,6 +53,33 @@ for line in sys.stdin:
     );
 }
 
+/// The guide's table has every key, and no other.
+#[test]
+fn the_guide_has_every_key() {
+    let names = [
+        "gone.cesr",
+        "/dev/zero",
+        "samples/first.cesr",
+        "samples/cut.cesr",
+    ];
+    let ran = run(&[&["judge", "--json", "--all"], &names[..]].concat());
+    let script = "
+import json, re, sys
+used = set()
+def look(at):
+    for inner in at.values() if isinstance(at, dict) else at if isinstance(at, list) else ():
+        look(inner)
+    used.update(at if isinstance(at, dict) else ())
+for line in sys.stdin:
+    look(json.loads(line))
+table = open('docs/GUIDE.md').read().split('| Key | Stands where | Holds |')[1].split('\\n\\n')[0]
+said = set(re.findall('`([a-z]+)`', table))
+words = {'passed', 'failed', 'empty', 'text', 'binary'}
+print(sorted(used - said), sorted(said - used - words))
+";
+    assert_eq!(python(script, &ran.out), "[] []\n");
+}
+
 /// Names with quotes, control characters and other letters come back whole.
 #[test]
 fn names_come_back_whole() {
@@ -63,12 +90,14 @@ fn names_come_back_whole() {
         "\u{1b}[31m",
         "\u{e9}\u{1f600}\u{85}",
         "\u{7f}",
+        "a\u{202e}b\u{2028}c",
     ] {
         let path = folder.file(name, b"MAAB");
         let ran = run(&["judge", "--json", &path]);
         let script = "import json, sys; sys.stdout.buffer.write(json.loads(sys.stdin.buffer.read())['stream'].encode())";
         assert_eq!(python(script, &ran.out), path);
         assert_eq!(ran.out.iter().filter(|byte| **byte == b'\n').count(), 1);
+        assert!(!ran.text().contains(['\u{1b}', '\u{85}', '\u{202e}']));
     }
 }
 

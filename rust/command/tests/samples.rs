@@ -153,11 +153,29 @@ fn streams_are_converted_both_ways() {
     );
 }
 
+/// `-` is standard output; a text that is called binary is converted, and said.
+#[test]
+fn conversions_that_surprise() {
+    let arguments = ["convert", "--to=binary", "--out", "-", "samples/clean.cesr"];
+    assert_eq!(run(&arguments).out, sample("clean-binary.cesr"));
+    let ran = fed(&["convert", "--to", "text"], b"MAABMAABMAAB");
+    assert_eq!(
+        (ran.out.as_slice(), ran.status),
+        (&b"TUFBQk1BQUJNQUFC"[..], 0)
+    );
+    let said = "cesr: standard input: looks like text, is converted as binary\n";
+    assert_eq!(ran.err, said);
+}
+
 #[test]
 fn a_refused_conversion_writes_nothing() {
     let ran = fed(&["convert", "--to", "binary"], b"MAABMA!B");
     assert_eq!((ran.out.as_slice(), ran.status), (&b""[..], 2));
     assert_eq!(ran.err, expected("convert-5.txt"));
+    let ran = fed(&["convert", "--to", "binary"], b"+AAB");
+    assert!(ran
+        .err
+        .ends_with("the byte at 0 is 2B hexadecimal, of ordinary Base64\n"));
     let ran = fed(&["convert", "--to", "binary"], b"MAAB\n");
     assert_eq!((ran.out.as_slice(), ran.status), (&b""[..], 2));
     assert_eq!(ran.err, expected("convert-2.txt"));

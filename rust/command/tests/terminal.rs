@@ -9,6 +9,14 @@ use common::python;
 /// longer than half a second.
 const PLAY: &str = r#"
 import os, pty, subprocess, tempfile, time
+def to_end(main):
+    said = b''
+    while True:
+        try: piece = os.read(main, 65536)
+        except OSError: break
+        if not piece: break
+        said += piece
+    return said
 def play(arguments, out, err, slow=False, **settings):
     main, side = pty.openpty()
     env = {k: v for k, v in os.environ.items() if k not in ('NO_COLOR', 'TERM')}
@@ -23,12 +31,7 @@ def play(arguments, out, err, slow=False, **settings):
             child.stdin.flush()
             time.sleep(0.1)
     child.stdin.close()
-    said = b''
-    while True:
-        try: piece = os.read(main, 65536)
-        except OSError: break
-        if not piece: break
-        said += piece
+    said = to_end(main)
     child.wait()
     rest.seek(0)
     return said, rest.read()
@@ -78,6 +81,46 @@ at, piped = play(['judge'], True, False, slow=True)
 assert b'bytes read' not in at + piped, piped
 # A busy machine may make short work long, but not every time.
 assert any(play(['judge', 'samples/clean.cesr'], False, True)[0] == b'' for _ in range(5))
+",
+    );
+}
+
+/// A stream that is typed: one end is enough, and no progress is written over
+/// what somebody types.
+#[test]
+fn a_stream_is_typed() {
+    holds(
+        "
+pid, main = pty.fork()
+if pid == 0:
+    os.environ['TERM'] = 'xterm'
+    os.execvp('cesr', ['cesr', 'judge'])
+said = os.read(main, 65536)
+os.write(main, b'MAAB1AAK')
+time.sleep(0.8)
+os.write(main, b'\\x04\\x04')
+said += to_end(main)
+assert os.waitstatus_to_exitcode(os.waitpid(pid, 0)[1]) == 0
+assert b'bytes read' not in said and said.startswith(b'cesr: reading standard input'), said
+assert b'MAAB1AAK\\r\\n\\x1b[32mpassed' in said, said
+",
+    );
+}
+
+/// A stream that can't be read is told once where both outputs are seen.
+#[test]
+fn a_complaint_is_seen_once() {
+    holds(
+        "
+names = ['samples/clean.cesr', 'gone.cesr']
+at, _ = play(['judge'] + names, True, True)
+assert at.count(b'No such file') == 1, at
+at, _ = play(['judge'] + names[1:], True, True)
+assert at.count(b'No such file') == 1, at
+at, piped = play(['judge'] + names, True, False)
+assert at.count(b'No such file') == piped.count(b'No such file') == 1, (at, piped)
+at, piped = play(['judge', '--json'] + names, True, True)
+assert at.count(b'No such file') == 2, at
 ",
     );
 }

@@ -178,11 +178,14 @@ fn a_full_device() {
 #[test]
 fn standard_output_or_input_closed_from_the_start() {
     for task in ["judge", "judge --json", "judge --report", "show 0"] {
-        let ran = shell(&format!("cesr {task} samples/clean.cesr >&-"));
-        assert_eq!(
-            (ran.status, ran.err.as_str()),
-            (2, "cesr: standard output: closed\n")
-        );
+        // Closed, and open for reading only.
+        for unwritable in [">&-", "1< /dev/null"] {
+            let ran = shell(&format!("cesr {task} samples/clean.cesr {unwritable}"));
+            assert_eq!(
+                (ran.status, ran.err.as_str()),
+                (2, "cesr: standard output: closed\n")
+            );
+        }
         let ran = shell(&format!("cesr {task} samples/clean.cesr > /dev/null"));
         assert_eq!((ran.status, ran.err.as_str()), (0, ""));
     }
@@ -211,6 +214,13 @@ fn a_wrong_call_is_an_error() {
         &["show", "samples/clean.cesr"],
         &["show", "-1", "samples/clean.cesr"],
         &["show"],
+        &["judge", "-", "samples/clean.cesr", "-"],
+        &["judge", "--form", "te\u{1b}[31mxt"],
+        &["\u{1b}[31m"],
+        &["samples/clean.cesr"],
+        &["--json", "judge", "samples/clean.cesr"],
+        &["--help", "samples/clean.cesr"],
+        &["--version", "samples/clean.cesr"],
         &["convert", "samples/clean.cesr", "samples/clean.cesr"],
         &["numbers", "4"],
     ] {
@@ -221,6 +231,7 @@ fn a_wrong_call_is_an_error() {
             "{arguments:?}"
         );
         assert!(ran.err.ends_with("\nTry 'cesr --help'.\n"), "{}", ran.err);
+        assert!(!ran.err.contains('\u{1b}'), "{}", ran.err);
     }
 }
 
@@ -228,10 +239,10 @@ fn a_wrong_call_is_an_error() {
 #[test]
 fn odd_names_stay_on_one_line() {
     let folder = Folder::new();
-    let odd = folder.file("a\npassed  b\u{1b}[2J.cesr", b"MQAA");
+    let odd = folder.file("a\npassed  b\u{1b}[2J\u{202e}.cesr", b"MQAA");
     let ran = run(&["judge", &odd, "samples/clean.cesr"]);
     assert_eq!((ran.status, ran.text().lines().count()), (1, 3));
-    assert!(!ran.text().contains('\u{1b}'));
+    assert!(!ran.text().contains(['\u{1b}', '\u{202e}']));
     let dashed = folder.file("--all", b"MAAB");
     let ran = run(&["judge", "--", &dashed]);
     assert_eq!(ran.status, 0);
@@ -239,14 +250,35 @@ fn odd_names_stay_on_one_line() {
 
 #[test]
 fn help_and_version_are_no_errors() {
-    for arguments in [
-        &["--help"][..],
-        &["judge", "--help"],
-        &["show", "-h"],
-        &["--version"],
-    ] {
-        let ran = run(arguments);
+    for arguments in ["help", "--help", "-h", "--version", "-V"] {
+        let ran = run(&[arguments]);
         assert_eq!((ran.status, ran.err.as_str()), (0, ""));
         assert!(ran.text().starts_with("cesr"));
+    }
+}
+
+/// A file may be called `--help`, and a pattern gives its name: no pass.
+#[test]
+fn help_behind_a_command_is_no_pass() {
+    let help = run(&["--help"]).text();
+    for arguments in [
+        &["judge", "--help"][..],
+        &["judge", "samples/clean.cesr", "--help"],
+        &["judge", "-h", "samples/clean.cesr"],
+        &["show", "0", "--help", "samples/clean.cesr"],
+        &["convert", "--help"],
+    ] {
+        let ran = run(arguments);
+        assert_eq!((ran.status, ran.text()), (2, help.clone()), "{arguments:?}");
+    }
+}
+
+/// An option that is no UTF-8 is not taken for a name.
+#[test]
+fn options_in_other_bytes_are_errors() {
+    for option in ["$'--out=\\xff'", "$'-\\xff'"] {
+        let ran = shell(&format!("cesr convert {option} samples/clean.cesr"));
+        assert_eq!((ran.status, ran.text()), (2, String::new()));
+        assert!(ran.err.starts_with("cesr: no such option here: -"));
     }
 }
