@@ -5,10 +5,9 @@ use mathlib.Core.List.{List, [], _∷_}
 use mathlib.Core.Logic.{⊎-elim}
 use Prim.Native.Nat.{ℕ, zero, suc, _+_, _-_, _*_, _/_, _<_, _≤_}
 use native.Mathlib.Omega.{arith}
-use lib.Dec.{ltb, eqb}
+use lib.Dec.{ltb}
 use lib.ListN.{length, take, drop, length-take, length-map}
 use lib.Seq.{slice}
-use borrow.Author.Tests.{eqb-true, ltb-true}
 use Rattle.base.specs.Pick.{pick}
 use Rattle.base.specs.Cases.{whether}
 use Rattle.base.specs.Lists.{map-take, map-drop}
@@ -32,7 +31,7 @@ use Rattle.laws.specs.Levels.{part, part-length, part-drop, part-take, take-of-
 use Rattle.framing.proofs.Laws.{lawful}
 use Rattle.judging.specs.Own.{toldBy}
 use Rattle.judging.proofs.Bounds.{Head, frame-head, ruled-head, Near, own-near}
-use Rattle.contents.specs.Next.{ownOf, nextOwn, isEntered, isRuled, isTail, Judged}
+use Rattle.contents.specs.Next.{ownOf, nextOwn, isEntered, isRuled, Judged}
 
 -- ---- the next item
 
@@ -283,15 +282,7 @@ module _ (s : List ℕ) (l : ℕ) (first : Bool) (at stop : ℕ) (long : 4 * sto
     judged-entered i Accepted w r t = rw t (leaves (turn-entered s l first at stop long lt k h n own i Accepted w refl))
     judged-entered i (Refused m p) w r t = rw t (turn-inner s l first at stop long lt k h n own i (Refused m p) w m p refl)
 
--- ---- a group that is all there is
-
-pub tail-is : (g n l : ℕ) → isTail g n l ≡ true → (g ≡ n) × (0 < l)
-unfolding isTail
-tail-is g n l e = go (eqb g n) refl e
-  where
-    go : (b : Bool) → eqb g n ≡ b → pick b (ltb 0 l) false ≡ true → (g ≡ n) × (0 < l)
-    go true f q = (eqb-true g n f, ltb-true 0 l q)
-    go false f q = absurd (let y : _≡_ {A = ℕ} 0 1 = cc in omega arith)
+-- ---- 7 in a group that is entered
 
 pub marked : (s : List ℕ) (l at stop x y : ℕ) → x ≡ y → level s l (isOverrideable y) at stop ≡ level s l (ltb x 3) at stop
 unfolding isOverrideable

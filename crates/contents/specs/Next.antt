@@ -3,9 +3,7 @@ use Prim.Native.Nat.{ℕ, _+_, _*_, _<_, _≤_}
 use mathlib.Core.Path.{_≡_}
 use mathlib.Core.Bool.{Bool, true, false, not}
 use mathlib.Core.List.{List}
-use lib.Dec.{ltb, eqb}
 use lib.ListN.{take}
-use Rattle.base.specs.Pick.{pick}
 use Rattle.format.specs.declared.CodeRow.{CodeRow}
 use Rattle.format.specs.declared.Kind.{Kind}
 use Rattle.format.specs.declared.Kind.the-variants.{Fixed, Variable, Group, Genus}
@@ -38,10 +36,6 @@ isRuled (Fixed c) = false
 isRuled (Variable t l c) = false
 isRuled (Group letter) = isOverrideable letter
 isRuled Genus = false
-
--- a group of so many units that are all there is, where one may be entered
-unfoldable pub isTail : ℕ → ℕ → ℕ → Bool
-isTail units all levels = pick (eqb units all) (ltb 0 levels) false
 
 -- what is said of the next item from a unit on: its refusal is the first, or it leaves the rest
 abbrev pub Judged : List ℕ → ℕ → Bool → ℕ → ℕ → Framed → Type 0

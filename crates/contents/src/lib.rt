@@ -4,7 +4,7 @@ use format::Framed;
 use format::Kind;
 ghost use mathlib.Core.Path.{_≡_};
 ghost use Rattle.format.specs.Units.{textSextets, binarySextets};
-ghost use Rattle.contents.specs.Next.{nextOwn, isEntered, isRuled, isTail};
+ghost use Rattle.contents.specs.Next.{nextOwn, isEntered, isRuled};
 
 // ---- the next item, framed, and judged by its own checks
 
@@ -77,11 +77,4 @@ pub fn is_ruled(kind: Kind) -> bool
         Kind::Group { letter } => letter < 3,
         Kind::Genus => false,
     }
-}
-
-// A group of so many units that are all there is, where one may be entered.
-pub fn is_tail(units: usize, all: usize, levels: usize) -> bool
-    ensures { λ r. ⌜ r ≡ isTail units all levels ⌝ }
-{
-    if units == all { 0 < levels } else { false }
 }

@@ -33,7 +33,7 @@ use Rattle.claims.specs.Room.{report-fits}
 use Rattle.base.specs.Digits.{Below}
 use Rattle.runs.specs.Plain.{plainTable, sizedAt, plainAt, groupAt, letterAt, sextetsBy}
 use Rattle.runs.specs.Tables.{by-table}
-use Rattle.runs.specs.Levels.{Fixed1, plain-drop, sized-drop, group-drop, plain-level, by-items}
+use Rattle.runs.specs.Levels.{Sized, plain-drop, sized-drop, group-drop, plain-level, by-items}
 use Rattle.runs.specs.Runs.{Run, Clean, item-known}
 use Rattle.report.specs.Filling.{rowWith, turn, Filled, filled-room, filled-more, filled-counts, filled-end, rowsOnto, stores-good, count-good, no-rest, one-rest, one-rest-long}
 
@@ -250,7 +250,7 @@ module _ (d : Domain) (G : Reader d) (u : ℕ) (is-u : d .unit ≡ u) (xs : List
       rw (top-drop a h, q) (sym (group-drop (d .sextets xs) a n (sym e) p (omega (arith, units-of))))
 
   -- r primitives of k units from a unit on, framed
-  module _ (k a r : ℕ) (nth : (j : ℕ) → j < r → Fixed1 (d .sextets (drop (u * (a + j * k)) xs)) k) where
+  module _ (k a r : ℕ) (nth : (j : ℕ) → j < r → Sized (d .sextets (drop (u * (a + j * k)) xs)) k) where
     pub count-run : (i : ℕ) → length (rowsIn d xs) ≡ i + length (rowsAt d (u * a) (drop (u * a) xs))
         → length (rowsIn d xs) ≡ i + r + length (rowsAt d (u * (a + r * k)) (drop (u * (a + r * k)) xs))
     count-run i s =
@@ -260,17 +260,17 @@ module _ (d : Domain) (G : Reader d) (u : ℕ) (is-u : d .unit ≡ u) (xs : List
         let z : u * (a + j * k) + k * d .unit ≡ u * (a + j * k + k) = rw is-u (rw (mul-comm k u) (sym (mul-add u (a + j * k) k))) in
         e ∙ rw (count-more d G xs (u * (a + j * k)) t, z) (omega arith)) (let z : i + 0 ≡ i = omega arith in rw z s)
 
-  pub nth-sized : (k a r : ℕ) → Run (sizedAt plainTable (d .sextets xs)) k (length xs / u) a r → (j : ℕ) → j < r → Fixed1 (d .sextets (drop (u * (a + j * k)) xs)) k
+  pub nth-sized : (k a r : ℕ) → Run (sizedAt plainTable (d .sextets xs)) k (length xs / u) a r → (j : ℕ) → j < r → Sized (d .sextets (drop (u * (a + j * k)) xs)) k
   nth-sized k a r R j h =
       let z = R .each j h in
       rw (top-drop (a + j * k) (in-units (a + j * k) (omega arith)))
       (sized-drop (d .sextets xs) (a + j * k) k (z .0) (R .some) (omega (arith, units-of)))
 
-  nth-plain : (k a r : ℕ) → Run (plainAt plainTable (d .sextets xs)) k (length xs / u) a r → (j : ℕ) → j < r → Fixed1 (d .sextets (drop (u * (a + j * k)) xs)) k
+  nth-plain : (k a r : ℕ) → Run (plainAt plainTable (d .sextets xs)) k (length xs / u) a r → (j : ℕ) → j < r → Sized (d .sextets (drop (u * (a + j * k)) xs)) k
   nth-plain k a r R j h =
       let z = R .each j h in
       let q = plain-drop (d .sextets xs) (a + j * k) k (z .0) (R .some) (omega (arith, units-of)) in
-      rw (top-drop (a + j * k) (in-units (a + j * k) (omega arith))) (record { row = q .plain .row; framed = q .framed })
+      rw (top-drop (a + j * k) (in-units (a + j * k) (omega arith))) (record { kind = Fixed (q .plain .row); framed = q .framed })
 
   -- the rows of a run
   module _ (o : List ℕ) (n : ℕ) (is-n : n ≡ length (rowsIn d xs)) (a i k : ℕ) (out : List ℕ) (φ : Filled d xs o n (u * a) i k out)

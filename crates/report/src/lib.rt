@@ -164,11 +164,11 @@ fn level_text(
     let mut ruled = first;
     let mut left = levels;
     while i < stop {
-        let g = runs::group_text(values, s, i);
-        if contents::is_tail(g, stop - i, left) {
-            ruled = runs::letter_text(values, s, i) < 3;
-            i = i + 1;
-            left = left - 1;
+        let d = runs::nested_text(values, s, i, stop, left);
+        if 0 < d {
+            i = i + d;
+            left = left - d;
+            ruled = runs::letter_text(values, s, i - 1) < 3;
         } else {
             let k = runs::plain_text(values, rows, s, i);
             let r = runs::clean_run_text(values, rows, s, i, stop, k);
@@ -369,11 +369,11 @@ fn level_binary(
     let mut ruled = first;
     let mut left = levels;
     while i < stop {
-        let g = runs::group_binary(s, i);
-        if contents::is_tail(g, stop - i, left) {
-            ruled = runs::letter_binary(s, i) < 3;
-            i = i + 1;
-            left = left - 1;
+        let d = runs::nested_binary(s, i, stop, left);
+        if 0 < d {
+            i = i + d;
+            left = left - d;
+            ruled = runs::letter_binary(s, i - 1) < 3;
         } else {
             let k = runs::plain_binary(rows, s, i);
             let r = runs::plain_run_binary(rows, s, i, stop, k);

@@ -15,7 +15,7 @@ use Rattle.format.specs.Registry.{codes, fixedAmong, fixed}
 use Rattle.format.specs.Conversion.{firstStranger}
 use Rattle.laws.specs.Domains.{binary-reader}
 use Rattle.laws.specs.Local.{binary-sextet}
-use Rattle.runs.specs.Plain.{limitOf, plainRow, rowsOf, plainTable, known4, groupUnits, groupOf, unitBy, plainAt, run, runAt, sextetsBy, cleanPart, cleanRun}
+use Rattle.runs.specs.Plain.{limitOf, plainRow, rowsOf, plainTable, known4, groupUnits, groupOf, unitBy, plainAt, run, runAt, nested, sextetsBy, cleanPart, cleanRun}
 use Rattle.runs.specs.Tables.{is-table}
 use Rattle.runs.specs.Runs.{nonzero, run-is, run-fits}
 
@@ -160,3 +160,28 @@ twos-are = is-table (λ (letter : ℕ). plainRow (fixed 2 letter)) twos tt
 pub table-is : ones ++ twos ≡ plainTable
 unfolding plainTable
 table-is = rw (← ones-are, ← twos-are)
+
+-- ---- a turn of the way into nested groups
+
+module _ (g : ℕ → ℕ) (stop : ℕ) where
+  pub nested-end : (m i : ℕ) → stop ≤ i → nested g stop m i ≡ 0
+  unfolding nested
+  nested-end zero i h = refl
+  nested-end (suc m) i h = rw (le-ltb _ _ h)
+
+  pub nested-other : (m i : ℕ) → i < stop → (g i ≡ stop - i → ⊥) → nested g stop m i ≡ 0
+  unfolding nested
+  nested-other zero i h n = refl
+  nested-other (suc m) i h n = rw (lt-ltb _ _ h, ne-eqb _ _ n)
+
+  pub nested-more : (m i : ℕ) → i < stop → g i ≡ stop - i → 0 < m → nested g stop m i ≡ 1 + nested g stop (m - 1) (i + 1)
+  unfolding nested
+  nested-more zero i h e l = absurd (omega arith)
+  nested-more (suc m) i h e l = let z : suc m - 1 ≡ m = omega arith in rw (lt-ltb _ _ h, eq-eqb _ _ e, z) (omega arith)
+
+  pub nested-start : (m i : ℕ) → nested g stop m i ≡ 0 + nested g stop (m - 0) i
+  nested-start m i = let z : m - 0 ≡ m = omega arith in rw z (omega arith)
+
+  pub nested-out : (i : ℕ) → nested g stop 0 i ≡ 0
+  unfolding nested
+  nested-out i = refl

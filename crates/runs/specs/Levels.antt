@@ -1,5 +1,5 @@
 -- Plain primitives, runs of them and small groups, among the items of a group or stream: what they leave of the verdict. Assumes nothing.
-use Prim.Native.Nat.{ℕ, zero, suc, _+_, _-_, _*_, _/_, _≤_, _<_}
+use Prim.Native.Nat.{ℕ, zero, suc, _+_, _-_, _*_, _/_, _%_, _≤_, _<_}
 use mathlib.Core.Path.{_≡_, refl, sym, ap, _∙_, subst}
 use mathlib.Core.List.{List, [], _∷_}
 use mathlib.Core.Bool.{Bool, true, false}
@@ -21,14 +21,14 @@ use Rattle.format.specs.declared.Framed.{Framed}
 use Rattle.format.specs.declared.Framed.the-variants.{Item, Unframed}
 use Rattle.format.specs.declared.Verdict.{Verdict}
 use Rattle.format.specs.declared.Verdict.the-variants.{Accepted, Refused}
-use Rattle.format.specs.Registry.{opening, isOpaque, isOverrideable, zeroBitsOf, prepadOf}
+use Rattle.format.specs.Registry.{opening, isGroup, isOpaque, isOverrideable, zeroBitsOf, prepadOf}
 use Rattle.format.specs.Framing.{sextet, fit, headed, frameWith, ruled, frame, frameRuled}
 use Rattle.format.specs.Judging.{shift, andThen, unless, scan, behind, zeroBits, prepadRight, judgeKind, ownCheck, inTurn, contents, group, judge}
 use Rattle.laws.specs.Framing.{Known, known-next}
 use Rattle.laws.specs.Scan.{scan-below}
 use Rattle.laws.specs.Levels.{part, part-length, part-drop, part-take, frameNext, shift-shift, level, level-end, level-item}
-use Rattle.runs.specs.Plain.{known4, plainTable, rowIn, sizedOf, plainOf, groupOf, unitBy, sizedAt, plainAt, groupAt, letterAt, run}
-use Rattle.runs.specs.Opened.{Plain, plain-opens, sized-opens, Entered, group-opens}
+use Rattle.runs.specs.Plain.{known4, plainTable, rowIn, sizedOf, plainOf, groupOf, unitBy, sizedAt, plainAt, groupAt, letterAt, run, nested}
+use Rattle.runs.specs.Opened.{Plain, plain-opens, sized-opens, small-opens, Entered, group-opens}
 
 -- ---- a unit that is told
 
@@ -86,20 +86,33 @@ plain-frames x n e p room =
       framed = λ first. next-fixed first x (q .row) n (frame-short x (Fixed (q .row)) n (k .0, k .1, k .2, k .3) (q .opens) p room);
     }
 
--- so is every primitive of a fixed code
-pub record Fixed1 (x : List ℕ) (n : ℕ) : Type 0 where
-  pub row : CodeRow
-  pub framed : (first : Bool) → frameNext first x ≡ Item (Fixed row) 1 n
+-- so is every primitive of a fixed code, and every small group
+pub record Sized (x : List ℕ) (n : ℕ) : Type 0 where
+  pub kind : Kind
+  pub framed : (first : Bool) → frameNext first x ≡ Item kind 1 n
 
-sized-frames : (x : List ℕ) (n : ℕ) → sizedOf plainTable (sextet x 0) (sextet x 1) (sextet x 2) (sextet x 3) ≡ n → 0 < n → n ≤ length x / 4 → Fixed1 x n
+sized-frames : (x : List ℕ) (n : ℕ) → sizedOf plainTable (sextet x 0) (sextet x 1) (sextet x 2) (sextet x 3) ≡ n → 0 < n → n ≤ length x / 4 → Sized x n
 unfolding sizedOf
-sized-frames x n e p room =
-    let k = known-of (sextet x 0) (sextet x 1) (sextet x 2) (sextet x 3) _ n e p in
-    let q = sized-opens (sextet x 0) (sextet x 1) (sextet x 2) (sextet x 3) n p (ltb-true _ _ (k .0)) (ltb-true _ _ (k .1)) (k .4) in
-    record {
-      row = q .0;
-      framed = λ first. next-fixed first x (q .0) n (frame-short x (Fixed (q .0)) n (k .0, k .1, k .2, k .3) (q .1) p room);
-    }
+sized-frames x n e p room = go (eqb (sextet x 0) 62) refl (k .4)
+  where
+    k : (ltb (sextet x 0) 64 ≡ true) × (ltb (sextet x 1) 64 ≡ true) × (ltb (sextet x 2) 64 ≡ true) × (ltb (sextet x 3) 64 ≡ true)
+        × (pick (eqb (sextet x 0) 62) (pick (isGroup (sextet x 1)) (1 + (sextet x 2 * 64 + sextet x 3)) 0) (rowIn plainTable (sextet x 0) (sextet x 1) % 64) ≡ n)
+    k = known-of (sextet x 0) (sextet x 1) (sextet x 2) (sextet x 3) _ n e p
+
+    go : (b : Bool) → eqb (sextet x 0) 62 ≡ b
+        → pick b (pick (isGroup (sextet x 1)) (1 + (sextet x 2 * 64 + sextet x 3)) 0) (rowIn plainTable (sextet x 0) (sextet x 1) % 64) ≡ n → Sized x n
+    go true f q =
+        let o = small-opens (sextet x 0) (sextet x 1) (sextet x 2) (sextet x 3) n p f q in
+        record {
+          kind = Group (sextet x 1);
+          framed = λ first. next-group first x (sextet x 1) n (frame-short x (Group (sextet x 1)) n (k .0, k .1, k .2, k .3) o p room);
+        }
+    go false f q =
+        let o = sized-opens (sextet x 0) (sextet x 1) (sextet x 2) (sextet x 3) n p (ltb-true _ _ (k .0)) (ltb-true _ _ (k .1)) q in
+        record {
+          kind = Fixed (o .0);
+          framed = λ first. next-fixed first x (o .0) n (frame-short x (Fixed (o .0)) n (k .0, k .1, k .2, k .3) (o .1) p room);
+        }
 
 pub record Small (x : List ℕ) (n : ℕ) : Type 0 where
   pub clear : isOpaque (sextet x 1) ≡ false
@@ -144,7 +157,7 @@ told-drop f s at n e p =
 pub plain-drop : (s : List ℕ) (at n : ℕ) → plainAt plainTable s at ≡ n → 0 < n → at + n ≤ length s / 4 → Primitive (drop (4 * at) s) n
 plain-drop s at n e p h = plain-frames (drop (4 * at) s) n (told-drop (plainOf plainTable) s at n e p) p (omega (arith, length-drop (4 * at) s))
 
-pub sized-drop : (s : List ℕ) (at n : ℕ) → sizedAt plainTable s at ≡ n → 0 < n → at + n ≤ length s / 4 → Fixed1 (drop (4 * at) s) n
+pub sized-drop : (s : List ℕ) (at n : ℕ) → sizedAt plainTable s at ≡ n → 0 < n → at + n ≤ length s / 4 → Sized (drop (4 * at) s) n
 sized-drop s at n e p h = sized-frames (drop (4 * at) s) n (told-drop (sizedOf plainTable) s at n e p) p (omega (arith, length-drop (4 * at) s))
 
 pub group-drop : (s : List ℕ) (at n : ℕ) → groupAt s at ≡ n → 0 < n → at + n ≤ length s / 4 → frameRuled (drop (4 * at) s) ≡ Item (Group (letterAt s at)) 1 n
@@ -208,6 +221,52 @@ module _ (s : List ℕ) (l : ℕ) (stop : ℕ) (long : 4 * stop ≤ length s) wh
   tail-level first at e h d =
       let z : at + (stop - at) ≡ stop = omega arith in
       group-level first at (stop - at) e (omega arith) (omega arith) d ∙ rw (z, level-end s l false stop) (then-accepts _)
+
+-- ---- groups one in the other
+
+module _ (s : List ℕ) (stop : ℕ) (long : 4 * stop ≤ length s) where
+  -- d groups entered from a unit on, where l may be: what is left, asked 7 as the innermost's letter says
+  pub record Nested (l : ℕ) (first : Bool) (at d : ℕ) : Type 0 where
+    pub few : d ≤ l
+    pub fits : at + d ≤ stop
+    pub leaves : level s l first at stop ≡ level s (l - d) (isOverrideable (letterAt s (at + d - 1))) (at + d) stop
+
+  one-deeper : (l : ℕ) (first : Bool) (at : ℕ) → groupAt s at ≡ stop - at → at < stop → Nested (suc l) first at 1
+  one-deeper l first at e h =
+      let z : at + 1 - 1 ≡ at = omega arith in
+      record { few = omega arith; fits = omega arith; leaves = tail-level s (suc l) stop long first at e h (omega arith) ∙ rw z }
+
+  more-deeper : (l : ℕ) (first : Bool) (at d : ℕ) → groupAt s at ≡ stop - at → at < stop → 0 < d
+      → Nested l (isOverrideable (letterAt s at)) (at + 1) d → Nested (suc l) first at (suc d)
+  more-deeper l first at d e h p N =
+      let w : suc l - 1 ≡ l = omega arith in
+      let x : l - d ≡ suc l - suc d = omega arith in
+      let y : at + 1 + d - 1 ≡ at + suc d - 1 = omega arith in
+      let z : at + 1 + d ≡ at + suc d = omega arith in
+      record {
+        few = omega (arith, N .few);
+        fits = omega (arith, N .fits);
+        leaves = tail-level s (suc l) stop long first at e h (omega arith) ∙ rw (w, ← x, ← y, ← z) (N .leaves);
+      }
+
+  pub nested-level : (l : ℕ) (first : Bool) (at d : ℕ) → nested (groupAt s) stop l at ≡ d → 0 < d → Nested l first at d
+  unfolding nested
+  nested-level zero first at d e p = absurd (omega arith)
+  nested-level (suc l) first at d e p =
+      go l first at d (λ k q r. nested-level l (isOverrideable (letterAt s at)) (at + 1) k q r) (ltb at stop) (eqb (groupAt s at) (stop - at)) refl refl e p
+    where
+      deeper : (l : ℕ) (first : Bool) (at k d : ℕ) → ((q : 0 < k) → Nested l (isOverrideable (letterAt s at)) (at + 1) k)
+          → groupAt s at ≡ stop - at → at < stop → suc k ≡ d → Nested (suc l) first at d
+      deeper l first at zero d rest e h q = rw (← q) (one-deeper l first at e h)
+      deeper l first at (suc k) d rest e h q = rw (← q) (more-deeper l first at (suc k) e h (omega arith) (rest (omega arith)))
+
+      go : (l : ℕ) (first : Bool) (at d : ℕ) → ((k : ℕ) → nested (groupAt s) stop l (at + 1) ≡ k → 0 < k → Nested l (isOverrideable (letterAt s at)) (at + 1) k)
+          → (x y : Bool) → ltb at stop ≡ x → eqb (groupAt s at) (stop - at) ≡ y
+          → pick x (pick y (suc (nested (groupAt s) stop l (at + 1))) 0) 0 ≡ d → 0 < d → Nested (suc l) first at d
+      go l first at d rest false y f g q p = absurd (omega arith)
+      go l first at d rest true false f g q p = absurd (omega arith)
+      go l first at d rest true true f g q p =
+          deeper l first at (nested (groupAt s) stop l (at + 1)) d (λ r. rest (nested (groupAt s) stop l (at + 1)) refl r) (eqb-true _ _ g) (ltb-true _ _ f) q
 
 -- ---- runs
 

@@ -189,6 +189,13 @@ module _ (a b c d n : ℕ) (p : 0 < n) (la : a < 64) (lb : b < 64) where
 
 -- ---- a small group
 
+pub small-opens : (a b c d n : ℕ) → 0 < n → eqb a 62 ≡ true → pick (isGroup b) (1 + (c * 64 + d)) 0 ≡ n → opening a b c d ≡ Short (Group b) n
+unfolding opening
+small-opens a b c d n p e f =
+    let y = some-then (isGroup b) _ n f p in
+    let a-is : a ≡ 62 = eqb-true _ _ e in
+    rw (a-is, y .0, y .1)
+
 pub record Entered (a b c d n : ℕ) : Type 0 where
   pub opens : opening a b c d ≡ Short (Group b) n
   pub clear : isOpaque b ≡ false

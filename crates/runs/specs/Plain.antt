@@ -1,5 +1,5 @@
--- What a first unit alone can decide: the size of a primitive of a fixed code, and whether it is accepted if its other characters are
--- known; the size of a small group whose contents are items. Runs of such primitives. Over sextets. Assumes nothing.
+-- What a first unit alone can decide: the size of a primitive of a fixed code or of a small group; whether the primitive is accepted
+-- if its other characters are known; whether the group's contents are items. Runs of such items. Over sextets. Assumes nothing.
 use Prim.Native.Nat.{ℕ, zero, suc, _+_, _-_, _*_, _/_, _%_, _^_}
 use mathlib.Core.List.{List, map, _++_}
 use mathlib.Core.Bool.{Bool, true, false}
@@ -64,9 +64,9 @@ groupUnits a b c d = pick (eqb a 62) (pick (isGroup b) (pick (isOpaque b) 0 (1 +
 abbrev pub known4 : ℕ → ℕ → ℕ → ℕ → Bool
 known4 a b c d = pick (ltb a 64) (pick (ltb b 64) (pick (ltb c 64) (ltb d 64) false) false) false
 
--- the size in units of a primitive of a fixed code; 0 for everything else
+-- the size in units of a primitive of a fixed code or of a small group; 0 for everything else
 unfoldable pub sizedOf : List ℕ → ℕ → ℕ → ℕ → ℕ → ℕ
-sizedOf rows a b c d = pick (known4 a b c d) (rowIn rows a b % 64) 0
+sizedOf rows a b c d = pick (known4 a b c d) (pick (eqb a 62) (pick (isGroup b) (1 + (c * 64 + d)) 0) (rowIn rows a b % 64)) 0
 
 -- and of one that is plain: accepted, if its other characters are known
 unfoldable pub plainOf : List ℕ → ℕ → ℕ → ℕ → ℕ → ℕ
@@ -105,6 +105,13 @@ most = 32
 
 unfoldable pub runAt : (ℕ → ℕ) → ℕ → ℕ → ℕ → ℕ
 runAt p k stop at = pick (eqb k 0) 0 (run p k stop most at)
+
+-- ---- groups that end with what is around them
+
+-- how many small groups stand one in the other from a unit on, each of them all that is left up to the unit stop, of n at most
+unfoldable pub nested : (ℕ → ℕ) → ℕ → ℕ → ℕ → ℕ
+nested g stop zero at = 0
+nested g stop (suc n) at = pick (ltb at stop) (pick (eqb (g at) (stop - at)) (suc (nested g stop n (at + 1))) 0) 0
 
 -- ---- text, its sextets by a table
 

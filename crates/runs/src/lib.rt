@@ -5,7 +5,7 @@ ghost use mathlib.Core.Path.{_≡_};
 ghost use Prim.Native.Nat.{_+_, _*_, _≤_, _<_};
 ghost use lib.ListN.{length, getD};
 ghost use Rattle.format.specs.Units.{binarySextets};
-ghost use Rattle.runs.specs.Plain.{plainTable, known4, rowIn, limited, sizedOf, plainOf, groupOf, sizedAt, plainAt, groupAt, letterAt, runAt, sextetsBy, cleanRun};
+ghost use Rattle.runs.specs.Plain.{plainTable, known4, rowIn, limited, sizedOf, plainOf, groupOf, sizedAt, plainAt, groupAt, letterAt, runAt, nested, sextetsBy, cleanRun};
 
 // The most items of a run that are looked at at once.
 const MOST: usize = 32;
@@ -192,8 +192,14 @@ fn row_in(rows: &[u16; 128], a: u8, b: u8) -> usize
 fn sized(rows: &[u16; 128], a: u8, b: u8, c: u8, d: u8) -> usize
     ensures { λ r. ⌜ r ≡ sizedOf (now (rows .entry)) a b c d ⌝ }
 {
-    if is_known(a, b, c, d) {
-        row_in(rows, a, b) % 64
+    if !is_known(a, b, c, d) {
+        return 0;
+    }
+    if a != 62 {
+        return row_in(rows, a, b) % 64;
+    }
+    if b < 29 {
+        1 + (wide(c) * 64 + wide(d))
     } else {
         0
     }
@@ -253,7 +259,7 @@ fn value(values: &[u8; 256], s: &[u8], i: usize) -> u8
     values[wide(s[i])]
 }
 
-// The size in units of the primitive of a fixed code at a unit, or 0.
+// The size in units of the primitive of a fixed code or the small group at a unit, or 0.
 pub fn sized_text(values: &[u8; 256], rows: &[u16; 128], s: &[u8], at: usize) -> usize
     ensures { λ r. ⌜ r ≡ sizedAt (now (rows .entry)) (sextetsBy (now (values .entry)) (now (s .entry))) at ⌝ }
 {
@@ -270,7 +276,7 @@ pub fn sized_text(values: &[u8; 256], rows: &[u16; 128], s: &[u8], at: usize) ->
     )
 }
 
-// The same of a plain one.
+// The same of a plain primitive.
 pub fn plain_text(values: &[u8; 256], rows: &[u16; 128], s: &[u8], at: usize) -> usize
     ensures { λ r. ⌜ r ≡ plainAt (now (rows .entry)) (sextetsBy (now (values .entry)) (now (s .entry))) at ⌝ }
 {
@@ -313,7 +319,7 @@ pub fn letter_text(values: &[u8; 256], s: &[u8], at: usize) -> u8
     value(values, s, 4 * at + 1)
 }
 
-// How many primitives of k units follow one another from a unit on, none of them past another.
+// How many such items of k units follow one another from a unit on, none of them past another.
 pub fn sized_run_text(
     values: &[u8; 256],
     rows: &[u16; 128],
@@ -327,13 +333,14 @@ pub fn sized_run_text(
     if k == 0 {
         return 0;
     }
+    if stop < k {
+        return 0;
+    }
+    let last = stop - k;
     let mut i = at;
     let mut n = 0;
     while n < MOST {
-        if stop < i {
-            return n;
-        }
-        if stop - i < k {
+        if last < i {
             return n;
         }
         if sized_text(values, rows, s, i) != k {
@@ -345,7 +352,7 @@ pub fn sized_run_text(
     n
 }
 
-// The same of plain ones.
+// The same of plain primitives.
 pub fn plain_run_text(
     values: &[u8; 256],
     rows: &[u16; 128],
@@ -359,13 +366,14 @@ pub fn plain_run_text(
     if k == 0 {
         return 0;
     }
+    if stop < k {
+        return 0;
+    }
+    let last = stop - k;
     let mut i = at;
     let mut n = 0;
     while n < MOST {
-        if stop < i {
-            return n;
-        }
-        if stop - i < k {
+        if last < i {
             return n;
         }
         if plain_text(values, rows, s, i) != k {
@@ -400,6 +408,25 @@ pub fn clean_run_text(
     let to = from + size;
     let bad = alphabet::first_stranger(&s[from..to]);
     if bad == size { n } else { bad / (4 * k) }
+}
+
+// How many small groups, of so many at most, stand one in the other from a unit on, each all that is left up to another unit.
+pub fn nested_text(values: &[u8; 256], s: &[u8], at: usize, stop: usize, most: usize) -> usize
+    ensures { λ r. ⌜ r ≡ nested (groupAt (sextetsBy (now (values .entry)) (now (s .entry)))) stop most at ⌝ }
+{
+    let mut i = at;
+    let mut n = 0;
+    while n < most {
+        if stop <= i {
+            return n;
+        }
+        if group_text(values, s, i) != stop - i {
+            return n;
+        }
+        i = i + 1;
+        n = n + 1;
+    }
+    n
 }
 
 // ---- a unit of a binary
@@ -455,13 +482,14 @@ pub fn sized_run_binary(rows: &[u16; 128], s: &[u8], at: usize, stop: usize, k: 
     if k == 0 {
         return 0;
     }
+    if stop < k {
+        return 0;
+    }
+    let last = stop - k;
     let mut i = at;
     let mut n = 0;
     while n < MOST {
-        if stop < i {
-            return n;
-        }
-        if stop - i < k {
+        if last < i {
             return n;
         }
         if sized_binary(rows, s, i) != k {
@@ -480,19 +508,39 @@ pub fn plain_run_binary(rows: &[u16; 128], s: &[u8], at: usize, stop: usize, k: 
     if k == 0 {
         return 0;
     }
+    if stop < k {
+        return 0;
+    }
+    let last = stop - k;
     let mut i = at;
     let mut n = 0;
     while n < MOST {
-        if stop < i {
-            return n;
-        }
-        if stop - i < k {
+        if last < i {
             return n;
         }
         if plain_binary(rows, s, i) != k {
             return n;
         }
         i = i + k;
+        n = n + 1;
+    }
+    n
+}
+
+// How many small groups, of so many at most, stand one in the other from a unit on, each all that is left up to another unit.
+pub fn nested_binary(s: &[u8], at: usize, stop: usize, most: usize) -> usize
+    ensures { λ r. ⌜ r ≡ nested (groupAt (binarySextets (now (s .entry)))) stop most at ⌝ }
+{
+    let mut i = at;
+    let mut n = 0;
+    while n < most {
+        if stop <= i {
+            return n;
+        }
+        if group_binary(s, i) != stop - i {
+            return n;
+        }
+        i = i + 1;
         n = n + 1;
     }
     n

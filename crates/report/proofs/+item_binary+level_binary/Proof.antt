@@ -6,10 +6,10 @@ use borrow.Author.Needs.{needs}
 use Rattle.format.specs.Units.{binarySextets}
 use Rattle.laws.specs.Levels.{level, level-end, part-length}
 use Rattle.runs.specs.Plain.{plainTable, plainAt}
-use Rattle.runs.specs.Levels.{tail-level}
+use Rattle.runs.specs.Levels.{nested-level}
 use Rattle.runs.specs.Runs.{run-fits, run-moves, run-level, binary-run}
 use Rattle.contents.specs.Next.{Judged}
-use Rattle.contents.proofs.Laws.{binary-part, length-binary, next-near, judged-refused, judged-sizes, judged-levels, judged-plain, judged-entered, tail-is, marked}
+use Rattle.contents.proofs.Laws.{binary-part, length-binary, next-near, judged-refused, judged-sizes, judged-levels, judged-plain, judged-entered, marked}
 use Prim.Native.Nat.{ℕ, _<_}
 use borrow.Fn.Kinds.{In}
 use borrow.Fn.PlainCycle.{Measures, is, falls, and}
@@ -21,11 +21,10 @@ use Rattle.report.proofs.level_binary.Kinds as level-binary-kinds
 use Rattle.report.proofs.+item_binary+level_binary.Lts-level_binary as level-binary-lts
 use Rattle.contents.proofs.is_entered.Reads as is-entered-reads
 use Rattle.contents.proofs.is_ruled.Reads as is-ruled-reads
-use Rattle.contents.proofs.is_tail.Reads as is-tail-reads
 use Rattle.contents.proofs.next_binary.Reads as next-binary-reads
 use Rattle.judging.proofs.told.Reads as told-reads
-use Rattle.runs.proofs.group_binary.Reads as group-binary-reads
 use Rattle.runs.proofs.letter_binary.Reads as letter-binary-reads
+use Rattle.runs.proofs.nested_binary.Reads as nested-binary-reads
 use Rattle.runs.proofs.plain_binary.Reads as plain-binary-reads
 use Rattle.runs.proofs.plain_run_binary.Reads as plain-run-binary-reads
 use Rattle.report.proofs.+item_binary+level_binary.{statement}
@@ -407,10 +406,8 @@ level-binary-μ-loop rows s levels first at stop i₀ ruled₀ left₀ i ruled l
 
 -- src/lib.rt:371:5
 level-binary-loop-holds : (t : ℕ) → level-binary-lts.Need-loop-holds (
-  group-binary-reads.Asked,
-  group-binary-reads.Learnt,
-  is-tail-reads.Asked,
-  is-tail-reads.Learnt,
+  nested-binary-reads.Asked,
+  nested-binary-reads.Learnt,
   letter-binary-reads.Asked,
   letter-binary-reads.Learnt,
   plain-binary-reads.Asked,
@@ -423,11 +420,9 @@ level-binary-loop-holds : (t : ℕ) → level-binary-lts.Need-loop-holds (
 level-binary-loop-holds t c = (search needs, search needs, refl)
 
 -- src/lib.rt:372:13
-level-binary-group-binary-requires : (t : ℕ) → level-binary-lts.Need-group-binary-requires (
-  group-binary-reads.Asked,
-  group-binary-reads.Learnt,
-  is-tail-reads.Asked,
-  is-tail-reads.Learnt,
+level-binary-nested-binary-requires : (t : ℕ) → level-binary-lts.Need-nested-binary-requires (
+  nested-binary-reads.Asked,
+  nested-binary-reads.Learnt,
   letter-binary-reads.Asked,
   letter-binary-reads.Learnt,
   plain-binary-reads.Asked,
@@ -437,14 +432,12 @@ level-binary-group-binary-requires : (t : ℕ) → level-binary-lts.Need-group-b
   item-binary-below t,
   item-binary.Post,
 ) (level-binary-at t) level-binary.Post level-binary-Inv-loop level-binary-μ-loop
-level-binary-group-binary-requires t c κs = search needs
+level-binary-nested-binary-requires t c κs = search needs
 
--- src/lib.rt:373:33
-level-binary-sub-is-tail : (t : ℕ) → level-binary-lts.Need-sub-is-tail (
-  group-binary-reads.Asked,
-  group-binary-reads.Learnt,
-  is-tail-reads.Asked,
-  is-tail-reads.Learnt,
+-- src/lib.rt:374:17
+level-binary-add-i : (t : ℕ) → level-binary-lts.Need-add-i (
+  nested-binary-reads.Asked,
+  nested-binary-reads.Learnt,
   letter-binary-reads.Asked,
   letter-binary-reads.Learnt,
   plain-binary-reads.Asked,
@@ -454,14 +447,18 @@ level-binary-sub-is-tail : (t : ℕ) → level-binary-lts.Need-sub-is-tail (
   item-binary-below t,
   item-binary.Post,
 ) (level-binary-at t) level-binary.Post level-binary-Inv-loop level-binary-μ-loop
-level-binary-sub-is-tail t c = search needs
+level-binary-add-i t c =
+    let l = c .before .before .before in
+    let a = c .before .before .before .before .before .args in
+    let q = c .before .before .before .before .before .pre .1 in
+    let long : 4 * a .stop ≤ length (binarySextets (a .s .now)) = omega (arith, length-binary (a .s .now), q .1) in
+    let N = nested-level (binarySextets (a .s .now)) (a .stop) long (l .loop .left) (l .loop .ruled) (l .loop .i) _ (sym (c .before .nested-binary .ensures)) (c .if1 .taken) in
+    omega (arith, N .fits)
 
--- src/lib.rt:373:12
-level-binary-is-tail-requires : (t : ℕ) → level-binary-lts.Need-is-tail-requires (
-  group-binary-reads.Asked,
-  group-binary-reads.Learnt,
-  is-tail-reads.Asked,
-  is-tail-reads.Learnt,
+-- src/lib.rt:375:20
+level-binary-sub-left : (t : ℕ) → level-binary-lts.Need-sub-left (
+  nested-binary-reads.Asked,
+  nested-binary-reads.Learnt,
   letter-binary-reads.Asked,
   letter-binary-reads.Learnt,
   plain-binary-reads.Asked,
@@ -471,14 +468,39 @@ level-binary-is-tail-requires : (t : ℕ) → level-binary-lts.Need-is-tail-requ
   item-binary-below t,
   item-binary.Post,
 ) (level-binary-at t) level-binary.Post level-binary-Inv-loop level-binary-μ-loop
-level-binary-is-tail-requires t c κs = search needs
+level-binary-sub-left t c =
+    let l = c .before .before .before in
+    let a = c .before .before .before .before .before .args in
+    let q = c .before .before .before .before .before .pre .1 in
+    let long : 4 * a .stop ≤ length (binarySextets (a .s .now)) = omega (arith, length-binary (a .s .now), q .1) in
+    let N = nested-level (binarySextets (a .s .now)) (a .stop) long (l .loop .left) (l .loop .ruled) (l .loop .i) _ (sym (c .before .nested-binary .ensures)) (c .if1 .taken) in
+    omega (arith, N .few)
 
--- src/lib.rt:374:21
+-- src/lib.rt:376:44
+level-binary-sub-letter-binary : (t : ℕ) → level-binary-lts.Need-sub-letter-binary (
+  nested-binary-reads.Asked,
+  nested-binary-reads.Learnt,
+  letter-binary-reads.Asked,
+  letter-binary-reads.Learnt,
+  plain-binary-reads.Asked,
+  plain-binary-reads.Learnt,
+  plain-run-binary-reads.Asked,
+  plain-run-binary-reads.Learnt,
+  item-binary-below t,
+  item-binary.Post,
+) (level-binary-at t) level-binary.Post level-binary-Inv-loop level-binary-μ-loop
+level-binary-sub-letter-binary t c =
+    let l = c .before .before .before in
+    let a = c .before .before .before .before .before .args in
+    let q = c .before .before .before .before .before .pre .1 in
+    let long : 4 * a .stop ≤ length (binarySextets (a .s .now)) = omega (arith, length-binary (a .s .now), q .1) in
+    let N = nested-level (binarySextets (a .s .now)) (a .stop) long (l .loop .left) (l .loop .ruled) (l .loop .i) _ (sym (c .before .nested-binary .ensures)) (c .if1 .taken) in
+    omega (arith, c .if1 .taken)
+
+-- src/lib.rt:376:21
 level-binary-letter-binary-requires : (t : ℕ) → level-binary-lts.Need-letter-binary-requires (
-  group-binary-reads.Asked,
-  group-binary-reads.Learnt,
-  is-tail-reads.Asked,
-  is-tail-reads.Learnt,
+  nested-binary-reads.Asked,
+  nested-binary-reads.Learnt,
   letter-binary-reads.Asked,
   letter-binary-reads.Learnt,
   plain-binary-reads.Asked,
@@ -490,52 +512,10 @@ level-binary-letter-binary-requires : (t : ℕ) → level-binary-lts.Need-letter
 ) (level-binary-at t) level-binary.Post level-binary-Inv-loop level-binary-μ-loop
 level-binary-letter-binary-requires t c κs = search needs
 
--- src/lib.rt:375:17
-level-binary-add-i : (t : ℕ) → level-binary-lts.Need-add-i (
-  group-binary-reads.Asked,
-  group-binary-reads.Learnt,
-  is-tail-reads.Asked,
-  is-tail-reads.Learnt,
-  letter-binary-reads.Asked,
-  letter-binary-reads.Learnt,
-  plain-binary-reads.Asked,
-  plain-binary-reads.Learnt,
-  plain-run-binary-reads.Asked,
-  plain-run-binary-reads.Learnt,
-  item-binary-below t,
-  item-binary.Post,
-) (level-binary-at t) level-binary.Post level-binary-Inv-loop level-binary-μ-loop
-level-binary-add-i t c = search needs
-
--- src/lib.rt:376:20
-level-binary-sub-left : (t : ℕ) → level-binary-lts.Need-sub-left (
-  group-binary-reads.Asked,
-  group-binary-reads.Learnt,
-  is-tail-reads.Asked,
-  is-tail-reads.Learnt,
-  letter-binary-reads.Asked,
-  letter-binary-reads.Learnt,
-  plain-binary-reads.Asked,
-  plain-binary-reads.Learnt,
-  plain-run-binary-reads.Asked,
-  plain-run-binary-reads.Learnt,
-  item-binary-below t,
-  item-binary.Post,
-) (level-binary-at t) level-binary.Post level-binary-Inv-loop level-binary-μ-loop
-level-binary-sub-left t c =
-    let l = c .before .before .before .before .before in
-    let a = c .before .before .before .before .before .before .before .args in
-    let q = c .before .before .before .before .before .before .before .pre .1 in
-    let long : 4 * a .stop ≤ length (binarySextets (a .s .now)) = omega (arith, length-binary (a .s .now), q .1) in
-    let w = tail-is _ _ _ (sym (c .before .before .is-tail .ensures) ∙ c .before .if1 .taken) in
-    omega (arith, w .1)
-
 -- src/lib.rt:371:5
 level-binary-loop-less : (t : ℕ) → level-binary-lts.Need-loop-less (
-  group-binary-reads.Asked,
-  group-binary-reads.Learnt,
-  is-tail-reads.Asked,
-  is-tail-reads.Learnt,
+  nested-binary-reads.Asked,
+  nested-binary-reads.Learnt,
   letter-binary-reads.Asked,
   letter-binary-reads.Learnt,
   plain-binary-reads.Asked,
@@ -546,18 +526,17 @@ level-binary-loop-less : (t : ℕ) → level-binary-lts.Need-loop-less (
   item-binary.Post,
 ) (level-binary-at t) level-binary.Post level-binary-Inv-loop level-binary-μ-loop
 level-binary-loop-less t c =
-    let l = c .before .before .before .before .before in
-    let a = c .before .before .before .before .before .before .before .args in
-    let q = c .before .before .before .before .before .before .before .pre .1 in
+    let l = c .before .before .before .before in
+    let a = c .before .before .before .before .before .before .args in
+    let q = c .before .before .before .before .before .before .pre .1 in
     let long : 4 * a .stop ≤ length (binarySextets (a .s .now)) = omega (arith, length-binary (a .s .now), q .1) in
-    omega arith
+    let N = nested-level (binarySextets (a .s .now)) (a .stop) long (l .loop .left) (l .loop .ruled) (l .loop .i) _ (sym (c .before .before .nested-binary .ensures)) (c .before .if1 .taken) in
+    omega (arith, N .fits, c .before .if1 .taken)
 
 -- src/lib.rt:371:5
 level-binary-loop-again : (t : ℕ) → level-binary-lts.Need-loop-again (
-  group-binary-reads.Asked,
-  group-binary-reads.Learnt,
-  is-tail-reads.Asked,
-  is-tail-reads.Learnt,
+  nested-binary-reads.Asked,
+  nested-binary-reads.Learnt,
   letter-binary-reads.Asked,
   letter-binary-reads.Learnt,
   plain-binary-reads.Asked,
@@ -568,19 +547,17 @@ level-binary-loop-again : (t : ℕ) → level-binary-lts.Need-loop-again (
   item-binary.Post,
 ) (level-binary-at t) level-binary.Post level-binary-Inv-loop level-binary-μ-loop
 level-binary-loop-again t c =
-    let l = c .before .before .before .before .before in
-    let a = c .before .before .before .before .before .before .before .args in
-    let q = c .before .before .before .before .before .before .before .pre .1 in
+    let l = c .before .before .before .before in
+    let a = c .before .before .before .before .before .before .args in
+    let q = c .before .before .before .before .before .before .pre .1 in
     let long : 4 * a .stop ≤ length (binarySextets (a .s .now)) = omega (arith, length-binary (a .s .now), q .1) in
-    let w = tail-is _ _ _ (sym (c .before .before .is-tail .ensures) ∙ c .before .if1 .taken) in
-    (omega arith, omega arith, l .loop .inv .2 ∙ tail-level (binarySextets (a .s .now)) (l .loop .left) (a .stop) long (l .loop .ruled) (l .loop .i) ((sym (c .before .before .before .group-binary .ensures)) ∙ w .0) (omega arith) (w .1) ∙ marked (binarySextets (a .s .now)) _ _ _ _ _ (c .letter-binary .ensures))
+    let N = nested-level (binarySextets (a .s .now)) (a .stop) long (l .loop .left) (l .loop .ruled) (l .loop .i) _ (sym (c .before .before .nested-binary .ensures)) (c .before .if1 .taken) in
+    (N .fits, omega (arith, N .few), l .loop .inv .2 ∙ N .leaves ∙ marked (binarySextets (a .s .now)) _ _ _ _ _ (c .letter-binary .ensures))
 
 -- src/lib.rt:378:17
 level-binary-plain-binary-requires : (t : ℕ) → level-binary-lts.Need-plain-binary-requires (
-  group-binary-reads.Asked,
-  group-binary-reads.Learnt,
-  is-tail-reads.Asked,
-  is-tail-reads.Learnt,
+  nested-binary-reads.Asked,
+  nested-binary-reads.Learnt,
   letter-binary-reads.Asked,
   letter-binary-reads.Learnt,
   plain-binary-reads.Asked,
@@ -594,10 +571,8 @@ level-binary-plain-binary-requires t c κs = search needs
 
 -- src/lib.rt:379:17
 level-binary-plain-run-binary-requires : (t : ℕ) → level-binary-lts.Need-plain-run-binary-requires (
-  group-binary-reads.Asked,
-  group-binary-reads.Learnt,
-  is-tail-reads.Asked,
-  is-tail-reads.Learnt,
+  nested-binary-reads.Asked,
+  nested-binary-reads.Learnt,
   letter-binary-reads.Asked,
   letter-binary-reads.Learnt,
   plain-binary-reads.Asked,
@@ -611,10 +586,8 @@ level-binary-plain-run-binary-requires t c κs = search needs
 
 -- src/lib.rt:381:25
 level-binary-mul-i : (t : ℕ) → level-binary-lts.Need-mul-i (
-  group-binary-reads.Asked,
-  group-binary-reads.Learnt,
-  is-tail-reads.Asked,
-  is-tail-reads.Learnt,
+  nested-binary-reads.Asked,
+  nested-binary-reads.Learnt,
   letter-binary-reads.Asked,
   letter-binary-reads.Learnt,
   plain-binary-reads.Asked,
@@ -625,9 +598,9 @@ level-binary-mul-i : (t : ℕ) → level-binary-lts.Need-mul-i (
   item-binary.Post,
 ) (level-binary-at t) level-binary.Post level-binary-Inv-loop level-binary-μ-loop
 level-binary-mul-i t c =
-    let l = c .before .before .before .before .before .before .before in
-    let a = c .before .before .before .before .before .before .before .before .before .args in
-    let q = c .before .before .before .before .before .before .before .before .before .pre .1 in
+    let l = c .before .before .before .before .before .before in
+    let a = c .before .before .before .before .before .before .before .before .args in
+    let q = c .before .before .before .before .before .before .before .before .pre .1 in
     let long : 4 * a .stop ≤ length (binarySextets (a .s .now)) = omega (arith, length-binary (a .s .now), q .1) in
     let R = binary-run (a .rows .now) (a .s .now) _ (a .stop) (l .loop .i) _ (q .0) (sym (c .before .plain-run-binary .ensures)) (c .if2 .taken) in
     let z = run-fits (plainAt plainTable (binarySextets (a .s .now))) _ (a .stop) (l .loop .i) _ (R .run) (c .if2 .taken) in
@@ -635,10 +608,8 @@ level-binary-mul-i t c =
 
 -- src/lib.rt:381:21
 level-binary-add-i-2 : (t : ℕ) → level-binary-lts.Need-add-i-2 (
-  group-binary-reads.Asked,
-  group-binary-reads.Learnt,
-  is-tail-reads.Asked,
-  is-tail-reads.Learnt,
+  nested-binary-reads.Asked,
+  nested-binary-reads.Learnt,
   letter-binary-reads.Asked,
   letter-binary-reads.Learnt,
   plain-binary-reads.Asked,
@@ -649,9 +620,9 @@ level-binary-add-i-2 : (t : ℕ) → level-binary-lts.Need-add-i-2 (
   item-binary.Post,
 ) (level-binary-at t) level-binary.Post level-binary-Inv-loop level-binary-μ-loop
 level-binary-add-i-2 t c =
-    let l = c .before .before .before .before .before .before .before in
-    let a = c .before .before .before .before .before .before .before .before .before .args in
-    let q = c .before .before .before .before .before .before .before .before .before .pre .1 in
+    let l = c .before .before .before .before .before .before in
+    let a = c .before .before .before .before .before .before .before .before .args in
+    let q = c .before .before .before .before .before .before .before .before .pre .1 in
     let long : 4 * a .stop ≤ length (binarySextets (a .s .now)) = omega (arith, length-binary (a .s .now), q .1) in
     let R = binary-run (a .rows .now) (a .s .now) _ (a .stop) (l .loop .i) _ (q .0) (sym (c .before .plain-run-binary .ensures)) (c .if2 .taken) in
     let z = run-fits (plainAt plainTable (binarySextets (a .s .now))) _ (a .stop) (l .loop .i) _ (R .run) (c .if2 .taken) in
@@ -659,10 +630,8 @@ level-binary-add-i-2 t c =
 
 -- src/lib.rt:371:5
 level-binary-loop-less-2 : (t : ℕ) → level-binary-lts.Need-loop-less-2 (
-  group-binary-reads.Asked,
-  group-binary-reads.Learnt,
-  is-tail-reads.Asked,
-  is-tail-reads.Learnt,
+  nested-binary-reads.Asked,
+  nested-binary-reads.Learnt,
   letter-binary-reads.Asked,
   letter-binary-reads.Learnt,
   plain-binary-reads.Asked,
@@ -673,9 +642,9 @@ level-binary-loop-less-2 : (t : ℕ) → level-binary-lts.Need-loop-less-2 (
   item-binary.Post,
 ) (level-binary-at t) level-binary.Post level-binary-Inv-loop level-binary-μ-loop
 level-binary-loop-less-2 t c =
-    let l = c .before .before .before .before .before .before .before in
-    let a = c .before .before .before .before .before .before .before .before .before .args in
-    let q = c .before .before .before .before .before .before .before .before .before .pre .1 in
+    let l = c .before .before .before .before .before .before in
+    let a = c .before .before .before .before .before .before .before .before .args in
+    let q = c .before .before .before .before .before .before .before .before .pre .1 in
     let long : 4 * a .stop ≤ length (binarySextets (a .s .now)) = omega (arith, length-binary (a .s .now), q .1) in
     let R = binary-run (a .rows .now) (a .s .now) _ (a .stop) (l .loop .i) _ (q .0) (sym (c .before .plain-run-binary .ensures)) (c .if2 .taken) in
     let z = run-fits (plainAt plainTable (binarySextets (a .s .now))) _ (a .stop) (l .loop .i) _ (R .run) (c .if2 .taken) in
@@ -683,10 +652,8 @@ level-binary-loop-less-2 t c =
 
 -- src/lib.rt:371:5
 level-binary-loop-again-2 : (t : ℕ) → level-binary-lts.Need-loop-again-2 (
-  group-binary-reads.Asked,
-  group-binary-reads.Learnt,
-  is-tail-reads.Asked,
-  is-tail-reads.Learnt,
+  nested-binary-reads.Asked,
+  nested-binary-reads.Learnt,
   letter-binary-reads.Asked,
   letter-binary-reads.Learnt,
   plain-binary-reads.Asked,
@@ -697,9 +664,9 @@ level-binary-loop-again-2 : (t : ℕ) → level-binary-lts.Need-loop-again-2 (
   item-binary.Post,
 ) (level-binary-at t) level-binary.Post level-binary-Inv-loop level-binary-μ-loop
 level-binary-loop-again-2 t c =
-    let l = c .before .before .before .before .before .before .before in
-    let a = c .before .before .before .before .before .before .before .before .before .args in
-    let q = c .before .before .before .before .before .before .before .before .before .pre .1 in
+    let l = c .before .before .before .before .before .before in
+    let a = c .before .before .before .before .before .before .before .before .args in
+    let q = c .before .before .before .before .before .before .before .before .pre .1 in
     let long : 4 * a .stop ≤ length (binarySextets (a .s .now)) = omega (arith, length-binary (a .s .now), q .1) in
     let R = binary-run (a .rows .now) (a .s .now) _ (a .stop) (l .loop .i) _ (q .0) (sym (c .before .plain-run-binary .ensures)) (c .if2 .taken) in
     let z = run-fits (plainAt plainTable (binarySextets (a .s .now))) _ (a .stop) (l .loop .i) _ (R .run) (c .if2 .taken) in
@@ -707,10 +674,8 @@ level-binary-loop-again-2 t c =
 
 -- src/lib.rt:384:23
 level-binary-item-binary-requires : (t : ℕ) → level-binary-lts.Need-item-binary-requires (
-  group-binary-reads.Asked,
-  group-binary-reads.Learnt,
-  is-tail-reads.Asked,
-  is-tail-reads.Learnt,
+  nested-binary-reads.Asked,
+  nested-binary-reads.Learnt,
   letter-binary-reads.Asked,
   letter-binary-reads.Learnt,
   plain-binary-reads.Asked,
@@ -721,18 +686,16 @@ level-binary-item-binary-requires : (t : ℕ) → level-binary-lts.Need-item-bin
   item-binary.Post,
 ) (level-binary-at t) level-binary.Post level-binary-Inv-loop level-binary-μ-loop
 level-binary-item-binary-requires t c κs =
-    let l = c .before .before .before .before .before .before .before in
-    let a = c .before .before .before .before .before .before .before .before .before .args in
-    let q = c .before .before .before .before .before .before .before .before .before .pre .1 in
+    let l = c .before .before .before .before .before .before in
+    let a = c .before .before .before .before .before .before .before .before .args in
+    let q = c .before .before .before .before .before .before .before .before .pre .1 in
     let long : 4 * a .stop ≤ length (binarySextets (a .s .now)) = omega (arith, length-binary (a .s .now), q .1) in
-    (omega (arith, l .loop .inv .1, c .before .before .before .before .before .before .before .before .before .pre .0), (q .0, q .1, omega arith, q .3))
+    (omega (arith, l .loop .inv .1, c .before .before .before .before .before .before .before .before .pre .0), (q .0, q .1, omega arith, q .3))
 
 -- src/lib.rt:385:40
 level-binary-enum-known-number : (t : ℕ) → level-binary-lts.Need-enum-known-number (
-  group-binary-reads.Asked,
-  group-binary-reads.Learnt,
-  is-tail-reads.Asked,
-  is-tail-reads.Learnt,
+  nested-binary-reads.Asked,
+  nested-binary-reads.Learnt,
   letter-binary-reads.Asked,
   letter-binary-reads.Learnt,
   plain-binary-reads.Asked,
@@ -746,10 +709,8 @@ level-binary-enum-known-number t c = search needs
 
 -- src/lib.rt:386:25
 level-binary-returns : (t : ℕ) → level-binary-lts.Need-returns (
-  group-binary-reads.Asked,
-  group-binary-reads.Learnt,
-  is-tail-reads.Asked,
-  is-tail-reads.Learnt,
+  nested-binary-reads.Asked,
+  nested-binary-reads.Learnt,
   letter-binary-reads.Asked,
   letter-binary-reads.Learnt,
   plain-binary-reads.Asked,
@@ -760,17 +721,15 @@ level-binary-returns : (t : ℕ) → level-binary-lts.Need-returns (
   item-binary.Post,
 ) (level-binary-at t) level-binary.Post level-binary-Inv-loop level-binary-μ-loop
 level-binary-returns t c =
-    let l = c .before .before .before .before .before .before .before .before .before .before .before in
-    let a = c .before .before .before .before .before .before .before .before .before .before .before .before .before .args in
+    let l = c .before .before .before .before .before .before .before .before .before .before in
+    let a = c .before .before .before .before .before .before .before .before .before .before .before .before .args in
     let j = subst (Judged (binarySextets (a .s .now)) (l .loop .left) (l .loop .ruled) (l .loop .i) (a .stop)) (c .before .number .given .1) (c .before .before .before .item-binary .ensures) in
     j ∙ sym (l .loop .inv .2)
 
 -- src/lib.rt:391:25
 level-binary-enum-known-size : (t : ℕ) → level-binary-lts.Need-enum-known-size (
-  group-binary-reads.Asked,
-  group-binary-reads.Learnt,
-  is-tail-reads.Asked,
-  is-tail-reads.Learnt,
+  nested-binary-reads.Asked,
+  nested-binary-reads.Learnt,
   letter-binary-reads.Asked,
   letter-binary-reads.Learnt,
   plain-binary-reads.Asked,
@@ -784,10 +743,8 @@ level-binary-enum-known-size t c = search needs
 
 -- src/lib.rt:393:29
 level-binary-add-i-3 : (t : ℕ) → level-binary-lts.Need-add-i-3 (
-  group-binary-reads.Asked,
-  group-binary-reads.Learnt,
-  is-tail-reads.Asked,
-  is-tail-reads.Learnt,
+  nested-binary-reads.Asked,
+  nested-binary-reads.Learnt,
   letter-binary-reads.Asked,
   letter-binary-reads.Learnt,
   plain-binary-reads.Asked,
@@ -798,17 +755,15 @@ level-binary-add-i-3 : (t : ℕ) → level-binary-lts.Need-add-i-3 (
   item-binary.Post,
 ) (level-binary-at t) level-binary.Post level-binary-Inv-loop level-binary-μ-loop
 level-binary-add-i-3 t c =
-    let l = c .before .before .before .before .before .before .before .before .before .before .before in
-    let a = c .before .before .before .before .before .before .before .before .before .before .before .before .before .args in
+    let l = c .before .before .before .before .before .before .before .before .before .before in
+    let a = c .before .before .before .before .before .before .before .before .before .before .before .before .args in
     let j = subst (Judged (binarySextets (a .s .now)) (l .loop .left) (l .loop .ruled) (l .loop .i) (a .stop)) (c .before .size .given .1) (c .before .before .before .item-binary .ensures) in
-    omega (arith, j .2, c .before .before .before .before .before .before .before .before .before .before .before .before .before .pre .1)
+    omega (arith, j .2, c .before .before .before .before .before .before .before .before .before .before .before .before .pre .1)
 
 -- src/lib.rt:371:5
 level-binary-loop-less-3 : (t : ℕ) → level-binary-lts.Need-loop-less-3 (
-  group-binary-reads.Asked,
-  group-binary-reads.Learnt,
-  is-tail-reads.Asked,
-  is-tail-reads.Learnt,
+  nested-binary-reads.Asked,
+  nested-binary-reads.Learnt,
   letter-binary-reads.Asked,
   letter-binary-reads.Learnt,
   plain-binary-reads.Asked,
@@ -819,17 +774,15 @@ level-binary-loop-less-3 : (t : ℕ) → level-binary-lts.Need-loop-less-3 (
   item-binary.Post,
 ) (level-binary-at t) level-binary.Post level-binary-Inv-loop level-binary-μ-loop
 level-binary-loop-less-3 t c =
-    let l = c .before .before .before .before .before .before .before .before .before .before .before in
-    let a = c .before .before .before .before .before .before .before .before .before .before .before .before .before .args in
+    let l = c .before .before .before .before .before .before .before .before .before .before in
+    let a = c .before .before .before .before .before .before .before .before .before .before .before .before .args in
     let j = subst (Judged (binarySextets (a .s .now)) (l .loop .left) (l .loop .ruled) (l .loop .i) (a .stop)) (c .before .size .given .1) (c .before .before .before .item-binary .ensures) in
     omega (arith, j .1, j .2)
 
 -- src/lib.rt:371:5
 level-binary-loop-again-3 : (t : ℕ) → level-binary-lts.Need-loop-again-3 (
-  group-binary-reads.Asked,
-  group-binary-reads.Learnt,
-  is-tail-reads.Asked,
-  is-tail-reads.Learnt,
+  nested-binary-reads.Asked,
+  nested-binary-reads.Learnt,
   letter-binary-reads.Asked,
   letter-binary-reads.Learnt,
   plain-binary-reads.Asked,
@@ -840,17 +793,15 @@ level-binary-loop-again-3 : (t : ℕ) → level-binary-lts.Need-loop-again-3 (
   item-binary.Post,
 ) (level-binary-at t) level-binary.Post level-binary-Inv-loop level-binary-μ-loop
 level-binary-loop-again-3 t c =
-    let l = c .before .before .before .before .before .before .before .before .before .before .before in
-    let a = c .before .before .before .before .before .before .before .before .before .before .before .before .before .args in
+    let l = c .before .before .before .before .before .before .before .before .before .before in
+    let a = c .before .before .before .before .before .before .before .before .before .before .before .before .args in
     let j = subst (Judged (binarySextets (a .s .now)) (l .loop .left) (l .loop .ruled) (l .loop .i) (a .stop)) (c .before .size .given .1) (c .before .before .before .item-binary .ensures) in
     (j .2, l .loop .inv .1, l .loop .inv .2 ∙ j .0)
 
 -- src/lib.rt:357:1
 level-binary-returns-2 : (t : ℕ) → level-binary-lts.Need-returns-2 (
-  group-binary-reads.Asked,
-  group-binary-reads.Learnt,
-  is-tail-reads.Asked,
-  is-tail-reads.Learnt,
+  nested-binary-reads.Asked,
+  nested-binary-reads.Learnt,
   letter-binary-reads.Asked,
   letter-binary-reads.Learnt,
   plain-binary-reads.Asked,
@@ -902,10 +853,8 @@ pub +item-binary+level-binary-spec : {M : Type 1} → statement M
     (item-binary-returns-2 t)
     (item-binary-returns-3 t))
     λ t. level-binary-lts.spec (
-      group-binary-reads.Asked,
-      group-binary-reads.Learnt,
-      is-tail-reads.Asked,
-      is-tail-reads.Learnt,
+      nested-binary-reads.Asked,
+      nested-binary-reads.Learnt,
       letter-binary-reads.Asked,
       letter-binary-reads.Learnt,
       plain-binary-reads.Asked,
@@ -920,12 +869,11 @@ pub +item-binary+level-binary-spec : {M : Type 1} → statement M
     level-binary-Inv-loop
     level-binary-μ-loop
     (level-binary-loop-holds t)
-    (level-binary-group-binary-requires t)
-    (level-binary-sub-is-tail t)
-    (level-binary-is-tail-requires t)
-    (level-binary-letter-binary-requires t)
+    (level-binary-nested-binary-requires t)
     (level-binary-add-i t)
     (level-binary-sub-left t)
+    (level-binary-sub-letter-binary t)
+    (level-binary-letter-binary-requires t)
     (level-binary-loop-less t)
     (level-binary-loop-again t)
     (level-binary-plain-binary-requires t)

@@ -6,10 +6,10 @@ use borrow.Author.Needs.{needs}
 use Rattle.format.specs.Units.{textSextets}
 use Rattle.laws.specs.Levels.{level, level-end, part-length}
 use Rattle.runs.specs.Plain.{plainTable, plainAt}
-use Rattle.runs.specs.Levels.{tail-level}
+use Rattle.runs.specs.Levels.{nested-level}
 use Rattle.runs.specs.Runs.{run-fits, run-moves, run-level, text-run}
 use Rattle.contents.specs.Next.{Judged}
-use Rattle.contents.proofs.Laws.{text-part, length-sextets, next-near, judged-refused, judged-sizes, judged-levels, judged-plain, judged-entered, tail-is, marked}
+use Rattle.contents.proofs.Laws.{text-part, length-sextets, next-near, judged-refused, judged-sizes, judged-levels, judged-plain, judged-entered, marked}
 use Rattle.report.proofs.Laws.{text-by}
 use Prim.Native.Nat.{ℕ, _<_}
 use borrow.Fn.Kinds.{In}
@@ -22,12 +22,11 @@ use Rattle.report.proofs.level_text.Kinds as level-text-kinds
 use Rattle.report.proofs.+item_text+level_text.Lts-level_text as level-text-lts
 use Rattle.contents.proofs.is_entered.Reads as is-entered-reads
 use Rattle.contents.proofs.is_ruled.Reads as is-ruled-reads
-use Rattle.contents.proofs.is_tail.Reads as is-tail-reads
 use Rattle.contents.proofs.next_text.Reads as next-text-reads
 use Rattle.judging.proofs.told.Reads as told-reads
 use Rattle.runs.proofs.clean_run_text.Reads as clean-run-text-reads
-use Rattle.runs.proofs.group_text.Reads as group-text-reads
 use Rattle.runs.proofs.letter_text.Reads as letter-text-reads
+use Rattle.runs.proofs.nested_text.Reads as nested-text-reads
 use Rattle.runs.proofs.plain_text.Reads as plain-text-reads
 use Rattle.report.proofs.+item_text+level_text.{statement}
 use Rattle.report.proofs.+item_text+level_text.Tie.{close}
@@ -388,10 +387,8 @@ level-text-μ-loop values rows s levels first at stop i₀ ruled₀ left₀ i ru
 
 -- src/lib.rt:166:5
 level-text-loop-holds : (t : ℕ) → level-text-lts.Need-loop-holds (
-  group-text-reads.Asked,
-  group-text-reads.Learnt,
-  is-tail-reads.Asked,
-  is-tail-reads.Learnt,
+  nested-text-reads.Asked,
+  nested-text-reads.Learnt,
   letter-text-reads.Asked,
   letter-text-reads.Learnt,
   plain-text-reads.Asked,
@@ -404,11 +401,9 @@ level-text-loop-holds : (t : ℕ) → level-text-lts.Need-loop-holds (
 level-text-loop-holds t c = (search needs, search needs, refl)
 
 -- src/lib.rt:167:13
-level-text-group-text-requires : (t : ℕ) → level-text-lts.Need-group-text-requires (
-  group-text-reads.Asked,
-  group-text-reads.Learnt,
-  is-tail-reads.Asked,
-  is-tail-reads.Learnt,
+level-text-nested-text-requires : (t : ℕ) → level-text-lts.Need-nested-text-requires (
+  nested-text-reads.Asked,
+  nested-text-reads.Learnt,
   letter-text-reads.Asked,
   letter-text-reads.Learnt,
   plain-text-reads.Asked,
@@ -418,14 +413,12 @@ level-text-group-text-requires : (t : ℕ) → level-text-lts.Need-group-text-re
   item-text-below t,
   item-text.Post,
 ) (level-text-at t) level-text.Post level-text-Inv-loop level-text-μ-loop
-level-text-group-text-requires t c κs = search needs
+level-text-nested-text-requires t c κs = search needs
 
--- src/lib.rt:168:33
-level-text-sub-is-tail : (t : ℕ) → level-text-lts.Need-sub-is-tail (
-  group-text-reads.Asked,
-  group-text-reads.Learnt,
-  is-tail-reads.Asked,
-  is-tail-reads.Learnt,
+-- src/lib.rt:169:17
+level-text-add-i : (t : ℕ) → level-text-lts.Need-add-i (
+  nested-text-reads.Asked,
+  nested-text-reads.Learnt,
   letter-text-reads.Asked,
   letter-text-reads.Learnt,
   plain-text-reads.Asked,
@@ -435,14 +428,19 @@ level-text-sub-is-tail : (t : ℕ) → level-text-lts.Need-sub-is-tail (
   item-text-below t,
   item-text.Post,
 ) (level-text-at t) level-text.Post level-text-Inv-loop level-text-μ-loop
-level-text-sub-is-tail t c = search needs
+level-text-add-i t c =
+    let l = c .before .before .before in
+    let a = c .before .before .before .before .before .args in
+    let q = c .before .before .before .before .before .pre .1 in
+    let long : 4 * a .stop ≤ length (textSextets (a .s .now)) = omega (arith, length-sextets (a .s .now), q .2) in
+    let by = text-by (a .values .now) (a .s .now) (q .0) (λ i. omega (arith, c .before .before .before .before .shared-slice-known .given i)) in
+    let N = nested-level (textSextets (a .s .now)) (a .stop) long (l .loop .left) (l .loop .ruled) (l .loop .i) _ (rw by at (sym (c .before .nested-text .ensures))) (c .if1 .taken) in
+    omega (arith, N .fits)
 
--- src/lib.rt:168:12
-level-text-is-tail-requires : (t : ℕ) → level-text-lts.Need-is-tail-requires (
-  group-text-reads.Asked,
-  group-text-reads.Learnt,
-  is-tail-reads.Asked,
-  is-tail-reads.Learnt,
+-- src/lib.rt:170:20
+level-text-sub-left : (t : ℕ) → level-text-lts.Need-sub-left (
+  nested-text-reads.Asked,
+  nested-text-reads.Learnt,
   letter-text-reads.Asked,
   letter-text-reads.Learnt,
   plain-text-reads.Asked,
@@ -452,14 +450,41 @@ level-text-is-tail-requires : (t : ℕ) → level-text-lts.Need-is-tail-requires
   item-text-below t,
   item-text.Post,
 ) (level-text-at t) level-text.Post level-text-Inv-loop level-text-μ-loop
-level-text-is-tail-requires t c κs = search needs
+level-text-sub-left t c =
+    let l = c .before .before .before in
+    let a = c .before .before .before .before .before .args in
+    let q = c .before .before .before .before .before .pre .1 in
+    let long : 4 * a .stop ≤ length (textSextets (a .s .now)) = omega (arith, length-sextets (a .s .now), q .2) in
+    let by = text-by (a .values .now) (a .s .now) (q .0) (λ i. omega (arith, c .before .before .before .before .shared-slice-known .given i)) in
+    let N = nested-level (textSextets (a .s .now)) (a .stop) long (l .loop .left) (l .loop .ruled) (l .loop .i) _ (rw by at (sym (c .before .nested-text .ensures))) (c .if1 .taken) in
+    omega (arith, N .few)
 
--- src/lib.rt:169:21
+-- src/lib.rt:171:50
+level-text-sub-letter-text : (t : ℕ) → level-text-lts.Need-sub-letter-text (
+  nested-text-reads.Asked,
+  nested-text-reads.Learnt,
+  letter-text-reads.Asked,
+  letter-text-reads.Learnt,
+  plain-text-reads.Asked,
+  plain-text-reads.Learnt,
+  clean-run-text-reads.Asked,
+  clean-run-text-reads.Learnt,
+  item-text-below t,
+  item-text.Post,
+) (level-text-at t) level-text.Post level-text-Inv-loop level-text-μ-loop
+level-text-sub-letter-text t c =
+    let l = c .before .before .before in
+    let a = c .before .before .before .before .before .args in
+    let q = c .before .before .before .before .before .pre .1 in
+    let long : 4 * a .stop ≤ length (textSextets (a .s .now)) = omega (arith, length-sextets (a .s .now), q .2) in
+    let by = text-by (a .values .now) (a .s .now) (q .0) (λ i. omega (arith, c .before .before .before .before .shared-slice-known .given i)) in
+    let N = nested-level (textSextets (a .s .now)) (a .stop) long (l .loop .left) (l .loop .ruled) (l .loop .i) _ (rw by at (sym (c .before .nested-text .ensures))) (c .if1 .taken) in
+    omega (arith, c .if1 .taken)
+
+-- src/lib.rt:171:21
 level-text-letter-text-requires : (t : ℕ) → level-text-lts.Need-letter-text-requires (
-  group-text-reads.Asked,
-  group-text-reads.Learnt,
-  is-tail-reads.Asked,
-  is-tail-reads.Learnt,
+  nested-text-reads.Asked,
+  nested-text-reads.Learnt,
   letter-text-reads.Asked,
   letter-text-reads.Learnt,
   plain-text-reads.Asked,
@@ -471,52 +496,10 @@ level-text-letter-text-requires : (t : ℕ) → level-text-lts.Need-letter-text-
 ) (level-text-at t) level-text.Post level-text-Inv-loop level-text-μ-loop
 level-text-letter-text-requires t c κs = search needs
 
--- src/lib.rt:170:17
-level-text-add-i : (t : ℕ) → level-text-lts.Need-add-i (
-  group-text-reads.Asked,
-  group-text-reads.Learnt,
-  is-tail-reads.Asked,
-  is-tail-reads.Learnt,
-  letter-text-reads.Asked,
-  letter-text-reads.Learnt,
-  plain-text-reads.Asked,
-  plain-text-reads.Learnt,
-  clean-run-text-reads.Asked,
-  clean-run-text-reads.Learnt,
-  item-text-below t,
-  item-text.Post,
-) (level-text-at t) level-text.Post level-text-Inv-loop level-text-μ-loop
-level-text-add-i t c = search needs
-
--- src/lib.rt:171:20
-level-text-sub-left : (t : ℕ) → level-text-lts.Need-sub-left (
-  group-text-reads.Asked,
-  group-text-reads.Learnt,
-  is-tail-reads.Asked,
-  is-tail-reads.Learnt,
-  letter-text-reads.Asked,
-  letter-text-reads.Learnt,
-  plain-text-reads.Asked,
-  plain-text-reads.Learnt,
-  clean-run-text-reads.Asked,
-  clean-run-text-reads.Learnt,
-  item-text-below t,
-  item-text.Post,
-) (level-text-at t) level-text.Post level-text-Inv-loop level-text-μ-loop
-level-text-sub-left t c =
-    let l = c .before .before .before .before .before in
-    let a = c .before .before .before .before .before .before .before .args in
-    let q = c .before .before .before .before .before .before .before .pre .1 in
-    let long : 4 * a .stop ≤ length (textSextets (a .s .now)) = omega (arith, length-sextets (a .s .now), q .2) in
-    let w = tail-is _ _ _ (sym (c .before .before .is-tail .ensures) ∙ c .before .if1 .taken) in
-    omega (arith, w .1)
-
 -- src/lib.rt:166:5
 level-text-loop-less : (t : ℕ) → level-text-lts.Need-loop-less (
-  group-text-reads.Asked,
-  group-text-reads.Learnt,
-  is-tail-reads.Asked,
-  is-tail-reads.Learnt,
+  nested-text-reads.Asked,
+  nested-text-reads.Learnt,
   letter-text-reads.Asked,
   letter-text-reads.Learnt,
   plain-text-reads.Asked,
@@ -527,18 +510,18 @@ level-text-loop-less : (t : ℕ) → level-text-lts.Need-loop-less (
   item-text.Post,
 ) (level-text-at t) level-text.Post level-text-Inv-loop level-text-μ-loop
 level-text-loop-less t c =
-    let l = c .before .before .before .before .before in
-    let a = c .before .before .before .before .before .before .before .args in
-    let q = c .before .before .before .before .before .before .before .pre .1 in
+    let l = c .before .before .before .before in
+    let a = c .before .before .before .before .before .before .args in
+    let q = c .before .before .before .before .before .before .pre .1 in
     let long : 4 * a .stop ≤ length (textSextets (a .s .now)) = omega (arith, length-sextets (a .s .now), q .2) in
-    omega arith
+    let by = text-by (a .values .now) (a .s .now) (q .0) (λ i. omega (arith, c .before .before .before .before .before .shared-slice-known .given i)) in
+    let N = nested-level (textSextets (a .s .now)) (a .stop) long (l .loop .left) (l .loop .ruled) (l .loop .i) _ (rw by at (sym (c .before .before .nested-text .ensures))) (c .before .if1 .taken) in
+    omega (arith, N .fits, c .before .if1 .taken)
 
 -- src/lib.rt:166:5
 level-text-loop-again : (t : ℕ) → level-text-lts.Need-loop-again (
-  group-text-reads.Asked,
-  group-text-reads.Learnt,
-  is-tail-reads.Asked,
-  is-tail-reads.Learnt,
+  nested-text-reads.Asked,
+  nested-text-reads.Learnt,
   letter-text-reads.Asked,
   letter-text-reads.Learnt,
   plain-text-reads.Asked,
@@ -549,20 +532,18 @@ level-text-loop-again : (t : ℕ) → level-text-lts.Need-loop-again (
   item-text.Post,
 ) (level-text-at t) level-text.Post level-text-Inv-loop level-text-μ-loop
 level-text-loop-again t c =
-    let l = c .before .before .before .before .before in
-    let a = c .before .before .before .before .before .before .before .args in
-    let q = c .before .before .before .before .before .before .before .pre .1 in
+    let l = c .before .before .before .before in
+    let a = c .before .before .before .before .before .before .args in
+    let q = c .before .before .before .before .before .before .pre .1 in
     let long : 4 * a .stop ≤ length (textSextets (a .s .now)) = omega (arith, length-sextets (a .s .now), q .2) in
-    let w = tail-is _ _ _ (sym (c .before .before .is-tail .ensures) ∙ c .before .if1 .taken) in
-    let by = text-by (a .values .now) (a .s .now) (q .0) (λ i. omega (arith, c .before .before .before .before .before .before .shared-slice-known .given i)) in
-    (omega arith, omega arith, l .loop .inv .2 ∙ tail-level (textSextets (a .s .now)) (l .loop .left) (a .stop) long (l .loop .ruled) (l .loop .i) ((rw by at (sym (c .before .before .before .group-text .ensures))) ∙ w .0) (omega arith) (w .1) ∙ marked (textSextets (a .s .now)) _ _ _ _ _ (rw by at (c .letter-text .ensures)))
+    let by = text-by (a .values .now) (a .s .now) (q .0) (λ i. omega (arith, c .before .before .before .before .before .shared-slice-known .given i)) in
+    let N = nested-level (textSextets (a .s .now)) (a .stop) long (l .loop .left) (l .loop .ruled) (l .loop .i) _ (rw by at (sym (c .before .before .nested-text .ensures))) (c .before .if1 .taken) in
+    (N .fits, omega (arith, N .few), l .loop .inv .2 ∙ N .leaves ∙ marked (textSextets (a .s .now)) _ _ _ _ _ (rw by at (c .letter-text .ensures)))
 
 -- src/lib.rt:173:17
 level-text-plain-text-requires : (t : ℕ) → level-text-lts.Need-plain-text-requires (
-  group-text-reads.Asked,
-  group-text-reads.Learnt,
-  is-tail-reads.Asked,
-  is-tail-reads.Learnt,
+  nested-text-reads.Asked,
+  nested-text-reads.Learnt,
   letter-text-reads.Asked,
   letter-text-reads.Learnt,
   plain-text-reads.Asked,
@@ -576,10 +557,8 @@ level-text-plain-text-requires t c κs = search needs
 
 -- src/lib.rt:174:17
 level-text-clean-run-text-requires : (t : ℕ) → level-text-lts.Need-clean-run-text-requires (
-  group-text-reads.Asked,
-  group-text-reads.Learnt,
-  is-tail-reads.Asked,
-  is-tail-reads.Learnt,
+  nested-text-reads.Asked,
+  nested-text-reads.Learnt,
   letter-text-reads.Asked,
   letter-text-reads.Learnt,
   plain-text-reads.Asked,
@@ -593,10 +572,8 @@ level-text-clean-run-text-requires t c κs = search needs
 
 -- src/lib.rt:176:25
 level-text-mul-i : (t : ℕ) → level-text-lts.Need-mul-i (
-  group-text-reads.Asked,
-  group-text-reads.Learnt,
-  is-tail-reads.Asked,
-  is-tail-reads.Learnt,
+  nested-text-reads.Asked,
+  nested-text-reads.Learnt,
   letter-text-reads.Asked,
   letter-text-reads.Learnt,
   plain-text-reads.Asked,
@@ -607,20 +584,18 @@ level-text-mul-i : (t : ℕ) → level-text-lts.Need-mul-i (
   item-text.Post,
 ) (level-text-at t) level-text.Post level-text-Inv-loop level-text-μ-loop
 level-text-mul-i t c =
-    let l = c .before .before .before .before .before .before .before in
-    let a = c .before .before .before .before .before .before .before .before .before .args in
-    let q = c .before .before .before .before .before .before .before .before .before .pre .1 in
+    let l = c .before .before .before .before .before .before in
+    let a = c .before .before .before .before .before .before .before .before .args in
+    let q = c .before .before .before .before .before .before .before .before .pre .1 in
     let long : 4 * a .stop ≤ length (textSextets (a .s .now)) = omega (arith, length-sextets (a .s .now), q .2) in
-    let R = text-run (a .values .now) (a .rows .now) (a .s .now) _ (a .stop) (l .loop .i) _ (q .0) (q .1) (λ i. omega (arith, c .before .before .before .before .before .before .before .before .shared-slice-known .given i)) (sym (c .before .clean-run-text .ensures)) (c .if2 .taken) in
+    let R = text-run (a .values .now) (a .rows .now) (a .s .now) _ (a .stop) (l .loop .i) _ (q .0) (q .1) (λ i. omega (arith, c .before .before .before .before .before .before .before .shared-slice-known .given i)) (sym (c .before .clean-run-text .ensures)) (c .if2 .taken) in
     let z = run-fits (plainAt plainTable (textSextets (a .s .now))) _ (a .stop) (l .loop .i) _ (R .run) (c .if2 .taken) in
     omega (arith, z)
 
 -- src/lib.rt:176:21
 level-text-add-i-2 : (t : ℕ) → level-text-lts.Need-add-i-2 (
-  group-text-reads.Asked,
-  group-text-reads.Learnt,
-  is-tail-reads.Asked,
-  is-tail-reads.Learnt,
+  nested-text-reads.Asked,
+  nested-text-reads.Learnt,
   letter-text-reads.Asked,
   letter-text-reads.Learnt,
   plain-text-reads.Asked,
@@ -631,20 +606,18 @@ level-text-add-i-2 : (t : ℕ) → level-text-lts.Need-add-i-2 (
   item-text.Post,
 ) (level-text-at t) level-text.Post level-text-Inv-loop level-text-μ-loop
 level-text-add-i-2 t c =
-    let l = c .before .before .before .before .before .before .before in
-    let a = c .before .before .before .before .before .before .before .before .before .args in
-    let q = c .before .before .before .before .before .before .before .before .before .pre .1 in
+    let l = c .before .before .before .before .before .before in
+    let a = c .before .before .before .before .before .before .before .before .args in
+    let q = c .before .before .before .before .before .before .before .before .pre .1 in
     let long : 4 * a .stop ≤ length (textSextets (a .s .now)) = omega (arith, length-sextets (a .s .now), q .2) in
-    let R = text-run (a .values .now) (a .rows .now) (a .s .now) _ (a .stop) (l .loop .i) _ (q .0) (q .1) (λ i. omega (arith, c .before .before .before .before .before .before .before .before .shared-slice-known .given i)) (sym (c .before .clean-run-text .ensures)) (c .if2 .taken) in
+    let R = text-run (a .values .now) (a .rows .now) (a .s .now) _ (a .stop) (l .loop .i) _ (q .0) (q .1) (λ i. omega (arith, c .before .before .before .before .before .before .before .shared-slice-known .given i)) (sym (c .before .clean-run-text .ensures)) (c .if2 .taken) in
     let z = run-fits (plainAt plainTable (textSextets (a .s .now))) _ (a .stop) (l .loop .i) _ (R .run) (c .if2 .taken) in
     omega (arith, z)
 
 -- src/lib.rt:166:5
 level-text-loop-less-2 : (t : ℕ) → level-text-lts.Need-loop-less-2 (
-  group-text-reads.Asked,
-  group-text-reads.Learnt,
-  is-tail-reads.Asked,
-  is-tail-reads.Learnt,
+  nested-text-reads.Asked,
+  nested-text-reads.Learnt,
   letter-text-reads.Asked,
   letter-text-reads.Learnt,
   plain-text-reads.Asked,
@@ -655,20 +628,18 @@ level-text-loop-less-2 : (t : ℕ) → level-text-lts.Need-loop-less-2 (
   item-text.Post,
 ) (level-text-at t) level-text.Post level-text-Inv-loop level-text-μ-loop
 level-text-loop-less-2 t c =
-    let l = c .before .before .before .before .before .before .before in
-    let a = c .before .before .before .before .before .before .before .before .before .args in
-    let q = c .before .before .before .before .before .before .before .before .before .pre .1 in
+    let l = c .before .before .before .before .before .before in
+    let a = c .before .before .before .before .before .before .before .before .args in
+    let q = c .before .before .before .before .before .before .before .before .pre .1 in
     let long : 4 * a .stop ≤ length (textSextets (a .s .now)) = omega (arith, length-sextets (a .s .now), q .2) in
-    let R = text-run (a .values .now) (a .rows .now) (a .s .now) _ (a .stop) (l .loop .i) _ (q .0) (q .1) (λ i. omega (arith, c .before .before .before .before .before .before .before .before .shared-slice-known .given i)) (sym (c .before .clean-run-text .ensures)) (c .if2 .taken) in
+    let R = text-run (a .values .now) (a .rows .now) (a .s .now) _ (a .stop) (l .loop .i) _ (q .0) (q .1) (λ i. omega (arith, c .before .before .before .before .before .before .before .shared-slice-known .given i)) (sym (c .before .clean-run-text .ensures)) (c .if2 .taken) in
     let z = run-fits (plainAt plainTable (textSextets (a .s .now))) _ (a .stop) (l .loop .i) _ (R .run) (c .if2 .taken) in
     omega (arith, z, run-moves (plainAt plainTable (textSextets (a .s .now))) _ (a .stop) (l .loop .i) _ (R .run) (c .if2 .taken))
 
 -- src/lib.rt:166:5
 level-text-loop-again-2 : (t : ℕ) → level-text-lts.Need-loop-again-2 (
-  group-text-reads.Asked,
-  group-text-reads.Learnt,
-  is-tail-reads.Asked,
-  is-tail-reads.Learnt,
+  nested-text-reads.Asked,
+  nested-text-reads.Learnt,
   letter-text-reads.Asked,
   letter-text-reads.Learnt,
   plain-text-reads.Asked,
@@ -679,20 +650,18 @@ level-text-loop-again-2 : (t : ℕ) → level-text-lts.Need-loop-again-2 (
   item-text.Post,
 ) (level-text-at t) level-text.Post level-text-Inv-loop level-text-μ-loop
 level-text-loop-again-2 t c =
-    let l = c .before .before .before .before .before .before .before in
-    let a = c .before .before .before .before .before .before .before .before .before .args in
-    let q = c .before .before .before .before .before .before .before .before .before .pre .1 in
+    let l = c .before .before .before .before .before .before in
+    let a = c .before .before .before .before .before .before .before .before .args in
+    let q = c .before .before .before .before .before .before .before .before .pre .1 in
     let long : 4 * a .stop ≤ length (textSextets (a .s .now)) = omega (arith, length-sextets (a .s .now), q .2) in
-    let R = text-run (a .values .now) (a .rows .now) (a .s .now) _ (a .stop) (l .loop .i) _ (q .0) (q .1) (λ i. omega (arith, c .before .before .before .before .before .before .before .before .shared-slice-known .given i)) (sym (c .before .clean-run-text .ensures)) (c .if2 .taken) in
+    let R = text-run (a .values .now) (a .rows .now) (a .s .now) _ (a .stop) (l .loop .i) _ (q .0) (q .1) (λ i. omega (arith, c .before .before .before .before .before .before .before .shared-slice-known .given i)) (sym (c .before .clean-run-text .ensures)) (c .if2 .taken) in
     let z = run-fits (plainAt plainTable (textSextets (a .s .now))) _ (a .stop) (l .loop .i) _ (R .run) (c .if2 .taken) in
     (omega (arith, z), l .loop .inv .1, l .loop .inv .2 ∙ run-level (textSextets (a .s .now)) (l .loop .left) (a .stop) long (l .loop .ruled) _ (l .loop .i) _ (R .run) (R .known) (c .if2 .taken))
 
 -- src/lib.rt:179:23
 level-text-item-text-requires : (t : ℕ) → level-text-lts.Need-item-text-requires (
-  group-text-reads.Asked,
-  group-text-reads.Learnt,
-  is-tail-reads.Asked,
-  is-tail-reads.Learnt,
+  nested-text-reads.Asked,
+  nested-text-reads.Learnt,
   letter-text-reads.Asked,
   letter-text-reads.Learnt,
   plain-text-reads.Asked,
@@ -703,18 +672,16 @@ level-text-item-text-requires : (t : ℕ) → level-text-lts.Need-item-text-requ
   item-text.Post,
 ) (level-text-at t) level-text.Post level-text-Inv-loop level-text-μ-loop
 level-text-item-text-requires t c κs =
-    let l = c .before .before .before .before .before .before .before in
-    let a = c .before .before .before .before .before .before .before .before .before .args in
-    let q = c .before .before .before .before .before .before .before .before .before .pre .1 in
+    let l = c .before .before .before .before .before .before in
+    let a = c .before .before .before .before .before .before .before .before .args in
+    let q = c .before .before .before .before .before .before .before .before .pre .1 in
     let long : 4 * a .stop ≤ length (textSextets (a .s .now)) = omega (arith, length-sextets (a .s .now), q .2) in
-    (omega (arith, l .loop .inv .1, c .before .before .before .before .before .before .before .before .before .pre .0), (q .0, q .1, q .2, omega arith, q .4))
+    (omega (arith, l .loop .inv .1, c .before .before .before .before .before .before .before .before .pre .0), (q .0, q .1, q .2, omega arith, q .4))
 
 -- src/lib.rt:180:40
 level-text-enum-known-number : (t : ℕ) → level-text-lts.Need-enum-known-number (
-  group-text-reads.Asked,
-  group-text-reads.Learnt,
-  is-tail-reads.Asked,
-  is-tail-reads.Learnt,
+  nested-text-reads.Asked,
+  nested-text-reads.Learnt,
   letter-text-reads.Asked,
   letter-text-reads.Learnt,
   plain-text-reads.Asked,
@@ -728,10 +695,8 @@ level-text-enum-known-number t c = search needs
 
 -- src/lib.rt:181:25
 level-text-returns : (t : ℕ) → level-text-lts.Need-returns (
-  group-text-reads.Asked,
-  group-text-reads.Learnt,
-  is-tail-reads.Asked,
-  is-tail-reads.Learnt,
+  nested-text-reads.Asked,
+  nested-text-reads.Learnt,
   letter-text-reads.Asked,
   letter-text-reads.Learnt,
   plain-text-reads.Asked,
@@ -742,17 +707,15 @@ level-text-returns : (t : ℕ) → level-text-lts.Need-returns (
   item-text.Post,
 ) (level-text-at t) level-text.Post level-text-Inv-loop level-text-μ-loop
 level-text-returns t c =
-    let l = c .before .before .before .before .before .before .before .before .before .before .before in
-    let a = c .before .before .before .before .before .before .before .before .before .before .before .before .before .args in
+    let l = c .before .before .before .before .before .before .before .before .before .before in
+    let a = c .before .before .before .before .before .before .before .before .before .before .before .before .args in
     let j = subst (Judged (textSextets (a .s .now)) (l .loop .left) (l .loop .ruled) (l .loop .i) (a .stop)) (c .before .number .given .1) (c .before .before .before .item-text .ensures) in
     j ∙ sym (l .loop .inv .2)
 
 -- src/lib.rt:186:25
 level-text-enum-known-size : (t : ℕ) → level-text-lts.Need-enum-known-size (
-  group-text-reads.Asked,
-  group-text-reads.Learnt,
-  is-tail-reads.Asked,
-  is-tail-reads.Learnt,
+  nested-text-reads.Asked,
+  nested-text-reads.Learnt,
   letter-text-reads.Asked,
   letter-text-reads.Learnt,
   plain-text-reads.Asked,
@@ -766,10 +729,8 @@ level-text-enum-known-size t c = search needs
 
 -- src/lib.rt:188:29
 level-text-add-i-3 : (t : ℕ) → level-text-lts.Need-add-i-3 (
-  group-text-reads.Asked,
-  group-text-reads.Learnt,
-  is-tail-reads.Asked,
-  is-tail-reads.Learnt,
+  nested-text-reads.Asked,
+  nested-text-reads.Learnt,
   letter-text-reads.Asked,
   letter-text-reads.Learnt,
   plain-text-reads.Asked,
@@ -780,17 +741,15 @@ level-text-add-i-3 : (t : ℕ) → level-text-lts.Need-add-i-3 (
   item-text.Post,
 ) (level-text-at t) level-text.Post level-text-Inv-loop level-text-μ-loop
 level-text-add-i-3 t c =
-    let l = c .before .before .before .before .before .before .before .before .before .before .before in
-    let a = c .before .before .before .before .before .before .before .before .before .before .before .before .before .args in
+    let l = c .before .before .before .before .before .before .before .before .before .before in
+    let a = c .before .before .before .before .before .before .before .before .before .before .before .before .args in
     let j = subst (Judged (textSextets (a .s .now)) (l .loop .left) (l .loop .ruled) (l .loop .i) (a .stop)) (c .before .size .given .1) (c .before .before .before .item-text .ensures) in
-    omega (arith, j .2, c .before .before .before .before .before .before .before .before .before .before .before .before .before .pre .1)
+    omega (arith, j .2, c .before .before .before .before .before .before .before .before .before .before .before .before .pre .1)
 
 -- src/lib.rt:166:5
 level-text-loop-less-3 : (t : ℕ) → level-text-lts.Need-loop-less-3 (
-  group-text-reads.Asked,
-  group-text-reads.Learnt,
-  is-tail-reads.Asked,
-  is-tail-reads.Learnt,
+  nested-text-reads.Asked,
+  nested-text-reads.Learnt,
   letter-text-reads.Asked,
   letter-text-reads.Learnt,
   plain-text-reads.Asked,
@@ -801,17 +760,15 @@ level-text-loop-less-3 : (t : ℕ) → level-text-lts.Need-loop-less-3 (
   item-text.Post,
 ) (level-text-at t) level-text.Post level-text-Inv-loop level-text-μ-loop
 level-text-loop-less-3 t c =
-    let l = c .before .before .before .before .before .before .before .before .before .before .before in
-    let a = c .before .before .before .before .before .before .before .before .before .before .before .before .before .args in
+    let l = c .before .before .before .before .before .before .before .before .before .before in
+    let a = c .before .before .before .before .before .before .before .before .before .before .before .before .args in
     let j = subst (Judged (textSextets (a .s .now)) (l .loop .left) (l .loop .ruled) (l .loop .i) (a .stop)) (c .before .size .given .1) (c .before .before .before .item-text .ensures) in
     omega (arith, j .1, j .2)
 
 -- src/lib.rt:166:5
 level-text-loop-again-3 : (t : ℕ) → level-text-lts.Need-loop-again-3 (
-  group-text-reads.Asked,
-  group-text-reads.Learnt,
-  is-tail-reads.Asked,
-  is-tail-reads.Learnt,
+  nested-text-reads.Asked,
+  nested-text-reads.Learnt,
   letter-text-reads.Asked,
   letter-text-reads.Learnt,
   plain-text-reads.Asked,
@@ -822,17 +779,15 @@ level-text-loop-again-3 : (t : ℕ) → level-text-lts.Need-loop-again-3 (
   item-text.Post,
 ) (level-text-at t) level-text.Post level-text-Inv-loop level-text-μ-loop
 level-text-loop-again-3 t c =
-    let l = c .before .before .before .before .before .before .before .before .before .before .before in
-    let a = c .before .before .before .before .before .before .before .before .before .before .before .before .before .args in
+    let l = c .before .before .before .before .before .before .before .before .before .before in
+    let a = c .before .before .before .before .before .before .before .before .before .before .before .before .args in
     let j = subst (Judged (textSextets (a .s .now)) (l .loop .left) (l .loop .ruled) (l .loop .i) (a .stop)) (c .before .size .given .1) (c .before .before .before .item-text .ensures) in
     (j .2, l .loop .inv .1, l .loop .inv .2 ∙ j .0)
 
 -- src/lib.rt:151:1
 level-text-returns-2 : (t : ℕ) → level-text-lts.Need-returns-2 (
-  group-text-reads.Asked,
-  group-text-reads.Learnt,
-  is-tail-reads.Asked,
-  is-tail-reads.Learnt,
+  nested-text-reads.Asked,
+  nested-text-reads.Learnt,
   letter-text-reads.Asked,
   letter-text-reads.Learnt,
   plain-text-reads.Asked,
@@ -883,10 +838,8 @@ pub +item-text+level-text-spec : {M : Type 1} → statement M
     (item-text-returns-2 t)
     (item-text-returns-3 t))
     λ t. level-text-lts.spec (
-      group-text-reads.Asked,
-      group-text-reads.Learnt,
-      is-tail-reads.Asked,
-      is-tail-reads.Learnt,
+      nested-text-reads.Asked,
+      nested-text-reads.Learnt,
       letter-text-reads.Asked,
       letter-text-reads.Learnt,
       plain-text-reads.Asked,
@@ -901,12 +854,11 @@ pub +item-text+level-text-spec : {M : Type 1} → statement M
     level-text-Inv-loop
     level-text-μ-loop
     (level-text-loop-holds t)
-    (level-text-group-text-requires t)
-    (level-text-sub-is-tail t)
-    (level-text-is-tail-requires t)
-    (level-text-letter-text-requires t)
+    (level-text-nested-text-requires t)
     (level-text-add-i t)
     (level-text-sub-left t)
+    (level-text-sub-letter-text t)
+    (level-text-letter-text-requires t)
     (level-text-loop-less t)
     (level-text-loop-again t)
     (level-text-plain-text-requires t)

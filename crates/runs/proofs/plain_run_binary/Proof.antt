@@ -13,78 +13,77 @@ use Rattle.runs.proofs.plain_run_binary.Lts as lts
 use Rattle.runs.proofs.plain_binary.Reads as plain-binary-reads
 
 abbrev Inv-loop : tie.InvT-loop
-Inv-loop rows s at stop k i₀ n₀ i n = (n ≤ 32) × (run (plainAt rows (binarySextets s)) k stop 32 at ≡ n + run (plainAt rows (binarySextets s)) k stop (32 - n) i)
+Inv-loop rows s at stop k last i₀ n₀ i n = (n ≤ 32) × (run (plainAt rows (binarySextets s)) k stop 32 at ≡ n + run (plainAt rows (binarySextets s)) k stop (32 - n) i)
 
 abbrev μ-loop : tie.MeasureT-loop
-μ-loop rows s at stop k i₀ n₀ i n = 32 - n
+μ-loop rows s at stop k last i₀ n₀ i n = 32 - n
 
--- src/lib.rt:478:9
+-- src/lib.rt:509:9
 returns : tie.Need-returns Inv-loop μ-loop
 unfolding runAt
 returns c = rw (eq-eqb _ _ (c .if1 .taken))
 
--- src/lib.rt:482:5
-loop-holds : tie.Need-loop-holds Inv-loop μ-loop
-loop-holds c =
-    let a = c .before .before .args in
-    (omega arith, run-start (plainAt (a .rows .now) (binarySextets (a .s .now))) (a .k) (a .stop) (a .at))
-
--- src/lib.rt:484:13
+-- src/lib.rt:512:9
 returns-2 : tie.Need-returns-2 Inv-loop μ-loop
 unfolding runAt
 returns-2 c =
-    let l = c .before .before in
-    let a = c .before .before .before .before .before .args in
-    rw (ne-eqb _ _ (c .before .before .before .if1 .left)) (sym (l .loop .inv .1 ∙ rw (run-past (plainAt (a .rows .now) (binarySextets (a .s .now))) (a .k) (a .stop) (32 - l .loop .n) (l .loop .i) (omega arith)) (omega arith)))
+    let a = c .before .before .before .args in
+    rw (ne-eqb _ _ (c .before .if1 .left)) (sym (run-past (plainAt (a .rows .now) (binarySextets (a .s .now))) (a .k) (a .stop) 32 (a .at) (omega (arith, c .if2 .taken))))
 
--- src/lib.rt:487:13
+-- src/lib.rt:517:5
+loop-holds : tie.Need-loop-holds Inv-loop μ-loop
+loop-holds c =
+    let a = c .before .before .before .args in
+    (omega arith, run-start (plainAt (a .rows .now) (binarySextets (a .s .now))) (a .k) (a .stop) (a .at))
+
+-- src/lib.rt:519:13
 returns-3 : tie.Need-returns-3 Inv-loop μ-loop
 unfolding runAt
 returns-3 c =
-    let l = c .before .before .before in
+    let l = c .before .before in
     let a = c .before .before .before .before .before .before .args in
     rw (ne-eqb _ _ (c .before .before .before .before .if1 .left)) (sym (l .loop .inv .1 ∙ rw (run-past (plainAt (a .rows .now) (binarySextets (a .s .now))) (a .k) (a .stop) (32 - l .loop .n) (l .loop .i) (omega arith)) (omega arith)))
 
--- src/lib.rt:489:12
+-- src/lib.rt:521:12
 plain-binary-requires : tie.Need-plain-binary-requires Inv-loop μ-loop
 plain-binary-requires c κs = search needs
 
--- src/lib.rt:490:13
+-- src/lib.rt:522:13
 returns-4 : tie.Need-returns-4 Inv-loop μ-loop
 unfolding runAt
 returns-4 c =
-    let l = c .before .before .before .before .before in
+    let l = c .before .before .before .before in
     let a = c .before .before .before .before .before .before .before .before .args in
     rw (ne-eqb _ _ (c .before .before .before .before .before .before .if1 .left)) (sym (l .loop .inv .1 ∙ rw (run-other (plainAt (a .rows .now) (binarySextets (a .s .now))) (a .k) (a .stop) (32 - l .loop .n) (l .loop .i) (rw (c .before .plain-binary .ensures) at (c .if4 .taken))) (omega arith)))
 
--- src/lib.rt:492:13
+-- src/lib.rt:524:13
 add-i : tie.Need-add-i Inv-loop μ-loop
 add-i c = search needs
 
--- src/lib.rt:493:13
+-- src/lib.rt:525:13
 add-n : tie.Need-add-n Inv-loop μ-loop
 add-n c = search needs
 
--- src/lib.rt:482:5
+-- src/lib.rt:517:5
 loop-less : tie.Need-loop-less Inv-loop μ-loop
 loop-less c = search needs
 
--- src/lib.rt:482:5
+-- src/lib.rt:517:5
 loop-again : tie.Need-loop-again Inv-loop μ-loop
 loop-again c =
-    let l = c .before .before .before .before .before in
+    let l = c .before .before .before .before in
     let a = c .before .before .before .before .before .before .before .before .args in
     let z : 32 - l .loop .n - 1 ≡ 32 - (l .loop .n + 1) = omega arith in
     (omega arith, l .loop .inv .1 ∙ rw (run-more (plainAt (a .rows .now) (binarySextets (a .s .now))) (a .k) (a .stop) (32 - l .loop .n) (l .loop .i) (omega arith) (sym (c .before .plain-binary .ensures) ∙ c .if4 .left) (omega arith), z) (omega arith))
 
--- src/lib.rt:474:1
+-- src/lib.rt:505:1
 returns-5 : tie.Need-returns-5 Inv-loop μ-loop
 unfolding runAt
 returns-5 c =
     let l = c .before in
-    let a = c .before .before .before .before .args in
+    let a = c .before .before .before .before .before .args in
     let z : 32 - l .loop .n ≡ 0 = omega arith in
-    rw (ne-eqb _ _ (c .before .before .if1 .left)) (sym (l .loop .inv .1 ∙ rw (z, run-out (plainAt (a .rows .now) (binarySextets (a .s .now))) (a .k) (a .stop)) (omega arith)))
+    rw (ne-eqb _ _ (c .before .before .before .if1 .left)) (sym (l .loop .inv .1 ∙ rw (z, run-out (plainAt (a .rows .now) (binarySextets (a .s .now))) (a .k) (a .stop)) (omega arith)))
 
 pub plain-run-binary-spec : {M : Type 1} → statement M
 plain-run-binary-spec =
@@ -93,8 +92,8 @@ plain-run-binary-spec =
     Inv-loop
     μ-loop
     returns
-    loop-holds
     returns-2
+    loop-holds
     returns-3
     plain-binary-requires
     returns-4
