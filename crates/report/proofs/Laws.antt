@@ -6,7 +6,7 @@ use mathlib.Core.List.{List, [], _∷_, _++_}
 use native.Mathlib.Omega.{arith}
 use native.Mathlib.Nat.{add-mul, add-assoc, mul-comm, mul-add, mul-assoc, suc-mul, mul-le-mul-right, le-div-iff-mul-le}
 use lib.Dec.{ltb}
-use lib.ListN.{length, getD, set, take, drop, length-append, length-drop, drop-of-length-le}
+use lib.ListN.{length, getD, take, drop, length-append, length-drop, drop-of-length-le}
 use lib.Seq.{sets, sets-eq, slice, drop-drop}
 use borrow.Author.Tests.{lt-ltb, le-ltb}
 use Rattle.base.specs.Pick.{pick}
@@ -35,7 +35,7 @@ use Rattle.runs.specs.Plain.{plainTable, sizedAt, plainAt, groupAt, letterAt, s
 use Rattle.runs.specs.Tables.{by-table}
 use Rattle.runs.specs.Levels.{Sized, plain-drop, sized-drop, group-drop, plain-level, by-items}
 use Rattle.runs.specs.Runs.{Run, Clean, item-known}
-use Rattle.report.specs.Filling.{rowWith, turn, Filled, filled-room, filled-more, filled-counts, filled-end, numbersOnto, zerosOnto, rowsOnto, stores-good, count-good, no-rest, one-rest, one-rest-long}
+use Rattle.report.specs.Filling.{rowWith, turn, Filled, filled-room, filled-more, filled-counts, filled-end, rowsOnto, stores-good, count-good, no-rest, one-rest, one-rest-long}
 
 -- ---- top-level framing, in elements
 
@@ -215,24 +215,16 @@ run-bytes u a r m most h =
     let z : u * (a + r * m) ≡ u * a + r * (u * m) = mul-add u a (r * m) ∙ ap (λ (x : ℕ). u * a + x) (sym (mul-assoc u r m) ∙ ap (λ (x : ℕ). x * m) (mul-comm u r) ∙ mul-assoc r u m) in
     rw (← z) h
 
-pub numbers-start : (at v step : ℕ) (out : List ℕ) → (v ≡ v + 0 * step) × (out ≡ numbersOnto at v step 0 out)
-unfolding numbersOnto
-numbers-start at v step out = (omega arith, refl)
+pub onto-start : (i at size : ℕ) (out : List ℕ) → (at ≡ at + 0 * size) × (out ≡ rowsOnto i at size 0 out)
+unfolding rowsOnto
+onto-start i at size out = (omega arith, refl)
 
-pub numbers-more : (at first step j : ℕ) (out mid after : List ℕ) (v : ℕ) → mid ≡ numbersOnto at first step j out → v ≡ first + j * step
-    → after ≡ sets mid (at + 9 * j) (be4 v) → (v + step ≡ first + (j + 1) * step) × (after ≡ numbersOnto at first step (j + 1) out)
-unfolding numbersOnto
-numbers-more at first step j out mid after v e q f =
+pub onto-more : (i at size j : ℕ) (out mid after : List ℕ) (p : ℕ) → mid ≡ rowsOnto i at size j out → p ≡ at + j * size
+    → after ≡ sets mid (4 + 9 * (i + j)) (be4 p ++ (be4 size ++ (0 ∷ []))) → (p + size ≡ at + (j + 1) * size) × (after ≡ rowsOnto i at size (j + 1) out)
+unfolding rowsOnto
+onto-more i at size j out mid after p e q f =
     let z : j + 1 ≡ suc j = omega arith in
-    (rw z (omega (arith, suc-mul j step)), rw (z, f, e, q))
-
-pub zeros-start : (at : ℕ) (out : List ℕ) → out ≡ zerosOnto at 0 out
-unfolding zerosOnto
-zeros-start at out = refl
-
-pub zeros-more : (at j : ℕ) (out mid after : List ℕ) → mid ≡ zerosOnto at j out → after ≡ set mid (at + 9 * j) 0 → after ≡ zerosOnto at (j + 1) out
-unfolding zerosOnto
-zeros-more at j out mid after e f = let z : j + 1 ≡ suc j = omega arith in rw (z, f, e)
+    (rw z (omega (arith, suc-mul j size)), rw (z, f, e, q))
 
 pub onto-room : (at size r j most : ℕ) → at + r * size ≤ most → j < r → at + j * size + size ≤ most
 onto-room at size r j most h l = let x : suc j * size ≤ r * size = mul-le-mul-right size l in omega (arith, suc-mul j size)

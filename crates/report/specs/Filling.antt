@@ -97,61 +97,10 @@ rowWith at size v = record { offset = at; size = size; verdict = v }
 unfoldable pub turn : ℕ → ℕ → ℕ → ItemRow → List ℕ → List ℕ
 turn n i k r out = sets (sets out (4 + 9 * i) (rowBytes r)) (8 + 9 * n + 9 * k) (concat refusalBytes (refusal i (r .verdict)))
 
--- numbers that rise by a step, and zeros, one to a row of nine bytes
-unfoldable pub numbersOnto : ℕ → ℕ → ℕ → ℕ → List ℕ → List ℕ
-numbersOnto at v step zero out = out
-numbersOnto at v step (suc r) out = sets (numbersOnto at v step r out) (at + 9 * r) (be4 (v + r * step))
-
-unfoldable pub zerosOnto : ℕ → ℕ → List ℕ → List ℕ
-zerosOnto at zero out = out
-zerosOnto at (suc r) out = sets (zerosOnto at r out) (at + 9 * r) (0 ∷ [])
-
 -- the rows of r accepted items of one size that follow one another, from the i-th on
 unfoldable pub rowsOnto : ℕ → ℕ → ℕ → ℕ → List ℕ → List ℕ
 rowsOnto i at size zero out = out
 rowsOnto i at size (suc r) out = sets (rowsOnto i at size r out) (4 + 9 * (i + r)) (be4 (at + r * size) ++ (be4 size ++ (0 ∷ [])))
-
-numbers-beside : (at v step r : ℕ) (out : List ℕ) (p : ℕ) (bs : List ℕ) → at + 9 * r ≤ p + 5
-    → numbersOnto at v step r (sets out p bs) ≡ sets (numbersOnto at v step r out) p bs
-unfolding numbersOnto
-numbers-beside at v step zero out p bs h = refl
-numbers-beside at v step (suc r) out p bs h =
-    rw (numbers-beside at v step r out p bs (omega arith))
-    (sets-comm (numbersOnto at v step r out) (at + 9 * r) (be4 (v + r * step)) p bs (omega (arith, be4-long (v + r * step))))
-
-zeros-beside : (at r : ℕ) (out : List ℕ) (p : ℕ) (bs : List ℕ) → at + 9 * r ≤ p + 8 → zerosOnto at r (sets out p bs) ≡ sets (zerosOnto at r out) p bs
-unfolding zerosOnto
-zeros-beside at zero out p bs h = refl
-zeros-beside at (suc r) out p bs h =
-    rw (zeros-beside at r out p bs (omega arith)) (sets-comm (zerosOnto at r out) (at + 9 * r) (0 ∷ []) p bs (omega arith))
-
--- three columns make the rows
-pub columns : (i at size r : ℕ) (out : List ℕ)
-    → zerosOnto (4 + 9 * i + 8) r (numbersOnto (4 + 9 * i + 4) size 0 r (numbersOnto (4 + 9 * i) at size r out)) ≡ rowsOnto i at size r out
-unfolding zerosOnto numbersOnto rowsOnto
-columns i at size zero out = refl
-columns i at size (suc r) out =
-    let a : ℕ = 4 + 9 * i in
-    let one : List ℕ = numbersOnto a at size r out in
-    let two : List ℕ = numbersOnto (a + 4) size 0 r one in
-    let x : List ℕ = be4 (at + r * size) in
-    let s : size + r * 0 ≡ size = omega arith in
-    let p : a + 9 * r ≡ 4 + 9 * (i + r) = omega arith in
-    let q : a + 4 + 9 * r ≡ 4 + 9 * (i + r) + length x = omega (arith, be4-long (at + r * size)) in
-    let t : a + 8 + 9 * r ≡ 4 + 9 * (i + r) + length (x ++ be4 size) = omega (arith, length-append x (be4 size), be4-long (at + r * size), be4-long size) in
-    rw (
-      numbers-beside (a + 4) size 0 r one (a + 9 * r) x (omega arith),
-      s,
-      zeros-beside (a + 8) r (sets two (a + 9 * r) x) (a + 4 + 9 * r) (be4 size) (omega arith),
-      zeros-beside (a + 8) r two (a + 9 * r) x (omega arith),
-      columns i at size r out,
-      p,
-      q,
-      t,
-      sets-append (rowsOnto i at size r out) (4 + 9 * (i + r)) x (be4 size),
-      sets-append (rowsOnto i at size r out) (4 + 9 * (i + r)) (x ++ be4 size) (0 ∷ []),
-    )
-    (ap (sets (rowsOnto i at size r out) (4 + 9 * (i + r))) (append-assoc x (be4 size) (0 ∷ [])))
 
 pub record Filled (d : Domain) (xs o : List ℕ) (n at i k : ℕ) (out : List ℕ) : Type 0 where
   pub rs : List ItemRow

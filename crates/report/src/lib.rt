@@ -18,7 +18,7 @@ ghost use Rattle.format.specs.Alphabet.{sextetTable};
 ghost use Rattle.laws.specs.Levels.{level};
 ghost use Rattle.runs.specs.Plain.{plainTable};
 ghost use Rattle.contents.specs.Next.{Judged};
-ghost use Rattle.report.specs.Filling.{turn, rowWith, numbersOnto, zerosOnto, rowsOnto};
+ghost use Rattle.report.specs.Filling.{turn, rowWith, rowsOnto};
 
 // ---- stores
 
@@ -77,41 +77,18 @@ fn put_item(
     }
 }
 
-// Numbers that rise by a step, one to a row of nine bytes.
-fn put_numbers(out: &mut [u8], at: usize, first: usize, step: usize, r: usize)
-    requires { ⌜ (at + 9 * r ≤ length (now out) + 5) × (first + r * step ≤ 4194304) ⌝ }
-    ensures { λ _. ⌜ now (out .exit) ≡ numbersOnto at first step r (now (out .entry)) ⌝ }
-{
-    let mut v = first;
-    let mut j = 0;
-    while j < r {
-        put4(out, at + 9 * j, v);
-        v = v + step;
-        j = j + 1;
-    }
-}
-
-fn put_zeros(out: &mut [u8], at: usize, r: usize)
-    requires { ⌜ at + 9 * r ≤ length (now out) + 8 ⌝ }
-    ensures { λ _. ⌜ now (out .exit) ≡ zerosOnto at r (now (out .entry)) ⌝ }
-{
-    let mut j = 0;
-    while j < r {
-        out[at + 9 * j] = 0;
-        j = j + 1;
-    }
-}
-
-// The rows of r accepted items of one size that follow one another, from the i-th on. Column by column, since the back end makes one
-// store of four bytes only where no other bytes are stored beside them.
+// The rows of r accepted items of one size that follow one another, from the i-th on.
 fn put_rows(out: &mut [u8], i: usize, offset: usize, size: usize, r: usize)
-    requires { ⌜ (4 + 9 * (i + r) ≤ length (now out)) × (offset + r * size ≤ 4194304) × (size ≤ 4194304) ⌝ }
+    requires { ⌜ (4 + 9 * (i + r) ≤ length (now out)) × (offset + r * size ≤ 4194304) ⌝ }
     ensures { λ _. ⌜ now (out .exit) ≡ rowsOnto i offset size r (now (out .entry)) ⌝ }
 {
-    let at = 4 + 9 * i;
-    put_numbers(out, at, offset, size, r);
-    put_numbers(out, at + 4, size, 0, r);
-    put_zeros(out, at + 8, r);
+    let mut at = offset;
+    let mut j = 0;
+    while j < r {
+        put_row(out, 4 + 9 * (i + j), at, size, 0);
+        at = at + size;
+        j = j + 1;
+    }
 }
 
 // The count of refusals, and no remainder: the report's length.

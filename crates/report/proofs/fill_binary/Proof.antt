@@ -79,7 +79,7 @@ put-rows-requires c κs =
     let φ = l .loop .inv .2 (a .out .now) (p .ensures) in
     let C = binary-run (a .rows .now) (a .s .now) _ _ (l .loop .a) _ (q .0) (sym (c .before .before .plain-run-binary .ensures)) (c .before .if1 .taken) in
     let z = run-fits (plainAt plainTable (binarySextets (a .s .now))) _ _ (l .loop .a) _ (C .run) (c .before .if1 .taken) in
-    (omega (arith, q .3, run-room binary binary-reader 3 refl (a .s .now) (a .out .now) (a .n) (q .2) (l .loop .a) (l .loop .i) (l .loop .k) (l .loop .out) φ _ _ (C .run)), run-bytes 3 _ _ _ 4194304 (omega (arith, z)), omega (arith, run-size (plainAt plainTable (binarySextets (a .s .now))) _ _ (l .loop .a) _ (C .run) (c .before .if1 .taken)))
+    (omega (arith, q .3, run-room binary binary-reader 3 refl (a .s .now) (a .out .now) (a .n) (q .2) (l .loop .a) (l .loop .i) (l .loop .k) (l .loop .out) φ _ _ (C .run)), run-bytes 3 _ _ _ 4194304 (omega (arith, z)))
 
 -- src/lib.rt:472:21
 mul-a : tie.Need-mul-a Inv-loop μ-loop

@@ -78,7 +78,7 @@ put-rows-requires c κs =
     let φ = l .loop .inv .2 (a .out .now) (p .ensures) in
     let C = text-run (a .values .now) (a .rows .now) (a .s .now) _ _ (l .loop .a) _ (q .0) (q .1) (λ i. omega (arith, c .before .before .before .before .before .before .before .before .before .before .before .shared-slice-known .given i)) (sym (c .before .before .clean-run-text .ensures)) (c .before .if1 .taken) in
     let z = run-fits (plainAt plainTable (textSextets (a .s .now))) _ _ (l .loop .a) _ (C .run) (c .before .if1 .taken) in
-    (omega (arith, q .4, run-room text text-reader 4 refl (a .s .now) (a .out .now) (a .n) (q .3) (l .loop .a) (l .loop .i) (l .loop .k) (l .loop .out) φ _ _ (C .run)), run-bytes 4 _ _ _ 4194304 (omega (arith, z)), omega (arith, run-size (plainAt plainTable (textSextets (a .s .now))) _ _ (l .loop .a) _ (C .run) (c .before .if1 .taken)))
+    (omega (arith, q .4, run-room text text-reader 4 refl (a .s .now) (a .out .now) (a .n) (q .3) (l .loop .a) (l .loop .i) (l .loop .k) (l .loop .out) φ _ _ (C .run)), run-bytes 4 _ _ _ 4194304 (omega (arith, z)))
 
 -- src/lib.rt:267:21
 mul-a : tie.Need-mul-a Inv-loop μ-loop
