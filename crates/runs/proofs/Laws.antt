@@ -6,7 +6,7 @@ use Prim.Native.Nat.{ℕ, zero, suc, _+_, _-_, _*_, _/_, _%_, _<_, _≤_}
 use native.Mathlib.Omega.{arith}
 use lib.Dec.{eqb, ltb}
 use lib.ListN.{length, getD, take, drop, length-map}
-use borrow.Author.Tests.{ltb-true, lt-ltb, le-ltb, eq-eqb, ne-eqb}
+use borrow.Author.Tests.{ltb-true, ltb-false, lt-ltb, le-ltb, eq-eqb, ne-eqb}
 use Rattle.base.specs.Pick.{pick}
 use Rattle.base.specs.Lists.{getD-map-within}
 use Rattle.format.specs.Units.{binarySextets, sextetsOf}
@@ -15,7 +15,7 @@ use Rattle.format.specs.Registry.{codes, fixedAmong, fixed}
 use Rattle.format.specs.Conversion.{firstStranger}
 use Rattle.laws.specs.Domains.{binary-reader}
 use Rattle.laws.specs.Local.{binary-sextet}
-use Rattle.runs.specs.Plain.{limitOf, plainRow, rowsOf, plainTable, known4, groupUnits, groupOf, unitBy, plainAt, run, runAt, nested, sextetsBy, cleanPart, cleanRun}
+use Rattle.runs.specs.Plain.{limitOf, plainRow, rowsOf, plainTable, known4, groupUnits, groupOf, unitBy, plainAt, run, runAt, most, nested, sextetsBy, cleanPart, cleanRun}
 use Rattle.runs.specs.Tables.{is-table}
 use Rattle.runs.specs.Runs.{nonzero, run-is, run-fits}
 
@@ -96,8 +96,8 @@ module _ (p : ℕ → ℕ) (k stop : ℕ) where
   run-more zero i h e l = absurd (omega arith)
   run-more (suc m) i h e l = let z : suc m - 1 ≡ m = omega arith in rw (le-ltb _ _ h, eq-eqb _ _ e, z) (omega arith)
 
-  pub run-start : (i : ℕ) → run p k stop 32 i ≡ 0 + run p k stop (32 - 0) i
-  run-start i = let z : 32 - 0 ≡ 32 = omega arith in rw z (omega arith)
+  pub run-start : (i : ℕ) → run p k stop 64 i ≡ 0 + run p k stop (64 - 0) i
+  run-start i = let z : 64 - 0 ≡ 64 = omega arith in rw z (omega arith)
 
   pub run-out : (i : ℕ) → run p k stop 0 i ≡ 0
   unfolding run
@@ -105,11 +105,20 @@ module _ (p : ℕ → ℕ) (k stop : ℕ) where
 
 -- ---- a run without strangers
 
-module _ (values rows s : List ℕ) (k stop at n : ℕ) (room : stop ≤ length s / 4) (e : n ≡ runAt (plainAt rows (sextetsBy values s)) k stop at) where
+module _ (values rows s : List ℕ) (k stop at n : ℕ) (e : n ≡ runAt (plainAt rows (sextetsBy values s)) (length s / 4) k stop at) where
+  in-stream : (n ≡ 0 → ⊥) → stop ≤ length s / 4
+  unfolding runAt
+  in-stream p = go (ltb (length s / 4) stop) refl e
+    where
+      go : (b : Bool) → ltb (length s / 4) stop ≡ b → n ≡ pick b 0 (pick (eqb k 0) 0 (run (plainAt rows (sextetsBy values s)) k stop most at)) → stop ≤ length s / 4
+      go true f q = absurd (p q)
+      go false f q = ltb-false (length s / 4) stop f
+
   pub run-room : (n ≡ 0 → ⊥) → (at + n * k ≤ length s / 4) × (at + k ≤ length s / 4) × (0 < k)
   run-room p =
-      let R = run-is (plainAt rows (sextetsBy values s)) k stop at n (sym e) (nonzero n p) in
-      let z : at + 0 * k ≡ at = omega arith in (
+      let R = run-is (plainAt rows (sextetsBy values s)) (length s / 4) k stop at n (sym e) (nonzero n p) in
+      let z : at + 0 * k ≡ at = omega arith in
+      let i = in-stream p in (
         omega (arith, run-fits (plainAt rows (sextetsBy values s)) k stop at n R (nonzero n p)),
         omega (arith, rw z at (R .each 0 (nonzero n p) .1)),
         R .some,
@@ -121,19 +130,15 @@ module _ (values rows s : List ℕ) (k stop at n : ℕ) (room : stop ≤ length 
 
     pub clean-all : bad ≡ 4 * (n * k) → n ≡ cleanRun values rows s k stop at
     unfolding cleanRun cleanPart
-    clean-all q = rw (le-ltb _ _ room, ← e, ← same, eq-eqb bad (4 * (n * k)) q)
+    clean-all q = rw (← e, ← same, eq-eqb bad (4 * (n * k)) q)
 
     pub clean-some : (bad ≡ 4 * (n * k) → ⊥) → bad / (4 * k) ≡ cleanRun values rows s k stop at
     unfolding cleanRun cleanPart
-    clean-some q = rw (le-ltb _ _ room, ← e, ← same, ne-eqb bad (4 * (n * k)) q)
+    clean-some q = rw (← e, ← same, ne-eqb bad (4 * (n * k)) q)
 
   pub clean-none : n ≡ 0 → 0 ≡ cleanRun values rows s k stop at
   unfolding cleanRun cleanPart firstStranger
-  clean-none q = let z : 4 * (0 * k) ≡ 0 = omega arith in rw (le-ltb _ _ room, ← e, q, z)
-
-pub clean-past : (values rows s : List ℕ) (k stop at : ℕ) → length s / 4 < stop → 0 ≡ cleanRun values rows s k stop at
-unfolding cleanRun
-clean-past values rows s k stop at h = rw (lt-ltb _ _ h)
+  clean-none q = let z : 4 * (0 * k) ≡ 0 = omega arith in rw (← e, q, z)
 
 -- ---- the table
 

@@ -101,10 +101,11 @@ run p k stop (suc n) at = pick (ltb stop (at + k)) 0 (pick (eqb (p at) k) (suc (
 
 -- the most of a run that is looked at at once, so that a run that ends early costs no more than this
 abbrev pub most : ℕ
-most = 32
+most = 64
 
-unfoldable pub runAt : (ℕ → ℕ) → ℕ → ℕ → ℕ → ℕ
-runAt p k stop at = pick (eqb k 0) 0 (run p k stop most at)
+-- in a stream of so many units
+unfoldable pub runAt : (ℕ → ℕ) → ℕ → ℕ → ℕ → ℕ → ℕ
+runAt p units k stop at = pick (ltb units stop) 0 (pick (eqb k 0) 0 (run p k stop most at))
 
 -- ---- groups that end with what is around them
 
@@ -112,6 +113,9 @@ runAt p k stop at = pick (eqb k 0) 0 (run p k stop most at)
 unfoldable pub nested : (ℕ → ℕ) → ℕ → ℕ → ℕ → ℕ
 nested g stop zero at = 0
 nested g stop (suc n) at = pick (ltb at stop) (pick (eqb (g at) (stop - at)) (suc (nested g stop n (at + 1))) 0) 0
+
+unfoldable pub nestedAt : (ℕ → ℕ) → ℕ → ℕ → ℕ → ℕ → ℕ
+nestedAt g units stop n at = pick (ltb units stop) 0 (nested g stop n at)
 
 -- ---- text, its sextets by a table
 
@@ -124,4 +128,4 @@ cleanPart s k at n =
     pick (eqb (firstStranger (take (4 * (n * k)) (drop (4 * at) s))) (4 * (n * k))) n (firstStranger (take (4 * (n * k)) (drop (4 * at) s)) / (4 * k))
 
 unfoldable pub cleanRun : List ℕ → List ℕ → List ℕ → ℕ → ℕ → ℕ → ℕ
-cleanRun values rows s k stop at = pick (ltb (length s / 4) stop) 0 (cleanPart s k at (runAt (plainAt rows (sextetsBy values s)) k stop at))
+cleanRun values rows s k stop at = cleanPart s k at (runAt (plainAt rows (sextetsBy values s)) (length s / 4) k stop at)

@@ -20,7 +20,7 @@ use Rattle.format.specs.Units.{textSextets, binarySextets}
 use Rattle.format.specs.Conversion.{firstStranger}
 use Rattle.laws.specs.Conversion.{binary-below}
 use Rattle.laws.specs.Levels.{part, part-drop, part-take, take-of-drop, level}
-use Rattle.runs.specs.Plain.{plainTable, plainAt, run, runAt, most, cleanPart, cleanRun}
+use Rattle.runs.specs.Plain.{plainTable, plainAt, run, runAt, most, nested, nestedAt, cleanPart, cleanRun}
 use Rattle.runs.specs.Tables.{by-table}
 use Rattle.runs.specs.Levels.{plain-level, run-at, by-items}
 
@@ -52,13 +52,14 @@ run-size p k stop at r R q = let z : at + 0 * k ≡ at = omega arith in omega (a
 pub nonzero : (k : ℕ) → (k ≡ 0 → ⊥) → 0 < k
 nonzero k n = ⊎-elim (λ l. l) (λ g. absurd (n (omega arith))) (lt-or-ge 0 k)
 
-pub run-is : (p : ℕ → ℕ) (k stop at r : ℕ) → runAt p k stop at ≡ r → 0 < r → Run p k stop at r
+pub run-is : (p : ℕ → ℕ) (units k stop at r : ℕ) → runAt p units k stop at ≡ r → 0 < r → Run p k stop at r
 unfolding runAt
-run-is p k stop at r e l = go (eqb k 0) refl e
+run-is p units k stop at r e l = go (ltb units stop) (eqb k 0) refl e
   where
-    go : (b : Bool) → eqb k 0 ≡ b → pick b 0 (run p k stop most at) ≡ r → Run p k stop at r
-    go true f q = absurd (omega arith)
-    go false f q = record { some = nonzero k (eqb-false k 0 f); each = λ j h. run-at p k stop most at j (omega arith) }
+    go : (b c : Bool) → eqb k 0 ≡ c → pick b 0 (pick c 0 (run p k stop most at)) ≡ r → Run p k stop at r
+    go true c f q = absurd (omega arith)
+    go false true f q = absurd (omega arith)
+    go false false f q = record { some = nonzero k (eqb-false k 0 f); each = λ j h. run-at p k stop most at j (omega arith) }
 
 -- ---- what a run leaves
 
@@ -146,10 +147,10 @@ no-clean : (s : List ℕ) (k at r : ℕ) → cleanPart s k at 0 ≡ r → r ≡ 
 unfolding cleanPart firstStranger
 no-clean s k at r e = let z : 4 * (0 * k) ≡ 0 = omega arith in sym (rw z at e)
 
-clean-run : (s : List ℕ) (k stop at r : ℕ) → cleanPart s k at (runAt (plainAt plainTable (textSextets s)) k stop at) ≡ r → 0 < r → Clean (textSextets s) k stop at r
+clean-run : (s : List ℕ) (k stop at r : ℕ) → cleanPart s k at (runAt (plainAt plainTable (textSextets s)) (length s / 4) k stop at) ≡ r → 0 < r → Clean (textSextets s) k stop at r
 clean-run s k stop at r q p =
-    let n : ℕ = runAt (plainAt plainTable (textSextets s)) k stop at in
-    let R = run-is (plainAt plainTable (textSextets s)) k stop at n refl (some n q) in
+    let n : ℕ = runAt (plainAt plainTable (textSextets s)) (length s / 4) k stop at in
+    let R = run-is (plainAt plainTable (textSextets s)) (length s / 4) k stop at n refl (some n q) in
     let f = fewer s k at n r (R .some) q in
     record { run = record { some = R .some; each = λ j h. R .each j (omega arith) }; known = clean s k at n r (R .some) q }
   where
@@ -160,17 +161,22 @@ clean-run s k stop at r q p =
 pub text-run : (values rows s : List ℕ) (k stop at r : ℕ) → values ≡ sextetTable → rows ≡ plainTable → ((i : ℕ) → getD s i 0 < 256) → cleanRun values rows s k stop at ≡ r → 0 < r
     → Clean (textSextets s) k stop at r
 unfolding cleanRun
-text-run values rows s k stop at r v t b e p =
-    go (ltb (length s / 4) stop) (rw (v, t, by-table s b) at e)
-  where
-    go : (b : Bool) → pick b 0 (cleanPart s k at (runAt (plainAt plainTable (textSextets s)) k stop at)) ≡ r → Clean (textSextets s) k stop at r
-    go true q = absurd (omega arith)
-    go false q = clean-run s k stop at r q p
+text-run values rows s k stop at r v t b e p = clean-run s k stop at r (rw (v, t, by-table s b) at e) p
 
 -- ---- binary: all are known
 
-pub binary-run : (rows s : List ℕ) (k stop at r : ℕ) → rows ≡ plainTable → runAt (plainAt rows (binarySextets s)) k stop at ≡ r → 0 < r → Clean (binarySextets s) k stop at r
+pub binary-run : (rows s : List ℕ) (k stop at r : ℕ) → rows ≡ plainTable → runAt (plainAt rows (binarySextets s)) (length s / 3) k stop at ≡ r → 0 < r → Clean (binarySextets s) k stop at r
 binary-run rows s k stop at r t e p = record {
-  run = run-is (plainAt plainTable (binarySextets s)) k stop at r (rw t at e) p;
+  run = run-is (plainAt plainTable (binarySextets s)) (length s / 3) k stop at r (rw t at e) p;
   known = below-drop 64 (4 * at) _ (below-take 64 (4 * (at + r * k)) (binarySextets s) (binary-below s));
 }
+
+-- ---- groups one in the other
+
+pub nested-is : (g : ℕ → ℕ) (units stop n at d : ℕ) → nestedAt g units stop n at ≡ d → 0 < d → nested g stop n at ≡ d
+unfolding nestedAt
+nested-is g units stop n at d e p = go (ltb units stop) e
+  where
+    go : (b : Bool) → pick b 0 (nested g stop n at) ≡ d → nested g stop n at ≡ d
+    go true q = absurd (omega arith)
+    go false q = q

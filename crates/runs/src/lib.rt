@@ -2,13 +2,13 @@
 // characters are known, small groups whose contents are items, and runs of primitives of one size, so that a long stream is judged
 // without a frame of each item. The tables are lent, since naming a constant copies it.
 ghost use mathlib.Core.Path.{_≡_};
-ghost use Prim.Native.Nat.{_+_, _*_, _≤_, _<_};
+ghost use Prim.Native.Nat.{_+_, _*_, _/_, _≤_, _<_};
 ghost use lib.ListN.{length, getD};
 ghost use Rattle.format.specs.Units.{binarySextets};
-ghost use Rattle.runs.specs.Plain.{plainTable, known4, rowIn, limited, sizedOf, plainOf, groupOf, sizedAt, plainAt, groupAt, letterAt, runAt, nested, sextetsBy, cleanRun};
+ghost use Rattle.runs.specs.Plain.{plainTable, known4, rowIn, limited, sizedOf, plainOf, groupOf, sizedAt, plainAt, groupAt, letterAt, runAt, nestedAt, sextetsBy, cleanRun};
 
 // The most items of a run that are looked at at once.
-const MOST: usize = 32;
+const MOST: usize = 64;
 
 const ROWS: [u16; 128] = [
     1035,
@@ -259,6 +259,20 @@ fn value(values: &[u8; 256], s: &[u8], i: usize) -> u8
     values[wide(s[i])]
 }
 
+fn sized_in_text(values: &[u8; 256], rows: &[u16; 128], s: &[u8], at: usize) -> usize
+    requires { ⌜ at < length (now s) / 4 ⌝ }
+    ensures { λ r. ⌜ r ≡ sizedAt (now (rows .entry)) (sextetsBy (now (values .entry)) (now (s .entry))) at ⌝ }
+{
+    let i = 4 * at;
+    sized(
+        rows,
+        value(values, s, i),
+        value(values, s, i + 1),
+        value(values, s, i + 2),
+        value(values, s, i + 3),
+    )
+}
+
 // The size in units of the primitive of a fixed code or the small group at a unit, or 0.
 pub fn sized_text(values: &[u8; 256], rows: &[u16; 128], s: &[u8], at: usize) -> usize
     ensures { λ r. ⌜ r ≡ sizedAt (now (rows .entry)) (sextetsBy (now (values .entry)) (now (s .entry))) at ⌝ }
@@ -266,8 +280,15 @@ pub fn sized_text(values: &[u8; 256], rows: &[u16; 128], s: &[u8], at: usize) ->
     if s.len() / 4 <= at {
         return 0;
     }
+    sized_in_text(values, rows, s, at)
+}
+
+fn plain_in_text(values: &[u8; 256], rows: &[u16; 128], s: &[u8], at: usize) -> usize
+    requires { ⌜ at < length (now s) / 4 ⌝ }
+    ensures { λ r. ⌜ r ≡ plainAt (now (rows .entry)) (sextetsBy (now (values .entry)) (now (s .entry))) at ⌝ }
+{
     let i = 4 * at;
-    sized(
+    plain(
         rows,
         value(values, s, i),
         value(values, s, i + 1),
@@ -283,9 +304,15 @@ pub fn plain_text(values: &[u8; 256], rows: &[u16; 128], s: &[u8], at: usize) ->
     if s.len() / 4 <= at {
         return 0;
     }
+    plain_in_text(values, rows, s, at)
+}
+
+fn group_in_text(values: &[u8; 256], s: &[u8], at: usize) -> usize
+    requires { ⌜ at < length (now s) / 4 ⌝ }
+    ensures { λ r. ⌜ r ≡ groupAt (sextetsBy (now (values .entry)) (now (s .entry))) at ⌝ }
+{
     let i = 4 * at;
-    plain(
-        rows,
+    group(
         value(values, s, i),
         value(values, s, i + 1),
         value(values, s, i + 2),
@@ -300,13 +327,7 @@ pub fn group_text(values: &[u8; 256], s: &[u8], at: usize) -> usize
     if s.len() / 4 <= at {
         return 0;
     }
-    let i = 4 * at;
-    group(
-        value(values, s, i),
-        value(values, s, i + 1),
-        value(values, s, i + 2),
-        value(values, s, i + 3),
-    )
+    group_in_text(values, s, at)
 }
 
 // The second sextet of a unit: a small group's letter.
@@ -328,8 +349,11 @@ pub fn sized_run_text(
     stop: usize,
     k: usize,
 ) -> usize
-    ensures { λ r. ⌜ r ≡ runAt (sizedAt (now (rows .entry)) (sextetsBy (now (values .entry)) (now (s .entry)))) k stop at ⌝ }
+    ensures { λ r. ⌜ r ≡ runAt (sizedAt (now (rows .entry)) (sextetsBy (now (values .entry)) (now (s .entry)))) (length (now (s .entry)) / 4) k stop at ⌝ }
 {
+    if s.len() / 4 < stop {
+        return 0;
+    }
     if k == 0 {
         return 0;
     }
@@ -343,7 +367,7 @@ pub fn sized_run_text(
         if last < i {
             return n;
         }
-        if sized_text(values, rows, s, i) != k {
+        if sized_in_text(values, rows, s, i) != k {
             return n;
         }
         i = i + k;
@@ -361,8 +385,11 @@ pub fn plain_run_text(
     stop: usize,
     k: usize,
 ) -> usize
-    ensures { λ r. ⌜ r ≡ runAt (plainAt (now (rows .entry)) (sextetsBy (now (values .entry)) (now (s .entry)))) k stop at ⌝ }
+    ensures { λ r. ⌜ r ≡ runAt (plainAt (now (rows .entry)) (sextetsBy (now (values .entry)) (now (s .entry)))) (length (now (s .entry)) / 4) k stop at ⌝ }
 {
+    if s.len() / 4 < stop {
+        return 0;
+    }
     if k == 0 {
         return 0;
     }
@@ -376,7 +403,7 @@ pub fn plain_run_text(
         if last < i {
             return n;
         }
-        if plain_text(values, rows, s, i) != k {
+        if plain_in_text(values, rows, s, i) != k {
             return n;
         }
         i = i + k;
@@ -396,9 +423,6 @@ pub fn clean_run_text(
 ) -> usize
     ensures { λ r. ⌜ r ≡ cleanRun (now (values .entry)) (now (rows .entry)) (now (s .entry)) k stop at ⌝ }
 {
-    if s.len() / 4 < stop {
-        return 0;
-    }
     let n = plain_run_text(values, rows, s, at, stop, k);
     if n == 0 {
         return 0;
@@ -412,15 +436,18 @@ pub fn clean_run_text(
 
 // How many small groups, of so many at most, stand one in the other from a unit on, each all that is left up to another unit.
 pub fn nested_text(values: &[u8; 256], s: &[u8], at: usize, stop: usize, most: usize) -> usize
-    ensures { λ r. ⌜ r ≡ nested (groupAt (sextetsBy (now (values .entry)) (now (s .entry)))) stop most at ⌝ }
+    ensures { λ r. ⌜ r ≡ nestedAt (groupAt (sextetsBy (now (values .entry)) (now (s .entry)))) (length (now (s .entry)) / 4) stop most at ⌝ }
 {
+    if s.len() / 4 < stop {
+        return 0;
+    }
     let mut i = at;
     let mut n = 0;
     while n < most {
         if stop <= i {
             return n;
         }
-        if group_text(values, s, i) != stop - i {
+        if group_in_text(values, s, i) != stop - i {
             return n;
         }
         i = i + 1;
@@ -431,15 +458,31 @@ pub fn nested_text(values: &[u8; 256], s: &[u8], at: usize, stop: usize, most: u
 
 // ---- a unit of a binary
 
+fn sized_in_binary(rows: &[u16; 128], s: &[u8], at: usize) -> usize
+    requires { ⌜ at < length (now s) / 3 ⌝ }
+    ensures { λ r. ⌜ r ≡ sizedAt (now (rows .entry)) (binarySextets (now (s .entry))) at ⌝ }
+{
+    let i = 3 * at;
+    let q = units::unpack([s[i], s[i + 1], s[i + 2]]);
+    sized(rows, q[0], q[1], q[2], q[3])
+}
+
 pub fn sized_binary(rows: &[u16; 128], s: &[u8], at: usize) -> usize
     ensures { λ r. ⌜ r ≡ sizedAt (now (rows .entry)) (binarySextets (now (s .entry))) at ⌝ }
 {
     if s.len() / 3 <= at {
         return 0;
     }
+    sized_in_binary(rows, s, at)
+}
+
+fn plain_in_binary(rows: &[u16; 128], s: &[u8], at: usize) -> usize
+    requires { ⌜ at < length (now s) / 3 ⌝ }
+    ensures { λ r. ⌜ r ≡ plainAt (now (rows .entry)) (binarySextets (now (s .entry))) at ⌝ }
+{
     let i = 3 * at;
     let q = units::unpack([s[i], s[i + 1], s[i + 2]]);
-    sized(rows, q[0], q[1], q[2], q[3])
+    plain(rows, q[0], q[1], q[2], q[3])
 }
 
 pub fn plain_binary(rows: &[u16; 128], s: &[u8], at: usize) -> usize
@@ -448,9 +491,16 @@ pub fn plain_binary(rows: &[u16; 128], s: &[u8], at: usize) -> usize
     if s.len() / 3 <= at {
         return 0;
     }
+    plain_in_binary(rows, s, at)
+}
+
+fn group_in_binary(s: &[u8], at: usize) -> usize
+    requires { ⌜ at < length (now s) / 3 ⌝ }
+    ensures { λ r. ⌜ r ≡ groupAt (binarySextets (now (s .entry))) at ⌝ }
+{
     let i = 3 * at;
     let q = units::unpack([s[i], s[i + 1], s[i + 2]]);
-    plain(rows, q[0], q[1], q[2], q[3])
+    group(q[0], q[1], q[2], q[3])
 }
 
 pub fn group_binary(s: &[u8], at: usize) -> usize
@@ -459,9 +509,7 @@ pub fn group_binary(s: &[u8], at: usize) -> usize
     if s.len() / 3 <= at {
         return 0;
     }
-    let i = 3 * at;
-    let q = units::unpack([s[i], s[i + 1], s[i + 2]]);
-    group(q[0], q[1], q[2], q[3])
+    group_in_binary(s, at)
 }
 
 pub fn letter_binary(s: &[u8], at: usize) -> u8
@@ -477,8 +525,11 @@ pub fn letter_binary(s: &[u8], at: usize) -> u8
 
 // As in text.
 pub fn sized_run_binary(rows: &[u16; 128], s: &[u8], at: usize, stop: usize, k: usize) -> usize
-    ensures { λ r. ⌜ r ≡ runAt (sizedAt (now (rows .entry)) (binarySextets (now (s .entry)))) k stop at ⌝ }
+    ensures { λ r. ⌜ r ≡ runAt (sizedAt (now (rows .entry)) (binarySextets (now (s .entry)))) (length (now (s .entry)) / 3) k stop at ⌝ }
 {
+    if s.len() / 3 < stop {
+        return 0;
+    }
     if k == 0 {
         return 0;
     }
@@ -492,7 +543,7 @@ pub fn sized_run_binary(rows: &[u16; 128], s: &[u8], at: usize, stop: usize, k: 
         if last < i {
             return n;
         }
-        if sized_binary(rows, s, i) != k {
+        if sized_in_binary(rows, s, i) != k {
             return n;
         }
         i = i + k;
@@ -503,8 +554,11 @@ pub fn sized_run_binary(rows: &[u16; 128], s: &[u8], at: usize, stop: usize, k: 
 
 // As in text.
 pub fn plain_run_binary(rows: &[u16; 128], s: &[u8], at: usize, stop: usize, k: usize) -> usize
-    ensures { λ r. ⌜ r ≡ runAt (plainAt (now (rows .entry)) (binarySextets (now (s .entry)))) k stop at ⌝ }
+    ensures { λ r. ⌜ r ≡ runAt (plainAt (now (rows .entry)) (binarySextets (now (s .entry)))) (length (now (s .entry)) / 3) k stop at ⌝ }
 {
+    if s.len() / 3 < stop {
+        return 0;
+    }
     if k == 0 {
         return 0;
     }
@@ -518,7 +572,7 @@ pub fn plain_run_binary(rows: &[u16; 128], s: &[u8], at: usize, stop: usize, k: 
         if last < i {
             return n;
         }
-        if plain_binary(rows, s, i) != k {
+        if plain_in_binary(rows, s, i) != k {
             return n;
         }
         i = i + k;
@@ -529,15 +583,18 @@ pub fn plain_run_binary(rows: &[u16; 128], s: &[u8], at: usize, stop: usize, k: 
 
 // How many small groups, of so many at most, stand one in the other from a unit on, each all that is left up to another unit.
 pub fn nested_binary(s: &[u8], at: usize, stop: usize, most: usize) -> usize
-    ensures { λ r. ⌜ r ≡ nested (groupAt (binarySextets (now (s .entry)))) stop most at ⌝ }
+    ensures { λ r. ⌜ r ≡ nestedAt (groupAt (binarySextets (now (s .entry)))) (length (now (s .entry)) / 3) stop most at ⌝ }
 {
+    if s.len() / 3 < stop {
+        return 0;
+    }
     let mut i = at;
     let mut n = 0;
     while n < most {
         if stop <= i {
             return n;
         }
-        if group_binary(s, i) != stop - i {
+        if group_in_binary(s, i) != stop - i {
             return n;
         }
         i = i + 1;

@@ -5,9 +5,9 @@ use lib.ListN.{length}
 use borrow.Author.Needs.{needs}
 use Rattle.format.specs.Units.{binarySextets}
 use Rattle.laws.specs.Levels.{level, level-end, part-length}
-use Rattle.runs.specs.Plain.{plainTable, plainAt}
+use Rattle.runs.specs.Plain.{plainTable, plainAt, groupAt}
 use Rattle.runs.specs.Levels.{nested-level}
-use Rattle.runs.specs.Runs.{run-fits, run-moves, run-level, binary-run}
+use Rattle.runs.specs.Runs.{run-fits, run-moves, run-level, nested-is, binary-run}
 use Rattle.contents.specs.Next.{Judged}
 use Rattle.contents.proofs.Laws.{binary-part, length-binary, next-near, judged-refused, judged-sizes, judged-levels, judged-plain, judged-entered, marked}
 use Prim.Native.Nat.{ℕ, _<_}
@@ -452,7 +452,7 @@ level-binary-add-i t c =
     let a = c .before .before .before .before .before .args in
     let q = c .before .before .before .before .before .pre .1 in
     let long : 4 * a .stop ≤ length (binarySextets (a .s .now)) = omega (arith, length-binary (a .s .now), q .1) in
-    let N = nested-level (binarySextets (a .s .now)) (a .stop) long (l .loop .left) (l .loop .ruled) (l .loop .i) _ (sym (c .before .nested-binary .ensures)) (c .if1 .taken) in
+    let N = nested-level (binarySextets (a .s .now)) (a .stop) long (l .loop .left) (l .loop .ruled) (l .loop .i) _ (nested-is (groupAt (binarySextets (a .s .now))) _ _ _ _ _ (sym (c .before .nested-binary .ensures)) (c .if1 .taken)) (c .if1 .taken) in
     omega (arith, N .fits)
 
 -- src/lib.rt:375:20
@@ -473,7 +473,7 @@ level-binary-sub-left t c =
     let a = c .before .before .before .before .before .args in
     let q = c .before .before .before .before .before .pre .1 in
     let long : 4 * a .stop ≤ length (binarySextets (a .s .now)) = omega (arith, length-binary (a .s .now), q .1) in
-    let N = nested-level (binarySextets (a .s .now)) (a .stop) long (l .loop .left) (l .loop .ruled) (l .loop .i) _ (sym (c .before .nested-binary .ensures)) (c .if1 .taken) in
+    let N = nested-level (binarySextets (a .s .now)) (a .stop) long (l .loop .left) (l .loop .ruled) (l .loop .i) _ (nested-is (groupAt (binarySextets (a .s .now))) _ _ _ _ _ (sym (c .before .nested-binary .ensures)) (c .if1 .taken)) (c .if1 .taken) in
     omega (arith, N .few)
 
 -- src/lib.rt:376:44
@@ -494,7 +494,7 @@ level-binary-sub-letter-binary t c =
     let a = c .before .before .before .before .before .args in
     let q = c .before .before .before .before .before .pre .1 in
     let long : 4 * a .stop ≤ length (binarySextets (a .s .now)) = omega (arith, length-binary (a .s .now), q .1) in
-    let N = nested-level (binarySextets (a .s .now)) (a .stop) long (l .loop .left) (l .loop .ruled) (l .loop .i) _ (sym (c .before .nested-binary .ensures)) (c .if1 .taken) in
+    let N = nested-level (binarySextets (a .s .now)) (a .stop) long (l .loop .left) (l .loop .ruled) (l .loop .i) _ (nested-is (groupAt (binarySextets (a .s .now))) _ _ _ _ _ (sym (c .before .nested-binary .ensures)) (c .if1 .taken)) (c .if1 .taken) in
     omega (arith, c .if1 .taken)
 
 -- src/lib.rt:376:21
@@ -530,7 +530,7 @@ level-binary-loop-less t c =
     let a = c .before .before .before .before .before .before .args in
     let q = c .before .before .before .before .before .before .pre .1 in
     let long : 4 * a .stop ≤ length (binarySextets (a .s .now)) = omega (arith, length-binary (a .s .now), q .1) in
-    let N = nested-level (binarySextets (a .s .now)) (a .stop) long (l .loop .left) (l .loop .ruled) (l .loop .i) _ (sym (c .before .before .nested-binary .ensures)) (c .before .if1 .taken) in
+    let N = nested-level (binarySextets (a .s .now)) (a .stop) long (l .loop .left) (l .loop .ruled) (l .loop .i) _ (nested-is (groupAt (binarySextets (a .s .now))) _ _ _ _ _ (sym (c .before .before .nested-binary .ensures)) (c .before .if1 .taken)) (c .before .if1 .taken) in
     omega (arith, N .fits, c .before .if1 .taken)
 
 -- src/lib.rt:371:5
@@ -551,7 +551,7 @@ level-binary-loop-again t c =
     let a = c .before .before .before .before .before .before .args in
     let q = c .before .before .before .before .before .before .pre .1 in
     let long : 4 * a .stop ≤ length (binarySextets (a .s .now)) = omega (arith, length-binary (a .s .now), q .1) in
-    let N = nested-level (binarySextets (a .s .now)) (a .stop) long (l .loop .left) (l .loop .ruled) (l .loop .i) _ (sym (c .before .before .nested-binary .ensures)) (c .before .if1 .taken) in
+    let N = nested-level (binarySextets (a .s .now)) (a .stop) long (l .loop .left) (l .loop .ruled) (l .loop .i) _ (nested-is (groupAt (binarySextets (a .s .now))) _ _ _ _ _ (sym (c .before .before .nested-binary .ensures)) (c .before .if1 .taken)) (c .before .if1 .taken) in
     (N .fits, omega (arith, N .few), l .loop .inv .2 ∙ N .leaves ∙ marked (binarySextets (a .s .now)) _ _ _ _ _ (c .letter-binary .ensures))
 
 -- src/lib.rt:378:17

@@ -5,9 +5,9 @@ use lib.ListN.{length}
 use borrow.Author.Needs.{needs}
 use Rattle.format.specs.Units.{textSextets}
 use Rattle.laws.specs.Levels.{level, level-end, part-length}
-use Rattle.runs.specs.Plain.{plainTable, plainAt}
+use Rattle.runs.specs.Plain.{plainTable, plainAt, groupAt}
 use Rattle.runs.specs.Levels.{nested-level}
-use Rattle.runs.specs.Runs.{run-fits, run-moves, run-level, text-run}
+use Rattle.runs.specs.Runs.{run-fits, run-moves, run-level, nested-is, text-run}
 use Rattle.contents.specs.Next.{Judged}
 use Rattle.contents.proofs.Laws.{text-part, length-sextets, next-near, judged-refused, judged-sizes, judged-levels, judged-plain, judged-entered, marked}
 use Rattle.report.proofs.Laws.{text-by}
@@ -434,7 +434,7 @@ level-text-add-i t c =
     let q = c .before .before .before .before .before .pre .1 in
     let long : 4 * a .stop ≤ length (textSextets (a .s .now)) = omega (arith, length-sextets (a .s .now), q .2) in
     let by = text-by (a .values .now) (a .s .now) (q .0) (λ i. omega (arith, c .before .before .before .before .shared-slice-known .given i)) in
-    let N = nested-level (textSextets (a .s .now)) (a .stop) long (l .loop .left) (l .loop .ruled) (l .loop .i) _ (rw by at (sym (c .before .nested-text .ensures))) (c .if1 .taken) in
+    let N = nested-level (textSextets (a .s .now)) (a .stop) long (l .loop .left) (l .loop .ruled) (l .loop .i) _ (nested-is (groupAt (textSextets (a .s .now))) _ _ _ _ _ (rw by at (sym (c .before .nested-text .ensures))) (c .if1 .taken)) (c .if1 .taken) in
     omega (arith, N .fits)
 
 -- src/lib.rt:170:20
@@ -456,7 +456,7 @@ level-text-sub-left t c =
     let q = c .before .before .before .before .before .pre .1 in
     let long : 4 * a .stop ≤ length (textSextets (a .s .now)) = omega (arith, length-sextets (a .s .now), q .2) in
     let by = text-by (a .values .now) (a .s .now) (q .0) (λ i. omega (arith, c .before .before .before .before .shared-slice-known .given i)) in
-    let N = nested-level (textSextets (a .s .now)) (a .stop) long (l .loop .left) (l .loop .ruled) (l .loop .i) _ (rw by at (sym (c .before .nested-text .ensures))) (c .if1 .taken) in
+    let N = nested-level (textSextets (a .s .now)) (a .stop) long (l .loop .left) (l .loop .ruled) (l .loop .i) _ (nested-is (groupAt (textSextets (a .s .now))) _ _ _ _ _ (rw by at (sym (c .before .nested-text .ensures))) (c .if1 .taken)) (c .if1 .taken) in
     omega (arith, N .few)
 
 -- src/lib.rt:171:50
@@ -478,7 +478,7 @@ level-text-sub-letter-text t c =
     let q = c .before .before .before .before .before .pre .1 in
     let long : 4 * a .stop ≤ length (textSextets (a .s .now)) = omega (arith, length-sextets (a .s .now), q .2) in
     let by = text-by (a .values .now) (a .s .now) (q .0) (λ i. omega (arith, c .before .before .before .before .shared-slice-known .given i)) in
-    let N = nested-level (textSextets (a .s .now)) (a .stop) long (l .loop .left) (l .loop .ruled) (l .loop .i) _ (rw by at (sym (c .before .nested-text .ensures))) (c .if1 .taken) in
+    let N = nested-level (textSextets (a .s .now)) (a .stop) long (l .loop .left) (l .loop .ruled) (l .loop .i) _ (nested-is (groupAt (textSextets (a .s .now))) _ _ _ _ _ (rw by at (sym (c .before .nested-text .ensures))) (c .if1 .taken)) (c .if1 .taken) in
     omega (arith, c .if1 .taken)
 
 -- src/lib.rt:171:21
@@ -515,7 +515,7 @@ level-text-loop-less t c =
     let q = c .before .before .before .before .before .before .pre .1 in
     let long : 4 * a .stop ≤ length (textSextets (a .s .now)) = omega (arith, length-sextets (a .s .now), q .2) in
     let by = text-by (a .values .now) (a .s .now) (q .0) (λ i. omega (arith, c .before .before .before .before .before .shared-slice-known .given i)) in
-    let N = nested-level (textSextets (a .s .now)) (a .stop) long (l .loop .left) (l .loop .ruled) (l .loop .i) _ (rw by at (sym (c .before .before .nested-text .ensures))) (c .before .if1 .taken) in
+    let N = nested-level (textSextets (a .s .now)) (a .stop) long (l .loop .left) (l .loop .ruled) (l .loop .i) _ (nested-is (groupAt (textSextets (a .s .now))) _ _ _ _ _ (rw by at (sym (c .before .before .nested-text .ensures))) (c .before .if1 .taken)) (c .before .if1 .taken) in
     omega (arith, N .fits, c .before .if1 .taken)
 
 -- src/lib.rt:166:5
@@ -537,7 +537,7 @@ level-text-loop-again t c =
     let q = c .before .before .before .before .before .before .pre .1 in
     let long : 4 * a .stop ≤ length (textSextets (a .s .now)) = omega (arith, length-sextets (a .s .now), q .2) in
     let by = text-by (a .values .now) (a .s .now) (q .0) (λ i. omega (arith, c .before .before .before .before .before .shared-slice-known .given i)) in
-    let N = nested-level (textSextets (a .s .now)) (a .stop) long (l .loop .left) (l .loop .ruled) (l .loop .i) _ (rw by at (sym (c .before .before .nested-text .ensures))) (c .before .if1 .taken) in
+    let N = nested-level (textSextets (a .s .now)) (a .stop) long (l .loop .left) (l .loop .ruled) (l .loop .i) _ (nested-is (groupAt (textSextets (a .s .now))) _ _ _ _ _ (rw by at (sym (c .before .before .nested-text .ensures))) (c .before .if1 .taken)) (c .before .if1 .taken) in
     (N .fits, omega (arith, N .few), l .loop .inv .2 ∙ N .leaves ∙ marked (textSextets (a .s .now)) _ _ _ _ _ (rw by at (c .letter-text .ensures)))
 
 -- src/lib.rt:173:17

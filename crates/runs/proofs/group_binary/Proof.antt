@@ -1,85 +1,23 @@
-use mathlib.Core.Path.{_∙_}
 use Rattle.runs.specs.Plain.{groupOf}
-use Rattle.runs.proofs.Laws.{binary-unit, binary-past}
+use Rattle.runs.proofs.Laws.{binary-past}
 use borrow.Author.Needs.{needs}
 use Rattle.runs.proofs.group_binary.Statement.{statement}
 use Rattle.runs.proofs.group_binary.Tie as tie
 use Rattle.runs.proofs.group_binary.Reads as reads
 use Rattle.runs.proofs.group_binary.Lts as lts
-use Rattle.runs.proofs.group.Reads as group-reads
-use Rattle.units.proofs.unpack.Reads as unpack-reads
+use Rattle.runs.proofs.group_in_binary.Reads as group-in-binary-reads
 
--- src/lib.rt:430:9
+-- src/lib.rt:510:9
 returns : tie.Need-returns
 returns c = binary-past groupOf _ _ (c .if1 .taken)
 
--- src/lib.rt:432:13
-mul-i : tie.Need-mul-i
-mul-i c = search needs
+-- src/lib.rt:512:5
+group-in-binary-requires : tie.Need-group-in-binary-requires
+group-in-binary-requires c κs = search needs
 
--- src/lib.rt:433:28
-shared-slice-read-group : tie.Need-shared-slice-read-group
-shared-slice-read-group c = search needs
-
--- src/lib.rt:433:36
-add-group : tie.Need-add-group
-add-group c = search needs
-
--- src/lib.rt:433:34
-shared-slice-read-group-2 : tie.Need-shared-slice-read-group-2
-shared-slice-read-group-2 c = search needs
-
--- src/lib.rt:433:46
-add-group-2 : tie.Need-add-group-2
-add-group-2 c = search needs
-
--- src/lib.rt:433:44
-shared-slice-read-group-3 : tie.Need-shared-slice-read-group-3
-shared-slice-read-group-3 c = search needs
-
--- src/lib.rt:433:13
-unpack-requires : tie.Need-unpack-requires
-unpack-requires c κs = search needs
-
--- src/lib.rt:434:11
-array-read-group : tie.Need-array-read-group
-array-read-group c = search needs
-
--- src/lib.rt:434:17
-array-read-group-2 : tie.Need-array-read-group-2
-array-read-group-2 c = search needs
-
--- src/lib.rt:434:23
-array-read-group-3 : tie.Need-array-read-group-3
-array-read-group-3 c = search needs
-
--- src/lib.rt:434:29
-array-read-group-4 : tie.Need-array-read-group-4
-array-read-group-4 c = search needs
-
--- src/lib.rt:434:5
-group-requires : tie.Need-group-requires
-group-requires c κs = search needs
-
--- src/lib.rt:426:1
+-- src/lib.rt:506:1
 returns-2 : tie.Need-returns-2
-returns-2 c = c .group .ensures ∙ binary-unit groupOf _ _ (search needs) _ (c .before .unpack .ensures)
+returns-2 c = search needs
 
 pub group-binary-spec : {M : Type 1} → statement M
-group-binary-spec =
-    tie.close
-    (tie.spec
-    returns
-    mul-i
-    shared-slice-read-group
-    add-group
-    shared-slice-read-group-2
-    add-group-2
-    shared-slice-read-group-3
-    unpack-requires
-    array-read-group
-    array-read-group-2
-    array-read-group-3
-    array-read-group-4
-    group-requires
-    returns-2)
+group-binary-spec = tie.close (tie.spec returns group-in-binary-requires returns-2)

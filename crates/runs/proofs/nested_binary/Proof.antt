@@ -1,15 +1,16 @@
 use mathlib.Core.Path.{_≡_, refl, sym, _∙_}
 use Prim.Native.Nat.{_+_, _-_, _≤_}
 use native.Mathlib.Omega.{arith}
+use borrow.Author.Tests.{lt-ltb, le-ltb}
 use Rattle.format.specs.Units.{binarySextets}
-use Rattle.runs.specs.Plain.{groupAt, nested}
+use Rattle.runs.specs.Plain.{groupAt, nested, nestedAt}
 use Rattle.runs.proofs.Laws.{nested-start, nested-end, nested-other, nested-more, nested-out}
 use borrow.Author.Needs.{needs}
 use Rattle.runs.proofs.nested_binary.Statement.{statement}
 use Rattle.runs.proofs.nested_binary.Tie as tie
 use Rattle.runs.proofs.nested_binary.Reads as reads
 use Rattle.runs.proofs.nested_binary.Lts as lts
-use Rattle.runs.proofs.group_binary.Reads as group-binary-reads
+use Rattle.runs.proofs.group_in_binary.Reads as group-in-binary-reads
 
 abbrev Inv-loop : tie.InvT-loop
 Inv-loop s at stop most i₀ n₀ i n = (n ≤ most) × (nested (groupAt (binarySextets s)) stop most at ≡ n + nested (groupAt (binarySextets s)) stop (most - n) i)
@@ -17,61 +18,69 @@ Inv-loop s at stop most i₀ n₀ i n = (n ≤ most) × (nested (groupAt (binary
 abbrev μ-loop : tie.MeasureT-loop
 μ-loop s at stop most i₀ n₀ i n = most - n
 
--- src/lib.rt:536:5
+-- src/lib.rt:589:9
+returns : tie.Need-returns Inv-loop μ-loop
+unfolding nestedAt
+returns c = rw (lt-ltb _ _ (c .if1 .taken))
+
+-- src/lib.rt:593:5
 loop-holds : tie.Need-loop-holds Inv-loop μ-loop
 loop-holds c =
-    let a = c .before .args in
+    let a = c .before .before .args in
     (omega arith, nested-start (groupAt (binarySextets (a .s .now))) (a .stop) (a .most) (a .at))
 
--- src/lib.rt:538:13
-returns : tie.Need-returns Inv-loop μ-loop
-returns c =
-    let l = c .before .before in
-    let a = c .before .before .before .before .args in
-    sym (l .loop .inv .1 ∙ rw (nested-end (groupAt (binarySextets (a .s .now))) (a .stop) (a .most - l .loop .n) (l .loop .i) (omega arith)) (omega arith))
-
--- src/lib.rt:540:12
-group-binary-requires : tie.Need-group-binary-requires Inv-loop μ-loop
-group-binary-requires c κs = search needs
-
--- src/lib.rt:540:34
-sub-if2 : tie.Need-sub-if2 Inv-loop μ-loop
-sub-if2 c = search needs
-
--- src/lib.rt:541:13
+-- src/lib.rt:595:13
 returns-2 : tie.Need-returns-2 Inv-loop μ-loop
+unfolding nestedAt
 returns-2 c =
-    let l = c .before .before .before .before in
-    let a = c .before .before .before .before .before .before .args in
-    sym (l .loop .inv .1 ∙ rw (nested-other (groupAt (binarySextets (a .s .now))) (a .stop) (a .most - l .loop .n) (l .loop .i) (omega arith) (rw (c .before .group-binary .ensures) at (c .if2 .taken))) (omega arith))
+    let l = c .before .before in
+    let a = c .before .before .before .before .before .args in
+    rw (le-ltb _ _ (c .before .before .before .if1 .left)) (sym (l .loop .inv .1 ∙ rw (nested-end (groupAt (binarySextets (a .s .now))) (a .stop) (a .most - l .loop .n) (l .loop .i) (omega arith)) (omega arith)))
 
--- src/lib.rt:543:13
+-- src/lib.rt:597:12
+group-in-binary-requires : tie.Need-group-in-binary-requires Inv-loop μ-loop
+group-in-binary-requires c κs = omega (arith, c .before .before .before .if1 .left)
+
+-- src/lib.rt:597:37
+sub-if3 : tie.Need-sub-if3 Inv-loop μ-loop
+sub-if3 c = search needs
+
+-- src/lib.rt:598:13
+returns-3 : tie.Need-returns-3 Inv-loop μ-loop
+unfolding nestedAt
+returns-3 c =
+    let l = c .before .before .before .before in
+    let a = c .before .before .before .before .before .before .before .args in
+    rw (le-ltb _ _ (c .before .before .before .before .before .if1 .left)) (sym (l .loop .inv .1 ∙ rw (nested-other (groupAt (binarySextets (a .s .now))) (a .stop) (a .most - l .loop .n) (l .loop .i) (omega arith) (rw (c .before .group-in-binary .ensures) at (c .if3 .taken))) (omega arith)))
+
+-- src/lib.rt:600:13
 add-i : tie.Need-add-i Inv-loop μ-loop
 add-i c = search needs
 
--- src/lib.rt:544:13
+-- src/lib.rt:601:13
 add-n : tie.Need-add-n Inv-loop μ-loop
 add-n c = search needs
 
--- src/lib.rt:536:5
+-- src/lib.rt:593:5
 loop-less : tie.Need-loop-less Inv-loop μ-loop
 loop-less c = search needs
 
--- src/lib.rt:536:5
+-- src/lib.rt:593:5
 loop-again : tie.Need-loop-again Inv-loop μ-loop
 loop-again c =
     let l = c .before .before .before .before in
-    let a = c .before .before .before .before .before .before .args in
+    let a = c .before .before .before .before .before .before .before .args in
     let z : a .most - l .loop .n - 1 ≡ a .most - (l .loop .n + 1) = omega arith in
-    (omega arith, l .loop .inv .1 ∙ rw (nested-more (groupAt (binarySextets (a .s .now))) (a .stop) (a .most - l .loop .n) (l .loop .i) (omega arith) (sym (c .before .group-binary .ensures) ∙ c .if2 .left) (omega arith), z) (omega arith))
+    (omega arith, l .loop .inv .1 ∙ rw (nested-more (groupAt (binarySextets (a .s .now))) (a .stop) (a .most - l .loop .n) (l .loop .i) (omega arith) (sym (c .before .group-in-binary .ensures) ∙ c .if3 .left) (omega arith), z) (omega arith))
 
--- src/lib.rt:531:1
-returns-3 : tie.Need-returns-3 Inv-loop μ-loop
-returns-3 c =
+-- src/lib.rt:585:1
+returns-4 : tie.Need-returns-4 Inv-loop μ-loop
+unfolding nestedAt
+returns-4 c =
     let l = c .before in
-    let a = c .before .before .before .args in
+    let a = c .before .before .before .before .args in
     let z : a .most - l .loop .n ≡ 0 = omega arith in
-    sym (l .loop .inv .1 ∙ rw (z, nested-out (groupAt (binarySextets (a .s .now))) (a .stop)) (omega arith))
+    rw (le-ltb _ _ (c .before .before .if1 .left)) (sym (l .loop .inv .1 ∙ rw (z, nested-out (groupAt (binarySextets (a .s .now))) (a .stop)) (omega arith)))
 
 pub nested-binary-spec : {M : Type 1} → statement M
 nested-binary-spec =
@@ -79,13 +88,14 @@ nested-binary-spec =
     (tie.spec
     Inv-loop
     μ-loop
-    loop-holds
     returns
-    group-binary-requires
-    sub-if2
+    loop-holds
     returns-2
+    group-in-binary-requires
+    sub-if3
+    returns-3
     add-i
     add-n
     loop-less
     loop-again
-    returns-3)
+    returns-4)

@@ -1,7 +1,7 @@
 use mathlib.Core.Path.{_≡_, refl, sym, _∙_}
 use Prim.Native.Nat.{_+_, _-_, _≤_}
 use native.Mathlib.Omega.{arith}
-use borrow.Author.Tests.{eq-eqb, ne-eqb}
+use borrow.Author.Tests.{lt-ltb, le-ltb, eq-eqb, ne-eqb}
 use Rattle.format.specs.Units.{binarySextets}
 use Rattle.runs.specs.Plain.{plainAt, run, runAt}
 use Rattle.runs.proofs.Laws.{run-start, run-past, run-other, run-more, run-out}
@@ -10,80 +10,85 @@ use Rattle.runs.proofs.plain_run_binary.Statement.{statement}
 use Rattle.runs.proofs.plain_run_binary.Tie as tie
 use Rattle.runs.proofs.plain_run_binary.Reads as reads
 use Rattle.runs.proofs.plain_run_binary.Lts as lts
-use Rattle.runs.proofs.plain_binary.Reads as plain-binary-reads
+use Rattle.runs.proofs.plain_in_binary.Reads as plain-in-binary-reads
 
 abbrev Inv-loop : tie.InvT-loop
-Inv-loop rows s at stop k last i₀ n₀ i n = (n ≤ 32) × (run (plainAt rows (binarySextets s)) k stop 32 at ≡ n + run (plainAt rows (binarySextets s)) k stop (32 - n) i)
+Inv-loop rows s at stop k last i₀ n₀ i n = (n ≤ 64) × (run (plainAt rows (binarySextets s)) k stop 64 at ≡ n + run (plainAt rows (binarySextets s)) k stop (64 - n) i)
 
 abbrev μ-loop : tie.MeasureT-loop
-μ-loop rows s at stop k last i₀ n₀ i n = 32 - n
+μ-loop rows s at stop k last i₀ n₀ i n = 64 - n
 
--- src/lib.rt:509:9
+-- src/lib.rt:560:9
 returns : tie.Need-returns Inv-loop μ-loop
 unfolding runAt
-returns c = rw (eq-eqb _ _ (c .if1 .taken))
+returns c = rw (lt-ltb _ _ (c .if1 .taken))
 
--- src/lib.rt:512:9
+-- src/lib.rt:563:9
 returns-2 : tie.Need-returns-2 Inv-loop μ-loop
 unfolding runAt
-returns-2 c =
-    let a = c .before .before .before .args in
-    rw (ne-eqb _ _ (c .before .if1 .left)) (sym (run-past (plainAt (a .rows .now) (binarySextets (a .s .now))) (a .k) (a .stop) 32 (a .at) (omega (arith, c .if2 .taken))))
+returns-2 c = rw (le-ltb _ _ (c .before .if1 .left), eq-eqb _ _ (c .if2 .taken))
 
--- src/lib.rt:517:5
-loop-holds : tie.Need-loop-holds Inv-loop μ-loop
-loop-holds c =
-    let a = c .before .before .before .args in
-    (omega arith, run-start (plainAt (a .rows .now) (binarySextets (a .s .now))) (a .k) (a .stop) (a .at))
-
--- src/lib.rt:519:13
+-- src/lib.rt:566:9
 returns-3 : tie.Need-returns-3 Inv-loop μ-loop
 unfolding runAt
 returns-3 c =
-    let l = c .before .before in
-    let a = c .before .before .before .before .before .before .args in
-    rw (ne-eqb _ _ (c .before .before .before .before .if1 .left)) (sym (l .loop .inv .1 ∙ rw (run-past (plainAt (a .rows .now) (binarySextets (a .s .now))) (a .k) (a .stop) (32 - l .loop .n) (l .loop .i) (omega arith)) (omega arith)))
+    let a = c .before .before .before .before .args in
+    rw (le-ltb _ _ (c .before .before .if1 .left), ne-eqb _ _ (c .before .if2 .left)) (sym (run-past (plainAt (a .rows .now) (binarySextets (a .s .now))) (a .k) (a .stop) 64 (a .at) (omega (arith, c .if3 .taken))))
 
--- src/lib.rt:521:12
-plain-binary-requires : tie.Need-plain-binary-requires Inv-loop μ-loop
-plain-binary-requires c κs = search needs
+-- src/lib.rt:571:5
+loop-holds : tie.Need-loop-holds Inv-loop μ-loop
+loop-holds c =
+    let a = c .before .before .before .before .args in
+    (omega arith, run-start (plainAt (a .rows .now) (binarySextets (a .s .now))) (a .k) (a .stop) (a .at))
 
--- src/lib.rt:522:13
+-- src/lib.rt:573:13
 returns-4 : tie.Need-returns-4 Inv-loop μ-loop
 unfolding runAt
 returns-4 c =
-    let l = c .before .before .before .before in
-    let a = c .before .before .before .before .before .before .before .before .args in
-    rw (ne-eqb _ _ (c .before .before .before .before .before .before .if1 .left)) (sym (l .loop .inv .1 ∙ rw (run-other (plainAt (a .rows .now) (binarySextets (a .s .now))) (a .k) (a .stop) (32 - l .loop .n) (l .loop .i) (rw (c .before .plain-binary .ensures) at (c .if4 .taken))) (omega arith)))
+    let l = c .before .before in
+    let a = c .before .before .before .before .before .before .before .args in
+    rw (le-ltb _ _ (c .before .before .before .before .before .if1 .left), ne-eqb _ _ (c .before .before .before .before .if2 .left)) (sym (l .loop .inv .1 ∙ rw (run-past (plainAt (a .rows .now) (binarySextets (a .s .now))) (a .k) (a .stop) (64 - l .loop .n) (l .loop .i) (omega arith)) (omega arith)))
 
--- src/lib.rt:524:13
-add-i : tie.Need-add-i Inv-loop μ-loop
-add-i c = search needs
+-- src/lib.rt:575:12
+plain-in-binary-requires : tie.Need-plain-in-binary-requires Inv-loop μ-loop
+plain-in-binary-requires c κs = omega (arith, c .before .before .before .before .if2 .left, c .before .before .before .before .before .if1 .left)
 
--- src/lib.rt:525:13
-add-n : tie.Need-add-n Inv-loop μ-loop
-add-n c = search needs
-
--- src/lib.rt:517:5
-loop-less : tie.Need-loop-less Inv-loop μ-loop
-loop-less c = search needs
-
--- src/lib.rt:517:5
-loop-again : tie.Need-loop-again Inv-loop μ-loop
-loop-again c =
-    let l = c .before .before .before .before in
-    let a = c .before .before .before .before .before .before .before .before .args in
-    let z : 32 - l .loop .n - 1 ≡ 32 - (l .loop .n + 1) = omega arith in
-    (omega arith, l .loop .inv .1 ∙ rw (run-more (plainAt (a .rows .now) (binarySextets (a .s .now))) (a .k) (a .stop) (32 - l .loop .n) (l .loop .i) (omega arith) (sym (c .before .plain-binary .ensures) ∙ c .if4 .left) (omega arith), z) (omega arith))
-
--- src/lib.rt:505:1
+-- src/lib.rt:576:13
 returns-5 : tie.Need-returns-5 Inv-loop μ-loop
 unfolding runAt
 returns-5 c =
+    let l = c .before .before .before .before in
+    let a = c .before .before .before .before .before .before .before .before .before .args in
+    rw (le-ltb _ _ (c .before .before .before .before .before .before .before .if1 .left), ne-eqb _ _ (c .before .before .before .before .before .before .if2 .left)) (sym (l .loop .inv .1 ∙ rw (run-other (plainAt (a .rows .now) (binarySextets (a .s .now))) (a .k) (a .stop) (64 - l .loop .n) (l .loop .i) (rw (c .before .plain-in-binary .ensures) at (c .if5 .taken))) (omega arith)))
+
+-- src/lib.rt:578:13
+add-i : tie.Need-add-i Inv-loop μ-loop
+add-i c = search needs
+
+-- src/lib.rt:579:13
+add-n : tie.Need-add-n Inv-loop μ-loop
+add-n c = search needs
+
+-- src/lib.rt:571:5
+loop-less : tie.Need-loop-less Inv-loop μ-loop
+loop-less c = search needs
+
+-- src/lib.rt:571:5
+loop-again : tie.Need-loop-again Inv-loop μ-loop
+loop-again c =
+    let l = c .before .before .before .before in
+    let a = c .before .before .before .before .before .before .before .before .before .args in
+    let z : 64 - l .loop .n - 1 ≡ 64 - (l .loop .n + 1) = omega arith in
+    (omega arith, l .loop .inv .1 ∙ rw (run-more (plainAt (a .rows .now) (binarySextets (a .s .now))) (a .k) (a .stop) (64 - l .loop .n) (l .loop .i) (omega arith) (sym (c .before .plain-in-binary .ensures) ∙ c .if5 .left) (omega arith), z) (omega arith))
+
+-- src/lib.rt:556:1
+returns-6 : tie.Need-returns-6 Inv-loop μ-loop
+unfolding runAt
+returns-6 c =
     let l = c .before in
-    let a = c .before .before .before .before .before .args in
-    let z : 32 - l .loop .n ≡ 0 = omega arith in
-    rw (ne-eqb _ _ (c .before .before .before .if1 .left)) (sym (l .loop .inv .1 ∙ rw (z, run-out (plainAt (a .rows .now) (binarySextets (a .s .now))) (a .k) (a .stop)) (omega arith)))
+    let a = c .before .before .before .before .before .before .args in
+    let z : 64 - l .loop .n ≡ 0 = omega arith in
+    rw (le-ltb _ _ (c .before .before .before .before .if1 .left), ne-eqb _ _ (c .before .before .before .if2 .left)) (sym (l .loop .inv .1 ∙ rw (z, run-out (plainAt (a .rows .now) (binarySextets (a .s .now))) (a .k) (a .stop)) (omega arith)))
 
 pub plain-run-binary-spec : {M : Type 1} → statement M
 plain-run-binary-spec =
@@ -93,12 +98,13 @@ plain-run-binary-spec =
     μ-loop
     returns
     returns-2
-    loop-holds
     returns-3
-    plain-binary-requires
+    loop-holds
     returns-4
+    plain-in-binary-requires
+    returns-5
     add-i
     add-n
     loop-less
     loop-again
-    returns-5)
+    returns-6)
