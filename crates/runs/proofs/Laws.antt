@@ -128,17 +128,25 @@ module _ (values rows s : List ℕ) (k stop at n : ℕ) (e : n ≡ runAt (plainA
     same : bad ≡ firstStranger (take (4 * (n * k)) (drop (4 * at) s))
     same = let z : 4 * at + 4 * (n * k) - 4 * at ≡ 4 * (n * k) = omega arith in rw z at f
 
-    pub clean-all : bad ≡ 4 * (n * k) → n ≡ cleanRun values rows s k stop at
+    pub clean-all : (k ≡ 1 → ⊥) → bad ≡ 4 * (n * k) → n ≡ cleanRun values rows s k stop at
     unfolding cleanRun cleanPart
-    clean-all q = rw (← e, ← same, eq-eqb bad (4 * (n * k)) q)
+    clean-all u q = rw (ne-eqb k 1 u, ← e, ← same, eq-eqb bad (4 * (n * k)) q)
 
-    pub clean-some : (bad ≡ 4 * (n * k) → ⊥) → bad / (4 * k) ≡ cleanRun values rows s k stop at
+    pub clean-some : (k ≡ 1 → ⊥) → (bad ≡ 4 * (n * k) → ⊥) → bad / (4 * k) ≡ cleanRun values rows s k stop at
     unfolding cleanRun cleanPart
-    clean-some q = rw (← e, ← same, ne-eqb bad (4 * (n * k)) q)
+    clean-some u q = rw (ne-eqb k 1 u, ← e, ← same, ne-eqb bad (4 * (n * k)) q)
+
+  pub clean-units : k ≡ 1 → n ≡ cleanRun values rows s k stop at
+  unfolding cleanRun
+  clean-units u = rw (eq-eqb k 1 u) e
 
   pub clean-none : n ≡ 0 → 0 ≡ cleanRun values rows s k stop at
   unfolding cleanRun cleanPart firstStranger
-  clean-none q = let z : 4 * (0 * k) ≡ 0 = omega arith in rw (← e, q, z)
+  clean-none q = let z : 4 * (0 * k) ≡ 0 = omega arith in rw (← e, q, z) (sym (both (eqb k 1)))
+    where
+      both : (b : Bool) → _≡_ {A = ℕ} (pick b 0 0) 0
+      both true = refl
+      both false = refl
 
 -- ---- the table
 

@@ -7,12 +7,12 @@ use mathlib.Core.Logic.{⊎-elim}
 use native.Mathlib.Omega.{arith}
 use native.Mathlib.Nat.{suc-mul}
 use lib.Dec.{ltb, eqb}
-use lib.ListN.{length, take, drop, getD, length-drop, List·getD-eq-default}
+use lib.ListN.{length, take, drop, getD, length-take, length-drop, List·getD-eq-default}
 use lib.Seq.{getD-take, getD-drop}
 use borrow.Author.Tests.{ltb-true, ltb-false, lt-ltb, le-ltb, eqb-true, eq-eqb}
 use Rattle.base.specs.Pick.{pick}
 use Rattle.base.specs.Cases.{whether, lt-or-ge}
-use Rattle.base.specs.Digits.{Below, none, more, below-at, below-take, below-drop}
+use Rattle.base.specs.Digits.{Below, none, more, below-at, below-all, below-take, below-drop}
 use Rattle.format.specs.declared.CodeRow.{CodeRow}
 use Rattle.format.specs.declared.Kind.{Kind}
 use Rattle.format.specs.declared.Kind.the-variants.{Fixed, Variable, Group, Genus}
@@ -27,7 +27,7 @@ use Rattle.format.specs.Judging.{shift, andThen, unless, scan, behind, zeroBits
 use Rattle.laws.specs.Framing.{Known, known-next}
 use Rattle.laws.specs.Scan.{scan-below}
 use Rattle.laws.specs.Levels.{part, part-length, part-drop, part-take, frameNext, shift-shift, level, level-end, level-item}
-use Rattle.runs.specs.Plain.{known4, plainTable, rowIn, sizedOf, plainOf, groupOf, unitBy, sizedAt, plainAt, groupAt, letterAt, run, nested}
+use Rattle.runs.specs.Plain.{known4, plainTable, rowIn, next, limited, sizedOf, plainOf, groupOf, unitBy, sizedAt, plainAt, groupAt, letterAt, run, nested}
 use Rattle.runs.specs.Opened.{Plain, plain-opens, sized-opens, small-opens, Entered, group-opens}
 
 -- ---- a unit that is told
@@ -165,6 +165,29 @@ unfolding unitBy
 group-drop s at n e p h =
     let y : sextet (drop (4 * at) s) 1 ≡ letterAt s at = getD-drop (4 * at) s 1 0 ∙ rw (lt-ltb at (length s / 4) (omega arith)) in
     group-frames (drop (4 * at) s) n (told-drop groupOf s at n e p) p (omega (arith, length-drop (4 * at) s)) .framed true ∙ rw y
+
+-- a plain primitive's first unit is known, so one of a unit is known
+unit-known : (s : List ℕ) (at n : ℕ) → plainAt plainTable s at ≡ n → 0 < n → (r : ℕ) → r < 4 → sextet s (4 * at + r) < 64
+unfolding plainOf
+unit-known s at n e p r h = go r h
+  where
+    k : (ltb (sextet s (4 * at)) 64 ≡ true) × (ltb (sextet s (4 * at + 1)) 64 ≡ true) × (ltb (sextet s (4 * at + 2)) 64 ≡ true) × (ltb (sextet s (4 * at + 3)) 64 ≡ true)
+        × (limited (rowIn plainTable (sextet s (4 * at)) (sextet s (4 * at + 1))) (next (sextet s (4 * at)) (sextet s (4 * at + 1)) (sextet s (4 * at + 2))) ≡ n)
+    k = known-of (sextet s (4 * at)) (sextet s (4 * at + 1)) (sextet s (4 * at + 2)) (sextet s (4 * at + 3)) _ n (told (plainOf plainTable) s at n e p) p
+
+    go : (r : ℕ) → r < 4 → sextet s (4 * at + r) < 64
+    go zero q = let z : 4 * at + 0 ≡ 4 * at = omega arith in rw z (ltb-true _ _ (k .0))
+    go (suc zero) q = ltb-true _ _ (k .1)
+    go (suc (suc zero)) q = ltb-true _ _ (k .2)
+    go (suc (suc (suc zero))) q = ltb-true _ _ (k .3)
+    go (suc (suc (suc (suc r)))) q = absurd (omega arith)
+
+pub units-known : (s : List ℕ) (at n : ℕ) → ((j : ℕ) → j < n → plainAt plainTable s (at + j) ≡ 1) → Below 64 (part s at (at + n))
+units-known s at n e =
+    below-all 64 (part s at (at + n)) λ i h.
+    let l : i < 4 * (at + n) - 4 * at = omega (arith, length-drop (4 * at) (take (4 * (at + n)) s), length-take (4 * (at + n)) s) in
+    let z : 4 * at + i ≡ 4 * (at + i / 4) + i % 4 = omega arith in
+    rw (part-at s at (at + n) i (omega arith), z) (unit-known s (at + i / 4) 1 (e (i / 4) (omega arith)) (omega arith) (i % 4) (omega arith))
 
 -- ---- a plain primitive leaves the rest
 

@@ -128,4 +128,6 @@ cleanPart s k at n =
     pick (eqb (firstStranger (take (4 * (n * k)) (drop (4 * at) s))) (4 * (n * k))) n (firstStranger (take (4 * (n * k)) (drop (4 * at) s)) / (4 * k))
 
 unfoldable pub cleanRun : List ℕ → List ℕ → List ℕ → ℕ → ℕ → ℕ → ℕ
-cleanRun values rows s k stop at = cleanPart s k at (runAt (plainAt rows (sextetsBy values s)) (length s / 4) k stop at)
+cleanRun values rows s k stop at =
+    pick (eqb k 1) (runAt (plainAt rows (sextetsBy values s)) (length s / 4) k stop at)  -- all header, so known
+    (cleanPart s k at (runAt (plainAt rows (sextetsBy values s)) (length s / 4) k stop at))

@@ -22,7 +22,7 @@ use Rattle.laws.specs.Conversion.{binary-below}
 use Rattle.laws.specs.Levels.{part, part-drop, part-take, take-of-drop, level}
 use Rattle.runs.specs.Plain.{plainTable, plainAt, run, runAt, most, nested, nestedAt, cleanPart, cleanRun}
 use Rattle.runs.specs.Tables.{by-table}
-use Rattle.runs.specs.Levels.{plain-level, run-at, by-items}
+use Rattle.runs.specs.Levels.{units-known, plain-level, run-at, by-items}
 
 -- r items of k units by a rule p, from a unit on, none of them past another
 pub record Run (p : ℕ → ℕ) (k stop at r : ℕ) : Type 0 where
@@ -161,7 +161,22 @@ clean-run s k stop at r q p =
 pub text-run : (values rows s : List ℕ) (k stop at r : ℕ) → values ≡ sextetTable → rows ≡ plainTable → ((i : ℕ) → getD s i 0 < 256) → cleanRun values rows s k stop at ≡ r → 0 < r
     → Clean (textSextets s) k stop at r
 unfolding cleanRun
-text-run values rows s k stop at r v t b e p = clean-run s k stop at r (rw (v, t, by-table s b) at e) p
+text-run values rows s k stop at r v t b e p = go (eqb k 1) refl (rw (v, t, by-table s b) at e)
+  where
+    one : (k : ℕ) → k ≡ 1 → Run (plainAt plainTable (textSextets s)) k stop at r → Clean (textSextets s) k stop at r
+    one k f R =
+        let z : r * 1 ≡ r = omega arith in
+        record {
+          run = R;
+          known = rw (f, z)
+              (units-known (textSextets s) at r
+              (λ j h. let y : at + j * 1 ≡ at + j = omega arith in rw (f, y) at (R .each j h .0)));
+        }
+
+    go : (c : Bool) → eqb k 1 ≡ c → pick c (runAt (plainAt plainTable (textSextets s)) (length s / 4) k stop at)
+        (cleanPart s k at (runAt (plainAt plainTable (textSextets s)) (length s / 4) k stop at)) ≡ r → Clean (textSextets s) k stop at r
+    go true f q = one k (eqb-true k 1 f) (run-is (plainAt plainTable (textSextets s)) (length s / 4) k stop at r q p)
+    go false f q = clean-run s k stop at r q p
 
 -- ---- binary: all are known
 

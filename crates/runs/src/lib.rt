@@ -412,7 +412,7 @@ pub fn plain_run_text(
     n
 }
 
-// The same where all characters are known: those in front of the first one that is not.
+// The same where all characters are known: those in front of the first one that is not. A single unit is known already.
 pub fn clean_run_text(
     values: &[u8; 256],
     rows: &[u16; 128],
@@ -426,6 +426,9 @@ pub fn clean_run_text(
     let n = plain_run_text(values, rows, s, at, stop, k);
     if n == 0 {
         return 0;
+    }
+    if k == 1 {
+        return n;
     }
     let from = 4 * at;
     let size = 4 * (n * k);
