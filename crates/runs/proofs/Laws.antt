@@ -9,7 +9,7 @@ use lib.ListN.{length, getD, take, drop, length-map}
 use borrow.Author.Tests.{ltb-true, ltb-false, lt-ltb, le-ltb, eq-eqb, ne-eqb}
 use Rattle.base.specs.Pick.{pick}
 use Rattle.base.specs.Lists.{getD-map-within}
-use Rattle.format.specs.Units.{binarySextets, sextetsOf}
+use Rattle.format.specs.Units.{binarySextets}
 use Rattle.format.specs.Framing.{sextet}
 use Rattle.format.specs.Registry.{codes, fixedAmong, fixed}
 use Rattle.format.specs.Conversion.{firstStranger}
@@ -60,14 +60,18 @@ module _ (f : ℕ → ℕ → ℕ → ℕ → ℕ) (at : ℕ) where
   unfolding unitBy
   text-past values s h = rw (text-units values s, le-ltb _ _ h)
 
-  pub binary-unit : (s : List ℕ) → at < length s / 3 → (q : List ℕ) → q ≡ sextetsOf (getD s (3 * at) 0 ∷ getD s (3 * at + 1) 0 ∷ getD s (3 * at + 2) 0 ∷ [])
-      → f (getD q 0 0) (getD q 1 0) (getD q 2 0) (getD q 3 0) ≡ unitBy f (binarySextets s) at
-  unfolding unitBy sextetsOf
-  binary-unit s h q e =
+  pub binary-unit : (s : List ℕ) → at < length s / 3 → ((i : ℕ) → getD s i 0 < 256)
+      → f (getD s (3 * at) 0 / 4) (getD s (3 * at) 0 % 4 * 16 + getD s (3 * at + 1) 0 / 16) (getD s (3 * at + 1) 0 % 16 * 4 + getD s (3 * at + 2) 0 / 64)
+      (getD s (3 * at + 2) 0 % 64) ≡ unitBy f (binarySextets s) at
+  unfolding unitBy
+  binary-unit s h b =
       let z : 4 * at + 0 ≡ 4 * at = omega arith in
-      let b0 = rw z at (binary-sextet s at 0 h (omega arith)) in
-      rw (e, binary-reader .units s, lt-ltb _ _ h)
-      (four f (omega (arith, b0)) (omega (arith, binary-sextet s at 1 h (omega arith))) (omega (arith, binary-sextet s at 2 h (omega arith)))
+      let d0 = rw z at (binary-sextet s at 0 h (omega arith)) in
+      let x = b (3 * at) in
+      let y = b (3 * at + 1) in
+      let w = b (3 * at + 2) in
+      rw (binary-reader .units s, lt-ltb _ _ h)
+      (four f (omega (arith, d0)) (omega (arith, binary-sextet s at 1 h (omega arith))) (omega (arith, binary-sextet s at 2 h (omega arith)))
       (omega (arith, binary-sextet s at 3 h (omega arith))))
 
   pub binary-past : (s : List ℕ) → length s / 3 ≤ at → 0 ≡ unitBy f (binarySextets s) at

@@ -459,15 +459,23 @@ pub fn nested_text(values: &[u8; 256], s: &[u8], at: usize, stop: usize, most: u
     n
 }
 
-// ---- a unit of a binary
+// ---- a unit of a binary, sextet by sextet: fewer steps than by way of its number
 
 fn sized_in_binary(rows: &[u16; 128], s: &[u8], at: usize) -> usize
     requires { ⌜ at < length (now s) / 3 ⌝ }
     ensures { λ r. ⌜ r ≡ sizedAt (now (rows .entry)) (binarySextets (now (s .entry))) at ⌝ }
 {
     let i = 3 * at;
-    let q = units::unpack([s[i], s[i + 1], s[i + 2]]);
-    sized(rows, q[0], q[1], q[2], q[3])
+    let x = s[i];
+    let y = s[i + 1];
+    let z = s[i + 2];
+    sized(
+        rows,
+        x / 4,
+        x % 4 * 16 + y / 16,
+        y % 16 * 4 + z / 64,
+        z % 64,
+    )
 }
 
 pub fn sized_binary(rows: &[u16; 128], s: &[u8], at: usize) -> usize
@@ -484,8 +492,16 @@ fn plain_in_binary(rows: &[u16; 128], s: &[u8], at: usize) -> usize
     ensures { λ r. ⌜ r ≡ plainAt (now (rows .entry)) (binarySextets (now (s .entry))) at ⌝ }
 {
     let i = 3 * at;
-    let q = units::unpack([s[i], s[i + 1], s[i + 2]]);
-    plain(rows, q[0], q[1], q[2], q[3])
+    let x = s[i];
+    let y = s[i + 1];
+    let z = s[i + 2];
+    plain(
+        rows,
+        x / 4,
+        x % 4 * 16 + y / 16,
+        y % 16 * 4 + z / 64,
+        z % 64,
+    )
 }
 
 pub fn plain_binary(rows: &[u16; 128], s: &[u8], at: usize) -> usize
@@ -502,8 +518,10 @@ fn group_in_binary(s: &[u8], at: usize) -> usize
     ensures { λ r. ⌜ r ≡ groupAt (binarySextets (now (s .entry))) at ⌝ }
 {
     let i = 3 * at;
-    let q = units::unpack([s[i], s[i + 1], s[i + 2]]);
-    group(q[0], q[1], q[2], q[3])
+    let x = s[i];
+    let y = s[i + 1];
+    let z = s[i + 2];
+    group(x / 4, x % 4 * 16 + y / 16, y % 16 * 4 + z / 64, z % 64)
 }
 
 pub fn group_binary(s: &[u8], at: usize) -> usize
@@ -522,8 +540,9 @@ pub fn letter_binary(s: &[u8], at: usize) -> u8
         return 0;
     }
     let i = 3 * at;
-    let q = units::unpack([s[i], s[i + 1], s[i + 2]]);
-    q[1]
+    let x = s[i];
+    let y = s[i + 1];
+    x % 4 * 16 + y / 16
 }
 
 // As in text.

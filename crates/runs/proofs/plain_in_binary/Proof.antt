@@ -1,4 +1,6 @@
 use mathlib.Core.Path.{_∙_}
+use Prim.Native.Nat.{_+_, _*_}
+use native.Mathlib.Omega.{arith}
 use Rattle.runs.specs.Plain.{plainOf}
 use Rattle.runs.proofs.Laws.{binary-unit}
 use borrow.Author.Needs.{needs}
@@ -7,74 +9,68 @@ use Rattle.runs.proofs.plain_in_binary.Tie as tie
 use Rattle.runs.proofs.plain_in_binary.Reads as reads
 use Rattle.runs.proofs.plain_in_binary.Lts as lts
 use Rattle.runs.proofs.plain.Reads as plain-reads
-use Rattle.units.proofs.unpack.Reads as unpack-reads
 
--- src/lib.rt:483:13
+-- src/lib.rt:494:13
 mul-i : tie.Need-mul-i
 mul-i c = search needs
 
--- src/lib.rt:484:28
-shared-slice-read-plain : tie.Need-shared-slice-read-plain
-shared-slice-read-plain c = search needs
+-- src/lib.rt:495:13
+shared-slice-read-x : tie.Need-shared-slice-read-x
+shared-slice-read-x c = search needs
 
--- src/lib.rt:484:36
+-- src/lib.rt:496:15
+add-y : tie.Need-add-y
+add-y c = search needs
+
+-- src/lib.rt:496:13
+shared-slice-read-y : tie.Need-shared-slice-read-y
+shared-slice-read-y c = search needs
+
+-- src/lib.rt:497:15
+add-z : tie.Need-add-z
+add-z c = search needs
+
+-- src/lib.rt:497:13
+shared-slice-read-z : tie.Need-shared-slice-read-z
+shared-slice-read-z c = search needs
+
+-- src/lib.rt:501:9
+mul-plain : tie.Need-mul-plain
+mul-plain c = search needs
+
+-- src/lib.rt:501:9
 add-plain : tie.Need-add-plain
-add-plain c = search needs
+add-plain c = omega (arith, c .before .before .before .shared-slice-known .given (3 * c .before .before .before .before .args .at), c .before .before .before .shared-slice-known .given (3 * c .before .before .before .before .args .at + 1), c .before .before .before .shared-slice-known .given (3 * c .before .before .before .before .args .at + 2))
 
--- src/lib.rt:484:34
-shared-slice-read-plain-2 : tie.Need-shared-slice-read-plain-2
-shared-slice-read-plain-2 c = search needs
+-- src/lib.rt:502:9
+mul-plain-2 : tie.Need-mul-plain-2
+mul-plain-2 c = search needs
 
--- src/lib.rt:484:46
+-- src/lib.rt:502:9
 add-plain-2 : tie.Need-add-plain-2
-add-plain-2 c = search needs
+add-plain-2 c = omega (arith, c .before .before .before .shared-slice-known .given (3 * c .before .before .before .before .args .at), c .before .before .before .shared-slice-known .given (3 * c .before .before .before .before .args .at + 1), c .before .before .before .shared-slice-known .given (3 * c .before .before .before .before .args .at + 2))
 
--- src/lib.rt:484:44
-shared-slice-read-plain-3 : tie.Need-shared-slice-read-plain-3
-shared-slice-read-plain-3 c = search needs
-
--- src/lib.rt:484:13
-unpack-requires : tie.Need-unpack-requires
-unpack-requires c κs = search needs
-
--- src/lib.rt:485:17
-array-read-plain : tie.Need-array-read-plain
-array-read-plain c = search needs
-
--- src/lib.rt:485:23
-array-read-plain-2 : tie.Need-array-read-plain-2
-array-read-plain-2 c = search needs
-
--- src/lib.rt:485:29
-array-read-plain-3 : tie.Need-array-read-plain-3
-array-read-plain-3 c = search needs
-
--- src/lib.rt:485:35
-array-read-plain-4 : tie.Need-array-read-plain-4
-array-read-plain-4 c = search needs
-
--- src/lib.rt:485:5
+-- src/lib.rt:498:5
 plain-requires : tie.Need-plain-requires
 plain-requires c κs = search needs
 
--- src/lib.rt:479:1
+-- src/lib.rt:490:1
 returns : tie.Need-returns
-returns c = c .plain .ensures ∙ binary-unit (plainOf ((c .before .before .before .before .before .before .args) .rows .now)) _ _ (c .before .before .before .before .before .before .pre) _ (c .before .unpack .ensures)
+returns c = c .plain .ensures ∙ binary-unit (plainOf (c .before .before .before .before .before .args .rows .now)) _ (c .before .before .before .before .before .args .s .now) (c .before .before .before .before .before .pre) (λ i. omega (arith, c .before .before .before .before .shared-slice-known .given i))
 
 pub plain-in-binary-spec : {M : Type 1} → statement M
 plain-in-binary-spec =
     tie.close
     (tie.spec
     mul-i
-    shared-slice-read-plain
+    shared-slice-read-x
+    add-y
+    shared-slice-read-y
+    add-z
+    shared-slice-read-z
+    mul-plain
     add-plain
-    shared-slice-read-plain-2
+    mul-plain-2
     add-plain-2
-    shared-slice-read-plain-3
-    unpack-requires
-    array-read-plain
-    array-read-plain-2
-    array-read-plain-3
-    array-read-plain-4
     plain-requires
     returns)

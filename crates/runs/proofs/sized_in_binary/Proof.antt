@@ -1,4 +1,6 @@
 use mathlib.Core.Path.{_∙_}
+use Prim.Native.Nat.{_+_, _*_}
+use native.Mathlib.Omega.{arith}
 use Rattle.runs.specs.Plain.{sizedOf}
 use Rattle.runs.proofs.Laws.{binary-unit}
 use borrow.Author.Needs.{needs}
@@ -7,74 +9,68 @@ use Rattle.runs.proofs.sized_in_binary.Tie as tie
 use Rattle.runs.proofs.sized_in_binary.Reads as reads
 use Rattle.runs.proofs.sized_in_binary.Lts as lts
 use Rattle.runs.proofs.sized.Reads as sized-reads
-use Rattle.units.proofs.unpack.Reads as unpack-reads
 
--- src/lib.rt:465:13
+-- src/lib.rt:468:13
 mul-i : tie.Need-mul-i
 mul-i c = search needs
 
--- src/lib.rt:466:28
-shared-slice-read-sized : tie.Need-shared-slice-read-sized
-shared-slice-read-sized c = search needs
+-- src/lib.rt:469:13
+shared-slice-read-x : tie.Need-shared-slice-read-x
+shared-slice-read-x c = search needs
 
--- src/lib.rt:466:36
+-- src/lib.rt:470:15
+add-y : tie.Need-add-y
+add-y c = search needs
+
+-- src/lib.rt:470:13
+shared-slice-read-y : tie.Need-shared-slice-read-y
+shared-slice-read-y c = search needs
+
+-- src/lib.rt:471:15
+add-z : tie.Need-add-z
+add-z c = search needs
+
+-- src/lib.rt:471:13
+shared-slice-read-z : tie.Need-shared-slice-read-z
+shared-slice-read-z c = search needs
+
+-- src/lib.rt:475:9
+mul-sized : tie.Need-mul-sized
+mul-sized c = search needs
+
+-- src/lib.rt:475:9
 add-sized : tie.Need-add-sized
-add-sized c = search needs
+add-sized c = omega (arith, c .before .before .before .shared-slice-known .given (3 * c .before .before .before .before .args .at), c .before .before .before .shared-slice-known .given (3 * c .before .before .before .before .args .at + 1), c .before .before .before .shared-slice-known .given (3 * c .before .before .before .before .args .at + 2))
 
--- src/lib.rt:466:34
-shared-slice-read-sized-2 : tie.Need-shared-slice-read-sized-2
-shared-slice-read-sized-2 c = search needs
+-- src/lib.rt:476:9
+mul-sized-2 : tie.Need-mul-sized-2
+mul-sized-2 c = search needs
 
--- src/lib.rt:466:46
+-- src/lib.rt:476:9
 add-sized-2 : tie.Need-add-sized-2
-add-sized-2 c = search needs
+add-sized-2 c = omega (arith, c .before .before .before .shared-slice-known .given (3 * c .before .before .before .before .args .at), c .before .before .before .shared-slice-known .given (3 * c .before .before .before .before .args .at + 1), c .before .before .before .shared-slice-known .given (3 * c .before .before .before .before .args .at + 2))
 
--- src/lib.rt:466:44
-shared-slice-read-sized-3 : tie.Need-shared-slice-read-sized-3
-shared-slice-read-sized-3 c = search needs
-
--- src/lib.rt:466:13
-unpack-requires : tie.Need-unpack-requires
-unpack-requires c κs = search needs
-
--- src/lib.rt:467:17
-array-read-sized : tie.Need-array-read-sized
-array-read-sized c = search needs
-
--- src/lib.rt:467:23
-array-read-sized-2 : tie.Need-array-read-sized-2
-array-read-sized-2 c = search needs
-
--- src/lib.rt:467:29
-array-read-sized-3 : tie.Need-array-read-sized-3
-array-read-sized-3 c = search needs
-
--- src/lib.rt:467:35
-array-read-sized-4 : tie.Need-array-read-sized-4
-array-read-sized-4 c = search needs
-
--- src/lib.rt:467:5
+-- src/lib.rt:472:5
 sized-requires : tie.Need-sized-requires
 sized-requires c κs = search needs
 
--- src/lib.rt:461:1
+-- src/lib.rt:464:1
 returns : tie.Need-returns
-returns c = c .sized .ensures ∙ binary-unit (sizedOf ((c .before .before .before .before .before .before .args) .rows .now)) _ _ (c .before .before .before .before .before .before .pre) _ (c .before .unpack .ensures)
+returns c = c .sized .ensures ∙ binary-unit (sizedOf (c .before .before .before .before .before .args .rows .now)) _ (c .before .before .before .before .before .args .s .now) (c .before .before .before .before .before .pre) (λ i. omega (arith, c .before .before .before .before .shared-slice-known .given i))
 
 pub sized-in-binary-spec : {M : Type 1} → statement M
 sized-in-binary-spec =
     tie.close
     (tie.spec
     mul-i
-    shared-slice-read-sized
+    shared-slice-read-x
+    add-y
+    shared-slice-read-y
+    add-z
+    shared-slice-read-z
+    mul-sized
     add-sized
-    shared-slice-read-sized-2
+    mul-sized-2
     add-sized-2
-    shared-slice-read-sized-3
-    unpack-requires
-    array-read-sized
-    array-read-sized-2
-    array-read-sized-3
-    array-read-sized-4
     sized-requires
     returns)
