@@ -89,14 +89,30 @@ fn put_quadlet(characters: &[u8; 64], d: &mut [u8], at: usize, t: [u8; 3])
     d[at + 3] = characters[q[3] as usize];
 }
 
+// The i-th unit, where it is to stand.
+fn put_unit(characters: &[u8; 64], src: &[u8], dst: &mut [u8], i: usize)
+    requires { ⌜ (now characters ≡ characterTable) × (3 * i + 3 ≤ length (now src)) × (4 * i + 4 ≤ length (now dst)) ⌝ }
+    ensures { λ _. ⌜ now (dst .exit) ≡ take (4 * i) (now (dst .entry)) ++ quadletOf (take 3 (drop (3 * i) (now (src .entry)))) ++ drop (4 * i + 4) (now (dst .entry)) ⌝ }
+{
+    let t = triplet_of(src, 3 * i);
+    put_quadlet(characters, dst, 4 * i, t);
+}
+
+// Four units a turn, which saves some of the loop's own steps.
 fn fill_text(characters: &[u8; 64], src: &[u8], dst: &mut [u8], n: usize)
     requires { ⌜ (now characters ≡ characterTable) × (3 * n ≤ length (now src)) × (4 * n ≤ length (now dst)) ⌝ }
     ensures { λ _. ⌜ now (dst .exit) ≡ each 3 quadletOf n (now (src .entry)) ++ drop (4 * n) (now (dst .entry)) ⌝ }
 {
     let mut i = 0;
+    while 3 < n - i {
+        put_unit(characters, src, dst, i);
+        put_unit(characters, src, dst, i + 1);
+        put_unit(characters, src, dst, i + 2);
+        put_unit(characters, src, dst, i + 3);
+        i += 4;
+    }
     while i < n {
-        let t = triplet_of(src, 3 * i);
-        put_quadlet(characters, dst, 4 * i, t);
+        put_unit(characters, src, dst, i);
         i += 1;
     }
 }
