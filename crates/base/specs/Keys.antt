@@ -1,29 +1,11 @@
--- A match on a number, arm by arm: a test that passes at each key of an arm, and at each number that its last arm is left, the
--- keys of no arm before. Assumes nothing.
-use mathlib.Core.Path.{_≡_, subst, sym}
+-- What a match on a number leaves to its last arm: none of the keys of the arms before. Assumes nothing.
 use mathlib.Core.Bool.{Bool, true, false}
 use mathlib.Core.List.{List, [], _∷_}
-use mathlib.Core.Logic.{inl, inr}
 use Prim.Native.Nat.{ℕ, _<_}
 use lib.Dec.{T}
 use types.Run.{OneOf, hit}
 use mir.Val.{hasKey}
-use Rattle.base.specs.Table.{both, both-left, both-right}
 use Rattle.base.specs.Below.{all, below}
-
--- ---- an arm with keys
-
-abbrev pub keys : (ℕ → Bool) → List ℕ → Bool
-keys f [] = true
-keys f (k ∷ ks) = both (f k) (keys f ks)
-
-pub an-arm : (f : ℕ → Bool) (ks : List ℕ) → T (keys f ks) → (x : ℕ) → OneOf ks x → T (f x)
-an-arm f [] t x o = absurd o
-an-arm f (k ∷ []) t x o = subst (λ (y : ℕ). T (f y)) (sym o) (both-left (f k) true t)
-an-arm f (k ∷ k′ ∷ ks) t x (inl o) = subst (λ (y : ℕ). T (f y)) (sym o) (both-left (f k) (keys f (k′ ∷ ks)) t)
-an-arm f (k ∷ k′ ∷ ks) t x (inr o) = an-arm f (k′ ∷ ks) (both-right (f k) (keys f (k′ ∷ ks)) t) x o
-
--- ---- the last arm
 
 -- the keys of each arm, the last arm's first
 abbrev pub Missed : List (List ℕ) → ℕ → Type 0

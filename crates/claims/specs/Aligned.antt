@@ -9,6 +9,7 @@ use Rattle.base.specs.Digits.{Below, more, below-take, below-drop}
 use Rattle.format.specs.declared.Verdict.{Verdict}
 use Rattle.format.specs.declared.Verdict.the-variants.{Accepted, Refused}
 use Rattle.format.specs.Judging.{shift, scan, judge}
+use Rattle.laws.specs.Scan.{scan-below}
 use Rattle.laws.specs.Judging.{Reaches, every-verdict}
 
 abbrev pub Aligned : Verdict → Type 0
@@ -25,11 +26,6 @@ unfolding shift
 shift-aligned k Accepted h = tt
 shift-aligned k (Refused n p) h = omega arith
 
-scan-accepts : (s : List ℕ) → Below 64 s → scan s ≡ Accepted
-unfolding scan shift
-scan-accepts [] h = refl
-scan-accepts (x ∷ s) (more p r) = rw (lt-ltb x 64 p, scan-accepts s r)
-
 pub aligned : Reaches (Below 64) Aligned
 aligned = record {
   takes = below-take 64;
@@ -37,7 +33,7 @@ aligned = record {
   accepts = tt;
   refuses = λ n h. refl;
   counts-on = shift-aligned;
-  scans = λ s q. rw (scan-accepts s q) tt;
+  scans = λ s q. rw (scan-below s q) tt;
   told = λ s n p q t. let z : p ≡ 0 = t .1 (below-anywhere s q) in omega arith;
 }
 

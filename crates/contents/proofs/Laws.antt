@@ -27,7 +27,7 @@ use Rattle.format.specs.Framing.{frameWith, sextet}
 use Rattle.format.specs.Judging.{shift, andThen, inTurn, contents, judgeKind, ownCheck, group, judge}
 use Rattle.laws.specs.Framing.{Lawful}
 use Rattle.laws.specs.Domains.{binary-reader}
-use Rattle.laws.specs.Levels.{part, part-length, part-drop, part-take, take-of-drop, frameNext, any-item, item-sizes, shift-shift, level, level-end, level-refused, level-item}
+use Rattle.laws.specs.Levels.{then-accepts, part, part-length, part-drop, part-take, take-of-drop, frameNext, any-item, item-sizes, shift-shift, level, level-end, level-refused, level-item}
 use Rattle.framing.proofs.Laws.{lawful}
 use Rattle.judging.specs.Own.{toldBy}
 use Rattle.judging.proofs.Bounds.{Head, frame-head, ruled-head, Near, own-near}
@@ -93,11 +93,6 @@ insideOf (Variable t a b) h s l = Accepted
 insideOf (Group letter) h s zero = Accepted
 insideOf (Group letter) h s (suc l) = pick (isOpaque letter) Accepted (shift (4 * h) (inTurn (judge l) (contents (isOverrideable letter) (drop (4 * h) s))))
 insideOf Genus h s l = Accepted
-
-then-accepts : (v : Verdict) → andThen v Accepted ≡ v
-unfolding andThen
-then-accepts Accepted = refl
-then-accepts (Refused m p) = refl
 
 own-first : (k : Kind) (h l : ℕ) (s : List ℕ) → judgeKind k h s (group l) ≡ andThen (judgeKind k h s (ownCheck l)) (insideOf k h s l)
 unfolding judgeKind group judge

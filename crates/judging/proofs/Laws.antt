@@ -28,6 +28,7 @@ use Rattle.format.specs.Judging.{shift, andThen, unless, scan, behind, hasLead,
 use Rattle.laws.specs.Registry.{Sound}
 use Rattle.laws.specs.Framing.{Shaped}
 use Rattle.laws.specs.Domains.{binary-reader}
+use Rattle.laws.specs.Scan.{scan-below}
 use Rattle.laws.specs.Conversion.{binary-below}
 use Rattle.framing.specs.Heads.{headOf}
 use Rattle.framing.proofs.Laws.{head-at}
@@ -71,11 +72,6 @@ module _ (item : List ℕ) (h i : ℕ) (e : i ≡ firstStranger (drop (4 * h) it
 pub behind-past : (item : List ℕ) (h : ℕ) → length item / 4 < h → Accepted ≡ behind h (textSextets item)
 unfolding shift scan textSextets
 behind-past item h l = rw (behind-part item h, drop-of-length-le item {i = 4 * h} (omega arith))
-
-scan-below : (s : List ℕ) → Below 64 s → scan s ≡ Accepted
-unfolding scan shift
-scan-below [] h = refl
-scan-below (x ∷ s) (more p r) = rw (lt-ltb x 64 p, scan-below s r)
 
 pub behind-binary : (b : List ℕ) (h : ℕ) → behind h (binarySextets b) ≡ Accepted
 unfolding behind shift

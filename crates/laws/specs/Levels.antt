@@ -35,6 +35,11 @@ unfolding shift andThen
 shift-then o Accepted w = refl
 shift-then o (Refused n p) w = refl
 
+pub then-accepts : (v : Verdict) → andThen v Accepted ≡ v
+unfolding andThen
+then-accepts Accepted = refl
+then-accepts (Refused m p) = refl
+
 -- ---- parts
 
 -- the sextets of the units from at to stop

@@ -27,7 +27,7 @@ use Rattle.format.specs.Report.{be4, refusal, reportAnswer, reportLeft}
 use Rattle.laws.specs.Domains.{Reader}
 use Rattle.laws.specs.Frames.{frames}
 use Rattle.laws.specs.Items.{rowsAt, leftAt, rows-nil, left-nil, rows-refused, left-refused, rows-item, left-item}
-use Rattle.laws.specs.Levels.{part, take-of-drop, any-item, frame-own, judge-own, level, level-end, level-item}
+use Rattle.laws.specs.Levels.{then-accepts, part, take-of-drop, any-item, frame-own, judge-own, level, level-end, level-item}
 use Rattle.claims.specs.Claims.{Demand3}
 use Rattle.claims.specs.Room.{report-fits}
 use Rattle.base.specs.Digits.{Below}
@@ -49,11 +49,6 @@ module _ (d : Domain) (xs : List ℕ) (f : Framed) (e : f ≡ frameRuled (d .sex
   top-item k h n q = rw (← e, q)
 
 -- ---- an item's verdict
-
-then-accepts : (v : Verdict) → andThen v Accepted ≡ v
-unfolding andThen
-then-accepts Accepted = refl
-then-accepts (Refused m p) = refl
 
 placed-shift : (u a : ℕ) (v : Verdict) → placed u (shift (4 * a) v) ≡ shift (a * u) (placed u v)
 unfolding placed shift

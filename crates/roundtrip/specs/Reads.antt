@@ -24,6 +24,7 @@ use Rattle.format.specs.Framing.{fit, second, digits4, headed, frameWith, sexte
 use Rattle.format.specs.Judging.{shift, andThen, unless, scan, behind, judgeKind, ownCheck}
 use Rattle.format.specs.Reading.{refused, found, isPrimitive, judged, readFramed, reading}
 use Rattle.format.specs.Writing.{codeSextets}
+use Rattle.laws.specs.Scan.{scan-below}
 use Rattle.laws.specs.Registry.{Code, one, two, four, Finds, fixed-finds}
 use Rattle.laws.specs.Framing.{Known, known-by, known-next, Good, Lawful, frame-good}
 use Rattle.roundtrip.specs.Bytes.{Quad, quad, quad-of, below-any}
@@ -229,11 +230,6 @@ frame-own s k h n f =
 
 -- ---- judging
 
-scan-low : (s : List ℕ) → Below 64 s → scan s ≡ Accepted
-unfolding scan shift
-scan-low [] none = refl
-scan-low (x ∷ s) (more p r) = rw (lt-ltb x 64 p, scan-low s r)
-
 never {ℓ} : {A : Type ℓ} (n p : ℕ) → Refused n p ≡ Accepted → A
 never n p e = let z : _≡_ {A = ℕ} 0 1 = cc in absurd (omega arith)
 
@@ -263,10 +259,10 @@ own-judges : (k : Kind) (h n : ℕ) (s : List ℕ) → Own k h n s → judgeKind
 unfolding judgeKind behind shift andThen unless
 own-judges (Fixed c) h n s o =
     let f = o .form in
-    rw (scan-low _ (below-drop 64 (4 * h) s (o .low)), f .zeros, f .prepad)
+    rw (scan-below _ (below-drop 64 (4 * h) s (o .low)), f .zeros, f .prepad)
 own-judges (Variable t l m) h n s o =
     let f = o .form in
-    rw (scan-low _ (below-drop 64 (4 * h) s (o .low)), f .led, f .zeros)
+    rw (scan-below _ (below-drop 64 (4 * h) s (o .low)), f .led, f .zeros)
 own-judges (Group l) h n s o = absurd (o .form)
 own-judges Genus h n s o = absurd (o .form)
 

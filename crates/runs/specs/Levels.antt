@@ -26,7 +26,7 @@ use Rattle.format.specs.Framing.{sextet, fit, headed, frameWith, ruled, frame, 
 use Rattle.format.specs.Judging.{shift, andThen, unless, scan, behind, zeroBits, prepadRight, judgeKind, ownCheck, inTurn, contents, group, judge}
 use Rattle.laws.specs.Framing.{Known, known-next}
 use Rattle.laws.specs.Scan.{scan-below}
-use Rattle.laws.specs.Levels.{part, part-length, part-drop, part-take, frameNext, shift-shift, level, level-end, level-item}
+use Rattle.laws.specs.Levels.{then-accepts, part, part-length, part-drop, part-take, frameNext, shift-shift, level, level-end, level-item}
 use Rattle.runs.specs.Plain.{known4, plainTable, rowIn, next, limited, sizedOf, plainOf, groupOf, unitBy, sizedAt, plainAt, groupAt, letterAt, run, nested}
 use Rattle.runs.specs.Opened.{Plain, plain-opens, sized-opens, small-opens, Entered, group-opens}
 
@@ -196,11 +196,6 @@ accepts : (x own : List ℕ) (n : ℕ) (q : Plain (sextet x 0) (sextet x 1) (sex
 unfolding judgeKind behind prepadRight unless andThen shift
 accepts x own n q y z b inner =
     rw (scan-below (drop 4 own) (below-drop 64 4 own b), q .passes own y z (all-low own b), eq-eqb (prepadOf (q .row)) 0 (q .bare))
-
-then-accepts : (v : Verdict) → andThen v Accepted ≡ v
-unfolding andThen
-then-accepts Accepted = refl
-then-accepts (Refused m p) = refl
 
 -- what is inside a group that is entered
 inside-group : (s : List ℕ) (at n m letter : ℕ) → 0 < m → isOpaque letter ≡ false

@@ -377,7 +377,7 @@ pub fn sized_run_text(
 }
 
 // The same of plain primitives.
-pub fn plain_run_text(
+fn plain_run_text(
     values: &[u8; 256],
     rows: &[u16; 128],
     s: &[u8],
