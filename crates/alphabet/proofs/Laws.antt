@@ -1,27 +1,24 @@
--- The comparisons of the scan, and what a clean block says of the first stranger. Assumes nothing.
-use mathlib.Core.Path.{_≡_, refl, _∙_, sym}
-use mathlib.Core.Bool.{Bool, true, false, _&&_, _||_}
+-- The distances of the scan, and what a clean block says of the first stranger. Assumes nothing.
+use mathlib.Core.Path.{_≡_, refl, sym}
+use mathlib.Core.Bool.{Bool, true, false}
 use mathlib.Core.List.{List, [], _∷_}
 use mathlib.Core.Logic.{⊎-elim}
-use Prim.Native.Nat.{ℕ, zero, suc, _+_, _<_, _≤_}
+use Prim.Native.Nat.{ℕ, zero, suc, _+_, _-_, _%_, _<_, _≤_, min}
 use native.Mathlib.Numerals.{add-one}
 use native.Mathlib.Omega.{arith}
-use lib.Dec.{T, leb, ltb, eqb, eqb→eq}
-use lib.ListN.{length, getD, drop}
-use lib.Seq.{drop-cons, drop-length}
-use borrow.Author.Tests.{lt-ltb, le-ltb}
-use Rattle.base.specs.Pick.{pick}
+use lib.Bits.{bitAnd, bitOr, bitXor, and-le-r, or-add-and}
+use lib.Dec.{T, leb, ltb, eqb, eqb→eq, eqb·suc-zero, leb·zero, leb·suc-zero, leb·suc-suc}
+use lib.ListN.{length, getD, drop, length-drop}
+use lib.Seq.{drop-cons, drop-length, drop-drop, getD-drop}
+use borrow.Author.Tests.{lt-ltb, le-ltb, le-leb, ne-eqb, leb-true}
 use Rattle.base.specs.Cases.{lt-or-ge}
+use Rattle.base.specs.Table.{both}
 use Rattle.base.specs.Below.{below}
 use Rattle.base.specs.Keys.{Missed, last-arm}
 use Rattle.format.specs.Alphabet.{sextetOf}
 use Rattle.format.specs.Conversion.{firstStranger}
-use Rattle.alphabet.specs.Blocks.{strangerBit, strangersAt}
 
 -- ---- one character
-
-abbrev isKnown : ℕ → Bool
-isKnown c = ((((leb 65 c && leb c 90) || (leb 97 c && leb c 122)) || (leb 48 c && leb c 57)) || eqb c 45) || eqb c 95
 
 abbrev same : Bool → Bool → Bool
 same true b = b
@@ -34,43 +31,35 @@ same-eq true false t = absurd t
 same-eq false true t = absurd t
 same-eq false false t = refl
 
+-- to the nearest part of the alphabet; less 65 is 191 more, modulo 256, and less 48 is 208 more
+abbrev distance : ℕ → ℕ
+distance c = min (min ((bitAnd c 223 + 191) % 256 - 25) ((c + 208) % 256 - 9)) (min (bitXor c 45) (bitXor c 95))
+
 isRight : ℕ → Bool
-isRight c = same (isKnown c) (ltb (sextetOf c) 64)
+isRight c = same (eqb (distance c) 0) (ltb (sextetOf c) 64)
 
-known-right : (c : ℕ) → c < 256 → isKnown c ≡ ltb (sextetOf c) 64
+distance-right : (c : ℕ) → c < 256 → eqb (distance c) 0 ≡ ltb (sextetOf c) 64
 unfolding isRight sextetOf
-known-right c h = same-eq (isKnown c) (ltb (sextetOf c) 64) (below isRight 256 tt c h)
+distance-right c h = same-eq (eqb (distance c) 0) (ltb (sextetOf c) 64) (below isRight 256 tt c h)
 
-pub bit-known : (c : ℕ) → c < 256 → isKnown c ≡ true → 0 ≡ strangerBit c
-unfolding strangerBit
-bit-known c h e = rw (sym (known-right c h) ∙ e)
-
-pub bit-stranger : (c : ℕ) → c < 256 → isKnown c ≡ false → 1 ≡ strangerBit c
-unfolding strangerBit
-bit-stranger c h e = rw (sym (known-right c h) ∙ e)
-
-pub bit-small : (c : ℕ) → strangerBit c ≤ 1
-unfolding strangerBit
-bit-small c = ⊎-elim (λ l. rw (lt-ltb (sextetOf c) 64 l) (omega arith)) (λ g. rw (le-ltb (sextetOf c) 64 g) (omega arith)) (lt-or-ge (sextetOf c) 64)
-
-bit-zero : (c : ℕ) → strangerBit c ≡ 0 → sextetOf c < 64
-unfolding strangerBit
-bit-zero c e = ⊎-elim (λ l. l) (λ g. absurd (omega (arith, rw (le-ltb (sextetOf c) 64 g) at e))) (lt-or-ge (sextetOf c) 64)
-
-bit-one : (c : ℕ) → (strangerBit c ≡ 0 → ⊥) → 64 ≤ sextetOf c
-unfolding strangerBit
-bit-one c n = ⊎-elim (λ l. absurd (n (rw (lt-ltb (sextetOf c) 64 l)))) (λ g. g) (lt-or-ge (sextetOf c) 64)
+-- what the code computes: w and v are the wrapped differences to `A` and `0`
+pub scanned : (c w v r : ℕ) → c < 256 → w < 256 → v < 256 → (w + 65) % 256 ≡ bitAnd c 223 → (v + 48) % 256 ≡ c
+    → r ≡ min (min (w - 25) (v - 9)) (min (bitXor c 45) (bitXor c 95)) → eqb r 0 ≡ ltb (sextetOf c) 64
+scanned c w v r hc hw hv letter digit e =
+    let ew : w ≡ (bitAnd c 223 + 191) % 256 = omega arith in
+    let ev : v ≡ (c + 208) % 256 = omega arith in
+    rw (e, ew, ev) (distance-right c hc)
 
 -- ---- the first stranger, a character at a time
 
-pub known-here : (s : List ℕ) (i : ℕ) → i < length s → strangerBit (getD s i 0) ≡ 0
+pub known-here : (s : List ℕ) (i : ℕ) → i < length s → ltb (sextetOf (getD s i 0)) 64 ≡ true
     → i + firstStranger (drop i s) ≡ (i + 1) + firstStranger (drop (i + 1) s)
 unfolding firstStranger
-known-here s i h k = rw (add-one, drop-cons s i 0 h, lt-ltb _ _ (bit-zero _ k)) (omega arith)
+known-here s i h k = rw (add-one, drop-cons s i 0 h, k) (omega arith)
 
-pub stranger-here : (s : List ℕ) (i : ℕ) → i < length s → (strangerBit (getD s i 0) ≡ 0 → ⊥) → firstStranger (drop i s) ≡ 0
+pub stranger-here : (s : List ℕ) (i : ℕ) → i < length s → ltb (sextetOf (getD s i 0)) 64 ≡ false → firstStranger (drop i s) ≡ 0
 unfolding firstStranger
-stranger-here s i h k = rw (drop-cons s i 0 h, le-ltb _ _ (bit-one _ k))
+stranger-here s i h k = rw (drop-cons s i 0 h, k)
 
 pub none-left : (s : List ℕ) (i : ℕ) → i ≡ length s → firstStranger (drop i s) ≡ 0
 unfolding firstStranger
@@ -78,22 +67,46 @@ none-left s i e = rw (e, drop-length)
 
 -- ---- a block at a time
 
-pub strangers-small : (s : List ℕ) (at n : ℕ) → strangersAt s at n ≤ n
-unfolding strangersAt
-strangers-small s at zero = omega arith
-strangers-small s at (suc n) = omega (arith, strangers-small s at n, bit-small (getD s (at + n) 0))
+-- two numbers have no bit set between them exactly if both are 0
+none-set : (x y : ℕ) → eqb (bitOr x y) 0 ≡ both (eqb x 0) (eqb y 0)
+none-set zero y = refl
+none-set (suc x) y =
+    rw (eqb·suc-zero x) (ne-eqb (bitOr (suc x) y) 0 (λ e. omega (arith, or-add-and (suc x) y, and-le-r (suc x) y)))
 
-pub strangers-more : (s : List ℕ) (at n : ℕ) → strangersAt s at n + strangerBit (getD s (at + n) 0) ≡ strangersAt s at (n + 1)
-unfolding strangersAt
-strangers-more s at n = rw (add-one n)
+-- one more than j are known exactly if j are, and the next
+known-more : (t : List ℕ) (j : ℕ) → j < length t
+    → leb (suc j) (firstStranger t) ≡ both (leb j (firstStranger t)) (ltb (sextetOf (getD t j 0)) 64)
+unfolding firstStranger
+known-more [] j h = absurd (omega arith)
+known-more (c ∷ t) zero h =
+    ⊎-elim (λ l. simp (lt-ltb (sextetOf c) 64 l, leb·zero) (le-leb 1 (suc (firstStranger t)) (omega arith)))
+    (λ g. simp (le-ltb (sextetOf c) 64 g, leb·suc-zero, leb·zero))
+    (lt-or-ge (sextetOf c) 64)
+known-more (c ∷ t) (suc j) h =
+    ⊎-elim (λ l. simp (lt-ltb (sextetOf c) 64 l, leb·suc-suc) (known-more t j (omega arith)))
+    (λ g. simp (le-ltb (sextetOf c) 64 g, leb·suc-zero))
+    (lt-or-ge (sextetOf c) 64)
 
-pub clean-block : (s : List ℕ) (at n : ℕ) → strangersAt s at n ≡ 0 → at + n ≤ length s
+pub block-more : (s : List ℕ) (at j bad x : ℕ) → at + j < length s
+    → eqb bad 0 ≡ leb j (firstStranger (drop at s)) → eqb x 0 ≡ ltb (sextetOf (getD s (at + j) 0)) 64
+    → eqb (bitOr bad x) 0 ≡ leb (j + 1) (firstStranger (drop at s))
+block-more s at j bad x h e k =
+    let l : j < length (drop at s) = rw length-drop (omega arith) in
+    rw (add-one j, none-set, known-more (drop at s) j l, getD-drop, e, k)
+
+-- what is left behind n that are known
+passed : (t : List ℕ) (n : ℕ) → n ≤ firstStranger t → firstStranger t ≡ n + firstStranger (drop n t)
+unfolding firstStranger
+passed t zero h = omega arith
+passed [] (suc n) h = absurd (omega arith)
+passed (c ∷ t) (suc n) h =
+    ⊎-elim (λ l. let e = lt-ltb (sextetOf c) 64 l in rw e (omega (arith, passed t n (omega (arith, rw e at h)))))
+    (λ g. absurd (omega (arith, rw (le-ltb (sextetOf c) 64 g) at h)))
+    (lt-or-ge (sextetOf c) 64)
+
+pub clean-block : (s : List ℕ) (at n : ℕ) → leb n (firstStranger (drop at s)) ≡ true
     → at + firstStranger (drop at s) ≡ (at + n) + firstStranger (drop (at + n) s)
-unfolding strangersAt
-clean-block s at zero z h = let e : at + 0 ≡ at = omega arith in rw e
-clean-block s at (suc n) z h =
-    let e : at + suc n ≡ at + n + 1 = omega arith in
-    rw e (clean-block s at n (omega arith) (omega arith) ∙ known-here s (at + n) (omega arith) (omega arith))
+clean-block s at n e = rw (← drop-drop n at s) (omega (arith, passed (drop at s) n (leb-true _ _ e)))
 
 -- ---- a character's value, told case by case
 

@@ -1,10 +1,10 @@
 // The URL-safe Base64 alphabet: characters to sextets and back, and the search for a character outside it.
 ghost use mathlib.Core.Path.{_≡_};
-ghost use Prim.Native.Nat.{_+_, _≤_};
-ghost use lib.ListN.{length};
+ghost use Prim.Native.Nat.{_+_, _-_, _≤_, min};
+ghost use lib.Dec.{eqb, leb, ltb};
+ghost use lib.ListN.{length, drop};
 ghost use Rattle.format.specs.Alphabet.{sextetOf, charOf, sextetTable, characterTable};
 ghost use Rattle.format.specs.Conversion.{firstStranger};
-ghost use Rattle.alphabet.specs.Blocks.{strangersAt, strangerBit};
 
 const SEXTETS: [u8; 256] = [
     64,
@@ -431,28 +431,39 @@ pub fn character(v: u8) -> u8
     }
 }
 
-// 1 for a character outside the alphabet, by comparisons that the back end turns into vector code.
-fn stranger(c: u8) -> u8
-    ensures { λ r. ⌜ r ≡ strangerBit c ⌝ }
+// How far a number is beyond the most of a range, 0 within it.
+fn beyond(x: u8, most: u8) -> u8
+    ensures { λ r. ⌜ r ≡ x - most ⌝ }
 {
-    let known = ((65 <= c) & (c <= 90))
-        | ((97 <= c) & (c <= 122))
-        | ((48 <= c) & (c <= 57))
-        | (c == 45)
-        | (c == 95);
-    if known { 0 } else { 1 }
+    if x < most { 0 } else { x - most }
 }
 
-// How many of the 64 characters from a place on are outside the alphabet. There is no early way out, so that it is vectorised.
+fn least(x: u8, y: u8) -> u8
+    ensures { λ r. ⌜ r ≡ min x y ⌝ }
+{
+    if x < y { x } else { y }
+}
+
+// 0 exactly for a character of the alphabet: how far it is from the letters, the digits, `-` or `_`, whichever is nearest. Without
+// the bit of 32 a small letter is a capital. Saturated differences and least values are vector operations on bytes.
+fn stranger(c: u8) -> u8
+    ensures { λ r. ⌜ eqb r 0 ≡ ltb (sextetOf c) 64 ⌝ }
+{
+    let letter = beyond(std::num::wrapping_sub_u8(c & 223, 65), 25);
+    let digit = beyond(std::num::wrapping_sub_u8(c, 48), 9);
+    least(least(letter, digit), least(c ^ 45, c ^ 95))
+}
+
+// 0 exactly if the 64 characters from a place on are all of the alphabet. There is no early way out, so that it is vectorised.
 fn strangers(s: &[u8], at: usize) -> u8
     requires { ⌜ at + 64 ≤ length (now s) ⌝ }
-    ensures { λ r. ⌜ r ≡ strangersAt (now (s .entry)) at 64 ⌝ }
+    ensures { λ r. ⌜ eqb r 0 ≡ leb 64 (firstStranger (drop at (now (s .entry)))) ⌝ }
 {
     let mut bad: u8 = 0;
     let mut j: usize = 0;
     while j < 64 {
         let x = stranger(s[at + j]);
-        bad = bad + x;
+        bad = bad | x;
         j = j + 1;
     }
     bad

@@ -1,7 +1,9 @@
+-- `first_stranger` meets its contract. Both loops' invariant: no stranger stands before i. Assumes nothing.
 use Prim.Native.Nat.{_+_, _≤_, _-_}
 use mathlib.Core.Path.{_≡_, sym, _∙_}
 use native.Mathlib.Omega.{arith}
 use lib.ListN.{length, drop}
+use borrow.Author.Tests.{eq-eqb, ne-eqb}
 use Rattle.format.specs.Conversion.{firstStranger}
 use Rattle.alphabet.proofs.Laws.{known-here, stranger-here, none-left, clean-block}
 use borrow.Author.Needs.{needs}
@@ -24,72 +26,58 @@ Inv-loop2 s i₀ i = (i ≤ length s) × (firstStranger s ≡ i + firstStranger 
 abbrev μ-loop2 : tie.MeasureT-loop2
 μ-loop2 s i₀ i = length s - i
 
--- src/lib.rt:402:5
 loop-holds : tie.Need-loop-holds Inv-loop μ-loop Inv-loop2 μ-loop2
 loop-holds c = search needs
 
--- src/lib.rt:403:12
 sub-if1 : tie.Need-sub-if1 Inv-loop μ-loop Inv-loop2 μ-loop2
 sub-if1 c = search needs
 
--- src/lib.rt:406:12
 strangers-requires : tie.Need-strangers-requires Inv-loop μ-loop Inv-loop2 μ-loop2
 strangers-requires c κs = search needs
 
--- src/lib.rt:409:13
 add-i : tie.Need-add-i Inv-loop μ-loop Inv-loop2 μ-loop2
 add-i c = search needs
 
--- src/lib.rt:402:5
 loop-less : tie.Need-loop-less Inv-loop μ-loop Inv-loop2 μ-loop2
 loop-less c = search needs
 
--- src/lib.rt:402:5
 loop-again : tie.Need-loop-again Inv-loop μ-loop Inv-loop2 μ-loop2
 loop-again c =
     let l = c .before .before .before .before in
     let s = l .before .before .args .s .now in (
       search needs,
-      omega (arith, clean-block s (l .loop .i) 64 (sym (c .before .strangers .ensures) ∙ c .if2 .left) (omega arith)),
+      omega (arith, clean-block s (l .loop .i) 64 (sym (c .before .strangers .ensures) ∙ eq-eqb _ 0 (c .if2 .left))),
     )
 
--- src/lib.rt:411:5
 loop2-holds : tie.Need-loop2-holds Inv-loop μ-loop Inv-loop2 μ-loop2
 loop2-holds c = search needs
 
--- src/lib.rt:412:21
 shared-slice-read-stranger : tie.Need-shared-slice-read-stranger Inv-loop μ-loop Inv-loop2 μ-loop2
 shared-slice-read-stranger c = search needs
 
--- src/lib.rt:412:12
 stranger-requires : tie.Need-stranger-requires Inv-loop μ-loop Inv-loop2 μ-loop2
 stranger-requires c κs = search needs
 
--- src/lib.rt:413:13
 returns : tie.Need-returns Inv-loop μ-loop Inv-loop2 μ-loop2
 returns c =
     let l = c .before .before .before .before in
     let s = l .before .before .before .before .args .s .now in
-    omega (arith, stranger-here s (l .loop2 .i) (search needs) (rw (c .before .stranger .ensures) at (c .if3 .taken)))
+    omega (arith, stranger-here s (l .loop2 .i) (search needs) (sym (c .before .stranger .ensures) ∙ ne-eqb _ 0 (c .if3 .taken)))
 
--- src/lib.rt:415:13
 add-i-2 : tie.Need-add-i-2 Inv-loop μ-loop Inv-loop2 μ-loop2
 add-i-2 c = search needs
 
--- src/lib.rt:411:5
 loop2-less : tie.Need-loop2-less Inv-loop μ-loop Inv-loop2 μ-loop2
 loop2-less c = search needs
 
--- src/lib.rt:411:5
 loop2-again : tie.Need-loop2-again Inv-loop μ-loop Inv-loop2 μ-loop2
 loop2-again c =
     let l = c .before .before .before .before in
     let s = l .before .before .before .before .args .s .now in (
       search needs,
-      omega (arith, known-here s (l .loop2 .i) (search needs) (sym (c .before .stranger .ensures) ∙ c .if3 .left)),
+      omega (arith, known-here s (l .loop2 .i) (search needs) (sym (c .before .stranger .ensures) ∙ eq-eqb _ 0 (c .if3 .left))),
     )
 
--- src/lib.rt:398:1
 returns-2 : tie.Need-returns-2 Inv-loop μ-loop Inv-loop2 μ-loop2
 returns-2 c = omega (arith, none-left (c .before .before .before .before .before .args .s .now) (c .before .loop2 .i) (omega arith))
 
