@@ -27,14 +27,14 @@ use Rattle.format.specs.Report.{be4, refusal, reportAnswer, reportLeft}
 use Rattle.laws.specs.Domains.{Reader}
 use Rattle.laws.specs.Frames.{frames}
 use Rattle.laws.specs.Items.{rowsAt, leftAt, rows-nil, left-nil, rows-refused, left-refused, rows-item, left-item}
-use Rattle.laws.specs.Levels.{then-accepts, part, take-of-drop, any-item, frame-own, judge-own, level, level-end, level-item}
+use Rattle.laws.specs.Levels.{then-accepts, part, take-of-drop, any-item, item-sizes, frame-own, judge-own, level, level-end, level-item}
 use Rattle.claims.specs.Claims.{Demand3}
 use Rattle.claims.specs.Room.{report-fits}
-use Rattle.base.specs.Digits.{Below}
 use Rattle.runs.specs.Plain.{plainTable, sizedAt, plainAt, groupAt, letterAt, sextetsBy}
 use Rattle.runs.specs.Tables.{by-table}
-use Rattle.runs.specs.Levels.{Sized, plain-drop, sized-drop, group-drop, plain-level, by-items}
-use Rattle.runs.specs.Runs.{Run, Clean, item-known}
+use Rattle.runs.specs.Levels.{Clear, clear-less, Sized, plain-drop, sized-drop, group-drop, plain-level, by-items}
+use Rattle.runs.specs.Runs.{Run}
+use Rattle.report.specs.Steps.{sizeOf, numberOf, placeOf}
 use Rattle.report.specs.Filling.{rowWith, turn, Filled, filled-room, filled-more, filled-counts, filled-end, rowsOnto, stores-good, count-good, no-rest, one-rest, one-rest-long}
 
 -- ---- top-level framing, in elements
@@ -47,6 +47,11 @@ module _ (d : Domain) (xs : List ℕ) (f : Framed) (e : f ≡ frameRuled (d .sex
   pub top-item : (k : Kind) (h n : ℕ) → f ≡ Item k h n → frameIn d xs ≡ Item k (h * d .unit) (n * d .unit)
   unfolding frameIn scale
   top-item k h n q = rw (← e, q)
+
+-- ---- elements, u to the unit
+
+pub in-elements : (u a r m : ℕ) → u * (a + r * m) ≡ u * a + r * (u * m)
+in-elements u a r m = mul-add u a (r * m) ∙ ap (λ (x : ℕ). u * a + x) (sym (mul-assoc u r m) ∙ ap (λ (x : ℕ). x * m) (mul-comm u r) ∙ mul-assoc r u m)
 
 -- ---- an item's verdict
 
@@ -202,27 +207,35 @@ module _ (d : Domain) (G : Reader d) (xs o : List ℕ) (n : ℕ) (is-n : n ≡ l
       let w = filled-end d xs o n is-n G at i k out φ (count-end d G xs at l) _ t in
       (omega (arith, w .1), c ∙ w .0)
 
+-- ---- a framed item by its size
+
+pub sized-item : (f : Framed) (m : ℕ) → m ≡ sizeOf f → 0 < m → (k : Kind) × (h : ℕ) × (f ≡ Item k h m)
+unfolding sizeOf
+sized-item (Item k h n) m e p = (k, h, rw e)
+sized-item (Unframed n q) m e p = absurd (omega arith)
+
+pub sized-none : (xs : List ℕ) (f : Framed) → f ≡ frameRuled xs → 0 ≡ sizeOf f → f ≡ Unframed (numberOf f) (placeOf f)
+unfolding sizeOf numberOf placeOf
+sized-none xs (Item k h n) e z = absurd (omega (arith, item-sizes xs k h n (any-item true xs k h n (sym e))))
+sized-none xs (Unframed n q) e z = refl
+
 -- ---- rows of a run
 
 -- in elements, u to the unit
-pub run-bytes : (u a r m most : ℕ) → u * (a + r * m) ≤ most → u * a + r * (u * m) ≤ most
-run-bytes u a r m most h =
-    let z : u * (a + r * m) ≡ u * a + r * (u * m) = mul-add u a (r * m) ∙ ap (λ (x : ℕ). u * a + x) (sym (mul-assoc u r m) ∙ ap (λ (x : ℕ). x * m) (mul-comm u r) ∙ mul-assoc r u m) in
-    rw (← z) h
-
-pub onto-start : (i at size : ℕ) (out : List ℕ) → (at ≡ at + 0 * size) × (out ≡ rowsOnto i at size 0 out)
+pub onto-start : (i at size : ℕ) (out : List ℕ) → out ≡ rowsOnto i at size 0 out
 unfolding rowsOnto
-onto-start i at size out = (omega arith, refl)
+onto-start i at size out = refl
 
-pub onto-more : (i at size j : ℕ) (out mid after : List ℕ) (p : ℕ) → mid ≡ rowsOnto i at size j out → p ≡ at + j * size
-    → after ≡ sets mid (4 + 9 * (i + j)) (be4 p ++ (be4 size ++ (0 ∷ []))) → (p + size ≡ at + (j + 1) * size) × (after ≡ rowsOnto i at size (j + 1) out)
+pub onto-more : (i at u size r : ℕ) (out mid after : List ℕ) (p : ℕ) → mid ≡ rowsOnto i (u * at) (u * size) r out → p ≡ at + r * size
+    → after ≡ sets mid (4 + 9 * (i + r)) (be4 (u * p) ++ (be4 (u * size) ++ (0 ∷ []))) → after ≡ rowsOnto i (u * at) (u * size) (r + 1) out
 unfolding rowsOnto
-onto-more i at size j out mid after p e q f =
-    let z : j + 1 ≡ suc j = omega arith in
-    (rw z (omega (arith, suc-mul j size)), rw (z, f, e, q))
+onto-more i at u size r out mid after p e q f =
+    let z : r + 1 ≡ suc r = omega arith in
+    let y : u * p ≡ u * at + r * (u * size) = rw q (in-elements u at r size) in
+    rw (z, f, e, y)
 
-pub onto-room : (at size r j most : ℕ) → at + r * size ≤ most → j < r → at + j * size + size ≤ most
-onto-room at size r j most h l = let x : suc j * size ≤ r * size = mul-le-mul-right size l in omega (arith, suc-mul j size)
+pub next-place : (p at size r : ℕ) → p ≡ at + r * size → p + size ≡ at + (r + 1) * size
+next-place p at size r e = let z : r + 1 ≡ suc r = omega arith in rw z (omega (arith, suc-mul r size))
 
 -- ---- what a first unit alone decides, at top level
 
@@ -239,12 +252,20 @@ module _ (d : Domain) (G : Reader d) (u : ℕ) (is-u : d .unit ≡ u) (xs : List
   in-units : (a : ℕ) → a ≤ length xs / u → u * a ≤ length xs
   in-units a h = rw (mul-comm u a) (le-div-iff-mul-le {k = u} {x = a} {y = length xs} (rw is-u at (G .pos)) .0 h)
 
-  pub group-item : (a n l : ℕ) → n ≡ groupAt (d .sextets xs) a → 0 < n → u * a ≤ length xs → n ≤ length xs / u - a → l ≡ letterAt (d .sextets xs) a
-      → Item (Group l) 1 n ≡ frameRuled (d .sextets (drop (u * a) xs))
-  group-item a n l e p h r q =
-      rw (top-drop a h, q) (sym (group-drop (d .sextets xs) a n (sym e) p (omega (arith, units-of))))
+  pub group-item : (a n to : ℕ) → Clear (d .sextets xs) a to → a < to → groupAt (d .sextets xs) a ≡ n → 0 < n → a + n ≤ length (d .sextets xs) / 4
+      → Item (Group (letterAt (d .sextets xs) a)) 1 n ≡ frameRuled (d .sextets (drop (u * a) xs))
+  group-item a n to K l e p r =
+      rw (top-drop a (in-units a (omega (arith, units-of)))) (sym (group-drop (d .sextets xs) a to K l n e p r))
 
-  -- r primitives of k units from a unit on, framed
+  -- a first unit's size is the frame's
+  pub size-item : (a n to : ℕ) → Clear (d .sextets xs) a to → a < to → sizedAt plainTable (d .sextets xs) a ≡ n → 0 < n → a + n ≤ length xs / u
+      → n ≡ sizeOf (frameRuled (d .sextets (drop (u * a) xs)))
+  unfolding sizeOf
+  size-item a n to K l e p r =
+      let q = sized-drop (d .sextets xs) a to K l n e p (omega (arith, units-of)) in
+      rw (top-drop a (in-units a (omega arith)), q .framed true)
+
+  -- r items of k units from a unit on, framed
   module _ (k a r : ℕ) (nth : (j : ℕ) → j < r → Sized (d .sextets (drop (u * (a + j * k)) xs)) k) where
     pub count-run : (i : ℕ) → length (rowsIn d xs) ≡ i + length (rowsAt d (u * a) (drop (u * a) xs))
         → length (rowsIn d xs) ≡ i + r + length (rowsAt d (u * (a + r * k)) (drop (u * (a + r * k)) xs))
@@ -255,49 +276,55 @@ module _ (d : Domain) (G : Reader d) (u : ℕ) (is-u : d .unit ≡ u) (xs : List
         let z : u * (a + j * k) + k * d .unit ≡ u * (a + j * k + k) = rw is-u (rw (mul-comm k u) (sym (mul-add u (a + j * k) k))) in
         e ∙ rw (count-more d G xs (u * (a + j * k)) t, z) (omega arith)) (let z : i + 0 ≡ i = omega arith in rw z s)
 
-  pub nth-sized : (k a r : ℕ) → Run (sizedAt plainTable (d .sextets xs)) k (length xs / u) a r → (j : ℕ) → j < r → Sized (d .sextets (drop (u * (a + j * k)) xs)) k
-  nth-sized k a r R j h =
-      let z = R .each j h in
-      rw (top-drop (a + j * k) (in-units (a + j * k) (omega arith)))
-      (sized-drop (d .sextets xs) (a + j * k) k (z .0) (R .some) (omega (arith, units-of)))
-
-  nth-plain : (k a r : ℕ) → Run (plainAt plainTable (d .sextets xs)) k (length xs / u) a r → (j : ℕ) → j < r → Sized (d .sextets (drop (u * (a + j * k)) xs)) k
-  nth-plain k a r R j h =
-      let z = R .each j h in
-      let q = plain-drop (d .sextets xs) (a + j * k) k (z .0) (R .some) (omega (arith, units-of)) in
-      rw (top-drop (a + j * k) (in-units (a + j * k) (omega arith))) (record { kind = Fixed (q .plain .row); framed = q .framed })
-
-  -- the rows of a run
-  module _ (o : List ℕ) (n : ℕ) (is-n : n ≡ length (rowsIn d xs)) (a i k : ℕ) (out : List ℕ) (φ : Filled d xs o n (u * a) i k out)
-      (m r : ℕ) (R : Run (plainAt plainTable (d .sextets xs)) m (length xs / u) a r) where
-    pub run-room : i + r ≤ n
-    run-room =
-        let e = ap length (φ .rows-are) ∙ length-append (φ .rs) (rowsAt d (u * a) (drop (u * a) xs)) in
-        let c = count-run m a r (nth-plain m a r R) i (e ∙ ap (λ (j : ℕ). j + length (rowsAt d (u * a) (drop (u * a) xs))) (φ .items)) in
-        omega arith
-
-    accepted : Below 64 (part (d .sextets xs) a (a + r * m)) → (j : ℕ) → j < r → Accepted ≡ level (d .sextets xs) maxDepth false (a + j * m) (a + j * m + m)
-    accepted b j h =
+  -- of items by a rule that end in front of a unit, where all is known from another on
+  module _ (k stop a r c : ℕ) (K : Clear (d .sextets xs) c stop) (l : c ≤ a) (fits : stop ≤ length xs / u) where
+    pub nth-sized : Run (sizedAt plainTable (d .sextets xs)) k stop a r → (j : ℕ) → j < r → Sized (d .sextets (drop (u * (a + j * k)) xs)) k
+    nth-sized R j h =
         let z = R .each j h in
-        let s : List ℕ = d .sextets xs in
-        let at : ℕ = a + j * m in
-        let long : 4 * (at + m) ≤ length s = omega (arith, units-of) in
-        sym (plain-level s maxDepth (at + m) long false at m (z .0) (R .some) (omega arith) (item-known s m a r b j h) ∙ level-end s maxDepth false (at + m))
+        let s = R .some in
+        let b = clear-less (d .sextets xs) c stop (a + j * k) stop K (omega arith) (omega arith) in
+        rw (top-drop (a + j * k) (in-units (a + j * k) (omega arith)))
+        (sized-drop (d .sextets xs) (a + j * k) stop b (omega arith) k (z .0) s (omega (arith, units-of)))
 
-    pub fill-run : Below 64 (part (d .sextets xs) a (a + r * m)) → (out′ : List ℕ) → out′ ≡ rowsOnto i (u * a) (u * m) r out
-        → Filled d xs o n (u * (a + r * m)) (i + r) k out′
-    unfolding rowsOnto
-    fill-run b out′ e =
-        rw e
-        (by-items (λ (j : ℕ) (at : ℕ). Filled d xs o n (u * at) (i + j) k (rowsOnto i (u * a) (u * m) j out)) m a r
-        (λ j h ψ.
-        let z : u * a + j * (u * m) ≡ u * (a + j * m) = sym (mul-add u a (j * m) ∙ ap (λ (x : ℕ). u * a + x) (sym (mul-assoc u j m) ∙ ap (λ (x : ℕ). x * m) (mul-comm u j) ∙ mul-assoc j u m)) in
-        let y : i + suc j ≡ i + j + 1 = omega arith in
-        rw (y, z)
-        (turn-more d G u is-u xs o n is-n (a + j * m) (i + j) k (rowsOnto i (u * a) (u * m) j out) ψ _ refl _ _ _ (nth-plain m a r R j h .framed true)
-        (in-units (a + j * m) (omega (arith, R .each j h .1))) Accepted (accepted b j h) Accepted (placed-accepted u) k (count-good k (i + j)) _
-        (sym (stores-good n (i + j) k (u * (a + j * m)) (u * m) (rowsOnto i (u * a) (u * m) j out)))))
-        (let y : i + 0 ≡ i = omega arith in rw y φ))
+    module _ (R : Run (plainAt plainTable (d .sextets xs)) k stop a r) where
+      nth-plain : (j : ℕ) → j < r → Sized (d .sextets (drop (u * (a + j * k)) xs)) k
+      nth-plain j h =
+          let z = R .each j h in
+          let s = R .some in
+          let b = clear-less (d .sextets xs) c stop (a + j * k) stop K (omega arith) (omega arith) in
+          let q = plain-drop (d .sextets xs) (a + j * k) stop b (omega arith) k (z .0) s (omega (arith, units-of)) in
+          rw (top-drop (a + j * k) (in-units (a + j * k) (omega arith))) (record { kind = q .plain .told .kind; framed = q .framed })
+
+      accepted : (j : ℕ) → j < r → Accepted ≡ level (d .sextets xs) maxDepth false (a + j * k) (a + j * k + k)
+      accepted j h =
+          let z = R .each j h in
+          let s : List ℕ = d .sextets xs in
+          let at : ℕ = a + j * k in
+          let b = clear-less s c stop at stop K (omega arith) (omega arith) in
+          let long : 4 * (at + k) ≤ length s = omega (arith, units-of) in
+          sym (plain-level s maxDepth (at + k) long false at k stop (z .0) (R .some) (omega arith) b (omega arith) ∙ level-end s maxDepth false (at + k))
+
+      -- the rows of a run
+      module _ (o : List ℕ) (n : ℕ) (is-n : n ≡ length (rowsIn d xs)) (i b : ℕ) (out : List ℕ) (φ : Filled d xs o n (u * a) i b out) where
+        pub run-room : i + r ≤ n
+        run-room =
+            let e = ap length (φ .rows-are) ∙ length-append (φ .rs) (rowsAt d (u * a) (drop (u * a) xs)) in
+            let c = count-run k a r nth-plain i (e ∙ ap (λ (j : ℕ). j + length (rowsAt d (u * a) (drop (u * a) xs))) (φ .items)) in
+            omega arith
+
+        pub fill-run : (out′ : List ℕ) → out′ ≡ rowsOnto i (u * a) (u * k) r out → Filled d xs o n (u * (a + r * k)) (i + r) b out′
+        unfolding rowsOnto
+        fill-run out′ e =
+            rw e
+            (by-items (λ (j : ℕ) (at : ℕ). Filled d xs o n (u * at) (i + j) b (rowsOnto i (u * a) (u * k) j out)) k a r
+            (λ j h ψ.
+            let z : u * a + j * (u * k) ≡ u * (a + j * k) = sym (in-elements u a j k) in
+            let y : i + suc j ≡ i + j + 1 = omega arith in
+            rw (y, z)
+            (turn-more d G u is-u xs o n is-n (a + j * k) (i + j) b (rowsOnto i (u * a) (u * k) j out) ψ _ refl _ _ _ (nth-plain j h .framed true)
+            (in-units (a + j * k) (omega (arith, R .each j h .1))) Accepted (accepted j h) Accepted (placed-accepted u) b (count-good b (i + j)) _
+            (sym (stores-good n (i + j) b (u * (a + j * k)) (u * k) (rowsOnto i (u * a) (u * k) j out)))))
+            (let y : i + 0 ≡ i = omega arith in rw y φ))
 
 -- ---- a text's sextets by the table
 

@@ -1,24 +1,30 @@
 // The report of a stream, text or binary, into a lent buffer: items, refusals, remainder, each after its count. A first pass counts
 // the items, since room is asked by them; a second judges each item once and stores its rows where they are to stand. The tables of
-// characters and codes are named once and lent. Positions count units, and places within the judging sextets.
+// characters, codes and groups are named once and lent. Positions count units, and places within the judging sextets. In text,
+// `clean` is a unit in front of which, from the present one on, all characters are known: what is read there needs no look at them.
 use format::Framed;
 use format::Kind;
 use format::Reported;
 use format::Verdict;
 use judging::MAX_DEPTH;
 ghost use mathlib.Core.Path.{_≡_};
+ghost use mathlib.Core.Bool.{false};
 ghost use mathlib.Core.List.{[], _∷_, _++_};
-ghost use Prim.Native.Nat.{_+_, _*_, _≤_, _<_};
+ghost use Prim.Native.Nat.{ℕ, _+_, _-_, _*_, _/_, _≤_, _<_, min};
 ghost use lib.ListN.{length, drop};
 ghost use lib.Seq.{sets};
+ghost use Rattle.format.specs.Alphabet.{sextetOf, sextetTable};
 ghost use Rattle.format.specs.Units.{text, binary, textSextets, binarySextets};
 ghost use Rattle.format.specs.Framing.{frameRuled};
+ghost use Rattle.format.specs.Judging.{maxDepth};
 ghost use Rattle.format.specs.Report.{be4, rowsIn, report, refusal, placed, reportAnswer, reportLeft};
-ghost use Rattle.format.specs.Alphabet.{sextetTable};
 ghost use Rattle.laws.specs.Levels.{level};
-ghost use Rattle.runs.specs.Plain.{plainTable};
+ghost use Rattle.runs.specs.Plain.{plainTable, classTable, sizedAt, plainAt, groupAt};
+ghost use Rattle.runs.specs.Levels.{Clear};
+ghost use Rattle.runs.specs.Runs.{Run};
 ghost use Rattle.contents.specs.Next.{Judged};
 ghost use Rattle.report.specs.Filling.{turn, rowWith, rowsOnto};
+ghost use Rattle.report.specs.Steps.{sizeOf, numberOf, Passed, Entered, Grouped};
 
 // ---- stores
 
@@ -77,20 +83,6 @@ fn put_item(
     }
 }
 
-// The rows of r accepted items of one size that follow one another, from the i-th on.
-fn put_rows(out: &mut [u8], i: usize, offset: usize, size: usize, r: usize)
-    requires { ⌜ (4 + 9 * (i + r) ≤ length (now out)) × (offset + r * size ≤ 4194304) ⌝ }
-    ensures { λ _. ⌜ now (out .exit) ≡ rowsOnto i offset size r (now (out .entry)) ⌝ }
-{
-    let mut at = offset;
-    let mut j = 0;
-    while j < r {
-        put_row(out, 4 + 9 * (i + j), at, size, 0);
-        at = at + size;
-        j = j + 1;
-    }
-}
-
 // The count of refusals, and no remainder: the report's length.
 fn finish(out: &mut [u8], n: usize, k: usize) -> usize
     requires { ⌜ (17 + 18 * n ≤ length (now out)) × (k ≤ n) ⌝ }
@@ -111,19 +103,129 @@ fn finish_rest(out: &mut [u8], n: usize, k: usize, offset: usize, number: u8) ->
     17 + 9 * n + 9 * k
 }
 
+fn least(x: usize, y: usize) -> usize
+    ensures { λ r. ⌜ r ≡ min x y ⌝ }
+{
+    if x < y { x } else { y }
+}
+
+// The value of a character, by the table.
+fn sextet_in(values: &[u8; 256], c: u8) -> u8
+    requires { ⌜ now values ≡ sextetTable ⌝ }
+    ensures { λ r. ⌜ r ≡ sextetOf c ⌝ }
+{
+    values[c as usize]
+}
+
+fn size_of(f: Framed) -> usize
+    ensures { λ r. ⌜ r ≡ sizeOf f ⌝ }
+{
+    match f {
+        Framed::Item {
+            kind: _,
+            head: _,
+            size,
+        } => size,
+        Framed::Unframed {
+            number: _,
+            place: _,
+        } => 0,
+    }
+}
+
+fn number_of(f: Framed) -> u8
+    ensures { λ r. ⌜ r ≡ numberOf f ⌝ }
+{
+    match f {
+        Framed::Item {
+            kind: _,
+            head: _,
+            size: _,
+        } => 0,
+        Framed::Unframed { number, place: _ } => number,
+    }
+}
+
 // ---- text
+
+// How far the characters from a unit on are known, where they are known up to another.
+fn clean_from(s: &[u8], at: usize, clean: usize) -> usize
+    requires { ⌜ (4 * at ≤ length (now s)) × Clear (textSextets (now s)) at clean ⌝ }
+    ensures { λ r. ⌜ Clear (textSextets (now (s .entry))) at r ⌝ }
+{
+    if at < clean {
+        return clean;
+    }
+    let from = 4 * at;
+    at + alphabet::first_stranger(&s[from..]) / 4
+}
+
+// The plain primitive at a unit, if it is known and ends in front of another unit: its size, else 0.
+fn passed_text(
+    values: &[u8; 256],
+    rows: &[u16; 192],
+    s: &[u8],
+    clean: usize,
+    at: usize,
+    stop: usize,
+) -> usize
+    requires { ⌜ (now values ≡ sextetTable) × (now rows ≡ plainTable) × (at ≤ stop) ⌝ }
+    ensures { λ r. ⌜ Passed (textSextets (now (s .entry))) clean at stop r ⌝ }
+{
+    let k = runs::plain_text(values, rows, s, at);
+    if clean < stop {
+        if clean < at {
+            return 0;
+        }
+        if clean - at < k {
+            return 0;
+        }
+    }
+    if stop - at < k {
+        return 0;
+    }
+    k
+}
+
+// The small group at a unit, if its header is known, it ends in front of another unit and may be entered: its size, else 0.
+fn entered_text(
+    values: &[u8; 256],
+    classes: &[u8; 256],
+    s: &[u8],
+    clean: usize,
+    levels: usize,
+    at: usize,
+    stop: usize,
+) -> usize
+    requires { ⌜ (now values ≡ sextetTable) × (now classes ≡ classTable) × (at ≤ stop) ⌝ }
+    ensures { λ r. ⌜ Entered (textSextets (now (s .entry))) clean levels at stop r ⌝ }
+{
+    if levels == 0 {
+        return 0;
+    }
+    if clean <= at {
+        return 0;
+    }
+    let g = runs::group_text(values, classes, s, at);
+    if stop - at < g {
+        return 0;
+    }
+    g
+}
 
 // The next item from a unit on, framed and judged whole: its size, or its refusal, with the place in sextets of the stream.
 fn item_text(
     values: &[u8; 256],
-    rows: &[u16; 128],
+    classes: &[u8; 256],
+    rows: &[u16; 192],
     s: &[u8],
+    clean: usize,
     levels: usize,
     first: bool,
     at: usize,
     stop: usize,
 ) -> Framed
-    requires { ⌜ (now values ≡ sextetTable) × (now rows ≡ plainTable) × (4 * stop ≤ length (now s)) × (at < stop) × (length (now s) ≤ 4194304) ⌝ }
+    requires { ⌜ (now values ≡ sextetTable) × (now classes ≡ classTable) × (now rows ≡ plainTable) × (4 * stop ≤ length (now s)) × (at < stop) × (length (now s) ≤ 4194304) × Clear (textSextets (now s)) at clean ⌝ }
     ensures { λ r. ⌜ Judged (textSextets (now (s .entry))) levels first at stop r ⌝ }
 {
     let from = 4 * at;
@@ -137,7 +239,17 @@ fn item_text(
         Framed::Item { kind, head, size } => {
             if contents::is_entered(kind) {
                 let ruled = contents::is_ruled(kind);
-                let v = level_text(values, rows, s, levels - 1, ruled, at + head, at + size);
+                let v = level_text(
+                    values,
+                    classes,
+                    rows,
+                    s,
+                    clean,
+                    levels - 1,
+                    ruled,
+                    at + head,
+                    at + size,
+                );
                 judging::told(next, v)
             } else {
                 next
@@ -146,37 +258,54 @@ fn item_text(
     }
 }
 
-// The items from a unit to the end of their group, where so many more groups may be entered. A group that ends with what is around
-// it is entered in place, and runs are passed at once.
+// The items from a unit to the end of their group, where so many more groups may be entered.
 fn level_text(
     values: &[u8; 256],
-    rows: &[u16; 128],
+    classes: &[u8; 256],
+    rows: &[u16; 192],
     s: &[u8],
+    clean: usize,
     levels: usize,
     first: bool,
     at: usize,
     stop: usize,
 ) -> Verdict
-    requires { ⌜ (now values ≡ sextetTable) × (now rows ≡ plainTable) × (4 * stop ≤ length (now s)) × (at ≤ stop) × (length (now s) ≤ 4194304) ⌝ }
+    requires { ⌜ (now values ≡ sextetTable) × (now classes ≡ classTable) × (now rows ≡ plainTable) × (4 * stop ≤ length (now s)) × (at ≤ stop) × (length (now s) ≤ 4194304) × Clear (textSextets (now s)) at clean ⌝ }
     ensures { λ r. ⌜ r ≡ level (textSextets (now (s .entry))) levels first at stop ⌝ }
 {
     let mut i = at;
     let mut ruled = first;
-    let mut left = levels;
     while i < stop {
-        let d = runs::nested_text(values, s, i, stop, left);
-        if 0 < d {
-            i = i + d;
-            left = left - d;
-            ruled = runs::letter_text(values, s, i - 1) < 3;
+        let k = passed_text(values, rows, s, clean, i, stop);
+        if 0 < k {
+            i = i + k;
+            ruled = false;
         } else {
-            let k = runs::plain_text(values, rows, s, i);
-            let r = runs::clean_run_text(values, rows, s, i, stop, k);
-            if 0 < r {
-                i = i + r * k;
-                ruled = false;
+            let g = entered_text(values, classes, s, clean, levels, i, stop);
+            if 0 < g {
+                let marks = runs::marks_text(classes, s, i);
+                let v = level_text(
+                    values,
+                    classes,
+                    rows,
+                    s,
+                    clean,
+                    levels - 1,
+                    marks,
+                    i + 1,
+                    i + g,
+                );
+                match v {
+                    Verdict::Refused { number, place } => {
+                        return Verdict::Refused { number, place };
+                    }
+                    Verdict::Accepted => {
+                        i = i + g;
+                        ruled = false;
+                    }
+                }
             } else {
-                match item_text(values, rows, s, left, ruled, i, stop) {
+                match item_text(values, classes, rows, s, clean, levels, ruled, i, stop) {
                     Framed::Unframed { number, place } => {
                         return Verdict::Refused { number, place };
                     }
@@ -195,93 +324,238 @@ fn level_text(
     Verdict::Accepted
 }
 
-// The item at a unit, framed.
-fn next_text(values: &[u8; 256], s: &[u8], a: usize) -> Framed
-    requires { ⌜ (now values ≡ sextetTable) × (4 * a ≤ length (now s)) ⌝ }
-    ensures { λ r. ⌜ r ≡ frameRuled (textSextets (drop (4 * a) (now (s .entry)))) ⌝ }
+// The verdict on a framed group. Groups one in the other around a plain primitive need no walk.
+fn nest_text(
+    values: &[u8; 256],
+    classes: &[u8; 256],
+    rows: &[u16; 192],
+    s: &[u8],
+    clean: usize,
+    at: usize,
+    stop: usize,
+) -> Verdict
+    requires { ⌜ (now values ≡ sextetTable) × (now classes ≡ classTable) × (now rows ≡ plainTable) × (4 * stop ≤ length (now s)) × (at < stop) × (length (now s) ≤ 4194304) × Clear (textSextets (now s)) at clean × (groupAt (textSextets (now s)) at ≡ stop - at) × (at < clean) ⌝ }
+    ensures { λ r. ⌜ r ≡ level (textSextets (now (s .entry))) maxDepth false at stop ⌝ }
 {
-    let g = runs::group_text(values, s, a);
-    if 0 < g {
-        if g <= s.len() / 4 - a {
-            let letter = runs::letter_text(values, s, a);
-            return Framed::Item {
-                kind: Kind::Group { letter },
-                head: 1,
-                size: g,
-            };
+    if stop <= clean {
+        let d = runs::nested_text(values, classes, s, at + 1, stop, MAX_DEPTH - 1);
+        let i = at + 1 + d;
+        if runs::plain_text(values, rows, s, i) == stop - i {
+            return Verdict::Accepted;
         }
     }
-    let at = 4 * a;
-    framing::frame_ruled_text(&s[at..])
+    level_text(values, classes, rows, s, clean, MAX_DEPTH, false, at, stop)
+}
+
+// The verdict on any framed item. A plain primitive needs no walk.
+fn verdict_text(
+    values: &[u8; 256],
+    classes: &[u8; 256],
+    rows: &[u16; 192],
+    s: &[u8],
+    clean: usize,
+    at: usize,
+    stop: usize,
+) -> Verdict
+    requires { ⌜ (now values ≡ sextetTable) × (now classes ≡ classTable) × (now rows ≡ plainTable) × (4 * stop ≤ length (now s)) × (at < stop) × (length (now s) ≤ 4194304) × Clear (textSextets (now s)) at clean ⌝ }
+    ensures { λ r. ⌜ r ≡ level (textSextets (now (s .entry))) maxDepth false at stop ⌝ }
+{
+    if passed_text(values, rows, s, clean, at, stop) == stop - at {
+        return Verdict::Accepted;
+    }
+    level_text(values, classes, rows, s, clean, MAX_DEPTH, false, at, stop)
+}
+
+// The item at a unit, framed.
+fn framed_text(s: &[u8], at: usize) -> Framed
+    requires { ⌜ 4 * at ≤ length (now s) ⌝ }
+    ensures { λ r. ⌜ r ≡ frameRuled (textSextets (drop (4 * at) (now (s .entry)))) ⌝ }
+{
+    let from = 4 * at;
+    framing::frame_ruled_text(&s[from..])
+}
+
+// The size in units of the small group at a unit whose contents are items, if it is known and ends within the stream, else 0.
+fn group_size_text(
+    values: &[u8; 256],
+    classes: &[u8; 256],
+    s: &[u8],
+    clean: usize,
+    at: usize,
+) -> usize
+    requires { ⌜ (now values ≡ sextetTable) × (now classes ≡ classTable) × (4 * at ≤ length (now s)) × Clear (textSextets (now s)) at clean ⌝ }
+    ensures { λ r. ⌜ Grouped (textSextets (now (s .entry))) clean at r ⌝ }
+{
+    if clean <= at {
+        return 0;
+    }
+    let g = runs::group_text(values, classes, s, at);
+    if s.len() / 4 - at < g {
+        return 0;
+    }
+    g
+}
+
+// The size in units of the item at a unit, or 0 where it is not framed.
+fn size_text(values: &[u8; 256], rows: &[u16; 192], s: &[u8], clean: usize, at: usize) -> usize
+    requires { ⌜ (now values ≡ sextetTable) × (now rows ≡ plainTable) × (4 * at ≤ length (now s)) × Clear (textSextets (now s)) at clean ⌝ }
+    ensures { λ r. ⌜ r ≡ sizeOf (frameRuled (textSextets (drop (4 * at) (now (s .entry))))) ⌝ }
+{
+    if at < clean {
+        let m = runs::sized_text(values, rows, s, at);
+        if 0 < m {
+            if m <= s.len() / 4 - at {
+                return m;
+            }
+        }
+    }
+    size_of(framed_text(s, at))
+}
+
+// How many items with the letter and the size of the one at a unit follow it, where characters are known.
+fn alike_text(
+    values: &[u8; 256],
+    rows: &[u16; 192],
+    s: &[u8],
+    clean: usize,
+    at: usize,
+    size: usize,
+) -> usize
+    requires { ⌜ (now values ≡ sextetTable) × (now rows ≡ plainTable) × (at < length (now s) / 4) × (0 < size) × (size ≤ 1048576) × (length (now s) ≤ 4194304) ⌝ }
+    ensures { λ r. ⌜ Run (sizedAt plainTable (textSextets (now (s .entry)))) size (min clean (length (now (s .entry)) / 4)) (at + size) r ⌝ }
+{
+    let x = s[4 * at];
+    let a = sextet_in(values, x);
+    if 51 < a {
+        return 0;
+    }
+    if runs::letter_row(rows, a) % 64 != size {
+        return 0;
+    }
+    let end = least(clean, s.len() / 4);
+    let mut i = at + size;
+    let mut n = 0;
+    while i + size <= end {
+        if s[4 * i] != x {
+            return n;
+        }
+        i = i + size;
+        n = n + 1;
+    }
+    n
 }
 
 // How many items a text has.
-fn count_text(values: &[u8; 256], rows: &[u16; 128], s: &[u8]) -> usize
-    requires { ⌜ (now values ≡ sextetTable) × (now rows ≡ plainTable) × length (now s) ≤ 4194304 ⌝ }
+fn count_text(
+    values: &[u8; 256],
+    classes: &[u8; 256],
+    rows: &[u16; 192],
+    s: &[u8],
+    known: usize,
+) -> usize
+    requires { ⌜ (now values ≡ sextetTable) × (now classes ≡ classTable) × (now rows ≡ plainTable) × (length (now s) ≤ 4194304) × Clear (textSextets (now s)) 0 known ⌝ }
     ensures { λ r. ⌜ (r ≡ length (rowsIn text (now (s .entry)))) × (r ≤ 1048576) ⌝ }
 {
+    let mut clean = known;
     let mut a = 0;
     let mut i = 0;
     while 4 * a < s.len() {
-        let m = runs::sized_text(values, rows, s, a);
-        let r = runs::sized_run_text(values, rows, s, a, s.len() / 4, m);
-        if 0 < r {
-            a = a + r * m;
-            i = i + r;
+        clean = clean_from(s, a, clean);
+        let g = group_size_text(values, classes, s, clean, a);
+        if 0 < g {
+            a = a + g;
+            i = i + 1;
         } else {
-            match next_text(values, s, a) {
-                Framed::Unframed {
-                    number: _,
-                    place: _,
-                } => {
-                    return i;
-                }
-                Framed::Item {
-                    kind: _,
-                    head: _,
-                    size,
-                } => {
-                    a = a + size;
-                    i = i + 1;
-                }
+            let m = size_text(values, rows, s, clean, a);
+            if m == 0 {
+                return i;
             }
+            let r = alike_text(values, rows, s, clean, a, m);
+            a = a + m + r * m;
+            i = i + 1 + r;
         }
     }
     i
 }
 
+// The rows of the plain primitives that follow one at a unit and are of its letter and size, from the i-th on: how many there are.
+fn put_run_text(
+    values: &[u8; 256],
+    rows: &[u16; 192],
+    s: &[u8],
+    out: &mut [u8],
+    clean: usize,
+    at: usize,
+    size: usize,
+    i: usize,
+    n: usize,
+) -> usize
+    requires { ⌜ (now values ≡ sextetTable) × (now rows ≡ plainTable) × (at < length (now s) / 4) × (0 < size) × (size ≤ 1048576) × (length (now s) ≤ 4194304) × (17 + 18 * n ≤ length (now out)) × ((r : ℕ) → Run (plainAt plainTable (textSextets (now s))) size (min clean (length (now s) / 4)) (at + size) r → i + r ≤ n) ⌝ }
+    ensures { λ r. ⌜ (Run (plainAt plainTable (textSextets (now (s .entry)))) size (min clean (length (now (s .entry)) / 4)) (at + size) r) × (now (out .exit) ≡ rowsOnto i (4 * (at + size)) (4 * size) r (now (out .entry))) ⌝ }
+{
+    let x = s[4 * at];
+    let a = sextet_in(values, x);
+    if 51 < a {
+        return 0;
+    }
+    let row = runs::letter_row(rows, a);
+    if row % 64 != size {
+        return 0;
+    }
+    let limit = row / 64;
+    let end = least(clean, s.len() / 4);
+    let mut p = at + size;
+    let mut r = 0;
+    while p + size <= end {
+        if s[4 * p] != x {
+            return r;
+        }
+        if limit <= sextet_in(values, s[4 * p + 1]) as usize {
+            return r;
+        }
+        put_row(out, 4 + 9 * (i + r), 4 * p, 4 * size, 0);
+        p = p + size;
+        r = r + 1;
+    }
+    r
+}
+
 // Writes the report of a text, which has n items.
-fn fill_text(values: &[u8; 256], rows: &[u16; 128], s: &[u8], out: &mut [u8], n: usize) -> usize
-    requires { ⌜ (now values ≡ sextetTable) × (now rows ≡ plainTable) × (length (now s) ≤ 4194304) × (n ≡ length (rowsIn text (now s))) × (17 + 18 * n ≤ length (now out)) ⌝ }
+fn fill_text(
+    values: &[u8; 256],
+    classes: &[u8; 256],
+    rows: &[u16; 192],
+    s: &[u8],
+    out: &mut [u8],
+    known: usize,
+    n: usize,
+) -> usize
+    requires { ⌜ (now values ≡ sextetTable) × (now classes ≡ classTable) × (now rows ≡ plainTable) × (length (now s) ≤ 4194304) × Clear (textSextets (now s)) 0 known × (n ≡ length (rowsIn text (now s))) × (17 + 18 * n ≤ length (now out)) ⌝ }
     ensures { λ r. ⌜ (r ≡ length (report text (now (s .entry)))) × (now (out .exit) ≡ sets (now (out .entry)) 0 (report text (now (s .entry)))) ⌝ }
 {
     put4(out, 0, n);
+    let mut clean = known;
     let mut a = 0;
     let mut i = 0;
     let mut k = 0;
     while 4 * a < s.len() {
-        let m = runs::plain_text(values, rows, s, a);
-        let r = runs::clean_run_text(values, rows, s, a, s.len() / 4, m);
-        if 0 < r {
-            put_rows(out, i, 4 * a, 4 * m, r);
-            a = a + r * m;
-            i = i + r;
+        clean = clean_from(s, a, clean);
+        let g = group_size_text(values, classes, s, clean, a);
+        if 0 < g {
+            let v = nest_text(values, classes, rows, s, clean, a, a + g);
+            k = put_item(out, n, i, k, 4 * a, 4 * g, v);
+            a = a + g;
+            i = i + 1;
         } else {
-            match next_text(values, s, a) {
-                Framed::Unframed { number, place: _ } => {
-                    return finish_rest(out, n, k, 4 * a, number);
-                }
-                Framed::Item {
-                    kind: _,
-                    head: _,
-                    size,
-                } => {
-                    let v = level_text(values, rows, s, MAX_DEPTH, false, a, a + size);
-                    k = put_item(out, n, i, k, 4 * a, 4 * size, v);
-                    a = a + size;
-                    i = i + 1;
-                }
+            let m = size_text(values, rows, s, clean, a);
+            if m == 0 {
+                return finish_rest(out, n, k, 4 * a, number_of(framed_text(s, a)));
             }
+            let v = verdict_text(values, classes, rows, s, clean, a, a + m);
+            k = put_item(out, n, i, k, 4 * a, 4 * m, v);
+            let r = put_run_text(values, rows, s, out, clean, a, m, i + 1, n);
+            a = a + m + r * m;
+            i = i + 1 + r;
         }
     }
     finish(out, n, k)
@@ -296,12 +570,14 @@ pub fn report_text(s: &[u8], out: &mut [u8]) -> Reported
         return Reported::Refused(1, 0);
     }
     let values = alphabet::sextets();
+    let classes = runs::classes();
     let rows = runs::rows();
-    let n = count_text(&values, &rows, s);
+    let known = clean_from(s, 0, 0);
+    let n = count_text(&values, &classes, &rows, s, known);
     if out.len() < 17 + 18 * n {
         return Reported::Refused(3, 0);
     }
-    let length = fill_text(&values, &rows, s, out, n);
+    let length = fill_text(&values, &classes, &rows, s, out, known, n);
     Reported::Written(length)
 }
 
@@ -320,9 +596,34 @@ fn placed_binary(v: Verdict) -> Verdict
     }
 }
 
+fn passed_binary(rows: &[u16; 192], s: &[u8], at: usize, stop: usize) -> usize
+    requires { ⌜ (now rows ≡ plainTable) × (at ≤ stop) ⌝ }
+    ensures { λ r. ⌜ Passed (binarySextets (now (s .entry))) stop at stop r ⌝ }
+{
+    let k = runs::plain_binary(rows, s, at);
+    if stop - at < k {
+        return 0;
+    }
+    k
+}
+
+fn entered_binary(s: &[u8], levels: usize, at: usize, stop: usize) -> usize
+    requires { ⌜ at < stop ⌝ }
+    ensures { λ r. ⌜ Entered (binarySextets (now (s .entry))) stop levels at stop r ⌝ }
+{
+    if levels == 0 {
+        return 0;
+    }
+    let g = runs::group_binary(s, at);
+    if stop - at < g {
+        return 0;
+    }
+    g
+}
+
 // The next item from a unit on, framed and judged whole: its size, or its refusal, with the place in sextets of the stream.
 fn item_binary(
-    rows: &[u16; 128],
+    rows: &[u16; 192],
     s: &[u8],
     levels: usize,
     first: bool,
@@ -352,10 +653,9 @@ fn item_binary(
     }
 }
 
-// The items from a unit to the end of their group, where so many more groups may be entered. A group that ends with what is around
-// it is entered in place, and runs are passed at once.
+// The items from a unit to the end of their group, where so many more groups may be entered.
 fn level_binary(
-    rows: &[u16; 128],
+    rows: &[u16; 192],
     s: &[u8],
     levels: usize,
     first: bool,
@@ -367,21 +667,27 @@ fn level_binary(
 {
     let mut i = at;
     let mut ruled = first;
-    let mut left = levels;
     while i < stop {
-        let d = runs::nested_binary(s, i, stop, left);
-        if 0 < d {
-            i = i + d;
-            left = left - d;
-            ruled = runs::letter_binary(s, i - 1) < 3;
+        let k = passed_binary(rows, s, i, stop);
+        if 0 < k {
+            i = i + k;
+            ruled = false;
         } else {
-            let k = runs::plain_binary(rows, s, i);
-            let r = runs::plain_run_binary(rows, s, i, stop, k);
-            if 0 < r {
-                i = i + r * k;
-                ruled = false;
+            let g = entered_binary(s, levels, i, stop);
+            if 0 < g {
+                let marks = runs::marks_binary(s, i);
+                let v = level_binary(rows, s, levels - 1, marks, i + 1, i + g);
+                match v {
+                    Verdict::Refused { number, place } => {
+                        return Verdict::Refused { number, place };
+                    }
+                    Verdict::Accepted => {
+                        i = i + g;
+                        ruled = false;
+                    }
+                }
             } else {
-                match item_binary(rows, s, left, ruled, i, stop) {
+                match item_binary(rows, s, levels, ruled, i, stop) {
                     Framed::Unframed { number, place } => {
                         return Verdict::Refused { number, place };
                     }
@@ -400,63 +706,156 @@ fn level_binary(
     Verdict::Accepted
 }
 
-// The item at a unit, framed.
-fn next_binary(s: &[u8], a: usize) -> Framed
-    requires { ⌜ (3 * a ≤ length (now s)) ⌝ }
-    ensures { λ r. ⌜ r ≡ frameRuled (binarySextets (drop (3 * a) (now (s .entry)))) ⌝ }
+// The verdict on a framed group. Groups one in the other around a plain primitive need no walk.
+fn nest_binary(rows: &[u16; 192], s: &[u8], at: usize, stop: usize) -> Verdict
+    requires { ⌜ (now rows ≡ plainTable) × (3 * stop ≤ length (now s)) × (at < stop) × (length (now s) ≤ 3145728) × (groupAt (binarySextets (now s)) at ≡ stop - at) ⌝ }
+    ensures { λ r. ⌜ r ≡ level (binarySextets (now (s .entry))) maxDepth false at stop ⌝ }
 {
-    let g = runs::group_binary(s, a);
-    if 0 < g {
-        if g <= s.len() / 3 - a {
-            let letter = runs::letter_binary(s, a);
-            return Framed::Item {
-                kind: Kind::Group { letter },
-                head: 1,
-                size: g,
-            };
+    let d = runs::nested_binary(s, at + 1, stop, MAX_DEPTH - 1);
+    let i = at + 1 + d;
+    if runs::plain_binary(rows, s, i) == stop - i {
+        return Verdict::Accepted;
+    }
+    level_binary(rows, s, MAX_DEPTH, false, at, stop)
+}
+
+// The verdict on any framed item. A plain primitive needs no walk.
+fn verdict_binary(rows: &[u16; 192], s: &[u8], at: usize, stop: usize) -> Verdict
+    requires { ⌜ (now rows ≡ plainTable) × (3 * stop ≤ length (now s)) × (at < stop) × (length (now s) ≤ 3145728) ⌝ }
+    ensures { λ r. ⌜ r ≡ level (binarySextets (now (s .entry))) maxDepth false at stop ⌝ }
+{
+    if passed_binary(rows, s, at, stop) == stop - at {
+        return Verdict::Accepted;
+    }
+    level_binary(rows, s, MAX_DEPTH, false, at, stop)
+}
+
+fn framed_binary(s: &[u8], at: usize) -> Framed
+    requires { ⌜ 3 * at ≤ length (now s) ⌝ }
+    ensures { λ r. ⌜ r ≡ frameRuled (binarySextets (drop (3 * at) (now (s .entry)))) ⌝ }
+{
+    let from = 3 * at;
+    framing::frame_ruled_binary(&s[from..])
+}
+
+fn group_size_binary(s: &[u8], at: usize) -> usize
+    requires { ⌜ 3 * at ≤ length (now s) ⌝ }
+    ensures { λ r. ⌜ Grouped (binarySextets (now (s .entry))) (at + 1) at r ⌝ }
+{
+    let g = runs::group_binary(s, at);
+    if s.len() / 3 - at < g {
+        return 0;
+    }
+    g
+}
+
+// The size in units of the item at a unit, or 0 where it is not framed.
+fn size_binary(rows: &[u16; 192], s: &[u8], at: usize) -> usize
+    requires { ⌜ (now rows ≡ plainTable) × (3 * at ≤ length (now s)) ⌝ }
+    ensures { λ r. ⌜ r ≡ sizeOf (frameRuled (binarySextets (drop (3 * at) (now (s .entry))))) ⌝ }
+{
+    let m = runs::sized_binary(rows, s, at);
+    if 0 < m {
+        if m <= s.len() / 3 - at {
+            return m;
         }
     }
-    let at = 3 * a;
-    framing::frame_ruled_binary(&s[at..])
+    size_of(framed_binary(s, at))
+}
+
+// How many items with the letter and the size of the one at a unit follow it, where characters are known.
+fn alike_binary(rows: &[u16; 192], s: &[u8], at: usize, size: usize) -> usize
+    requires { ⌜ (now rows ≡ plainTable) × (at < length (now s) / 3) × (0 < size) × (size ≤ 1048576) × (length (now s) ≤ 3145728) ⌝ }
+    ensures { λ r. ⌜ Run (sizedAt plainTable (binarySextets (now (s .entry)))) size (length (now (s .entry)) / 3) (at + size) r ⌝ }
+{
+    let a = s[3 * at] / 4;
+    if 51 < a {
+        return 0;
+    }
+    if runs::letter_row(rows, a) % 64 != size {
+        return 0;
+    }
+    let end = s.len() / 3;
+    let mut i = at + size;
+    let mut n = 0;
+    while i + size <= end {
+        if s[3 * i] / 4 != a {
+            return n;
+        }
+        i = i + size;
+        n = n + 1;
+    }
+    n
 }
 
 // How many items a binary has.
-fn count_binary(rows: &[u16; 128], s: &[u8]) -> usize
-    requires { ⌜ (now rows ≡ plainTable) × length (now s) ≤ 3145728 ⌝ }
+fn count_binary(rows: &[u16; 192], s: &[u8]) -> usize
+    requires { ⌜ (now rows ≡ plainTable) × (length (now s) ≤ 3145728) ⌝ }
     ensures { λ r. ⌜ (r ≡ length (rowsIn binary (now (s .entry)))) × (r ≤ 1048576) ⌝ }
 {
     let mut a = 0;
     let mut i = 0;
     while 3 * a < s.len() {
-        let m = runs::sized_binary(rows, s, a);
-        let r = runs::sized_run_binary(rows, s, a, s.len() / 3, m);
-        if 0 < r {
-            a = a + r * m;
-            i = i + r;
+        let g = group_size_binary(s, a);
+        if 0 < g {
+            a = a + g;
+            i = i + 1;
         } else {
-            match next_binary(s, a) {
-                Framed::Unframed {
-                    number: _,
-                    place: _,
-                } => {
-                    return i;
-                }
-                Framed::Item {
-                    kind: _,
-                    head: _,
-                    size,
-                } => {
-                    a = a + size;
-                    i = i + 1;
-                }
+            let m = size_binary(rows, s, a);
+            if m == 0 {
+                return i;
             }
+            let r = alike_binary(rows, s, a, m);
+            a = a + m + r * m;
+            i = i + 1 + r;
         }
     }
     i
 }
 
+// The rows of the plain primitives that follow one at a unit and are of its letter and size, from the i-th on: how many there are.
+fn put_run_binary(
+    rows: &[u16; 192],
+    s: &[u8],
+    out: &mut [u8],
+    at: usize,
+    size: usize,
+    i: usize,
+    n: usize,
+) -> usize
+    requires { ⌜ (now rows ≡ plainTable) × (at < length (now s) / 3) × (0 < size) × (size ≤ 1048576) × (length (now s) ≤ 3145728) × (17 + 18 * n ≤ length (now out)) × ((r : ℕ) → Run (plainAt plainTable (binarySextets (now s))) size (length (now s) / 3) (at + size) r → i + r ≤ n) ⌝ }
+    ensures { λ r. ⌜ (Run (plainAt plainTable (binarySextets (now (s .entry)))) size (length (now (s .entry)) / 3) (at + size) r) × (now (out .exit) ≡ rowsOnto i (3 * (at + size)) (3 * size) r (now (out .entry))) ⌝ }
+{
+    let x = s[3 * at];
+    if 0 < x % 4 {
+        return 0;
+    }
+    if 207 < x {
+        return 0;
+    }
+    let row = runs::letter_row(rows, x / 4);
+    if row % 64 != size {
+        return 0;
+    }
+    if row / 64 < 16 {
+        return 0;
+    }
+    let end = s.len() / 3;
+    let mut p = at + size;
+    let mut r = 0;
+    while p + size <= end {
+        if s[3 * p] != x {
+            return r;
+        }
+        put_row(out, 4 + 9 * (i + r), 3 * p, 3 * size, 0);
+        p = p + size;
+        r = r + 1;
+    }
+    r
+}
+
 // Writes the report of a binary, which has n items.
-fn fill_binary(rows: &[u16; 128], s: &[u8], out: &mut [u8], n: usize) -> usize
+fn fill_binary(rows: &[u16; 192], s: &[u8], out: &mut [u8], n: usize) -> usize
     requires { ⌜ (now rows ≡ plainTable) × (length (now s) ≤ 3145728) × (n ≡ length (rowsIn binary (now s))) × (17 + 18 * n ≤ length (now out)) ⌝ }
     ensures { λ r. ⌜ (r ≡ length (report binary (now (s .entry)))) × (now (out .exit) ≡ sets (now (out .entry)) 0 (report binary (now (s .entry)))) ⌝ }
 {
@@ -465,28 +864,22 @@ fn fill_binary(rows: &[u16; 128], s: &[u8], out: &mut [u8], n: usize) -> usize
     let mut i = 0;
     let mut k = 0;
     while 3 * a < s.len() {
-        let m = runs::plain_binary(rows, s, a);
-        let r = runs::plain_run_binary(rows, s, a, s.len() / 3, m);
-        if 0 < r {
-            put_rows(out, i, 3 * a, 3 * m, r);
-            a = a + r * m;
-            i = i + r;
+        let g = group_size_binary(s, a);
+        if 0 < g {
+            let v = placed_binary(nest_binary(rows, s, a, a + g));
+            k = put_item(out, n, i, k, 3 * a, 3 * g, v);
+            a = a + g;
+            i = i + 1;
         } else {
-            match next_binary(s, a) {
-                Framed::Unframed { number, place: _ } => {
-                    return finish_rest(out, n, k, 3 * a, number);
-                }
-                Framed::Item {
-                    kind: _,
-                    head: _,
-                    size,
-                } => {
-                    let v = placed_binary(level_binary(rows, s, MAX_DEPTH, false, a, a + size));
-                    k = put_item(out, n, i, k, 3 * a, 3 * size, v);
-                    a = a + size;
-                    i = i + 1;
-                }
+            let m = size_binary(rows, s, a);
+            if m == 0 {
+                return finish_rest(out, n, k, 3 * a, number_of(framed_binary(s, a)));
             }
+            let v = placed_binary(verdict_binary(rows, s, a, a + m));
+            k = put_item(out, n, i, k, 3 * a, 3 * m, v);
+            let r = put_run_binary(rows, s, out, a, m, i + 1, n);
+            a = a + m + r * m;
+            i = i + 1 + r;
         }
     }
     finish(out, n, k)

@@ -1,4 +1,4 @@
--- What plain and group sizes say of the first unit: the code that it opens, and that its zero bits are zero. Assumes nothing.
+-- What sizes and plain sizes say of the first unit: the kind that it opens, and that an item of it is accepted. Assumes nothing.
 use Prim.Native.Nat.{ℕ, zero, suc, _+_, _-_, _*_, _/_, _%_, _^_, _≤_, _<_}
 use mathlib.Core.Path.{_≡_, refl, sym, ap, _∙_, subst}
 use mathlib.Core.List.{List, [], _∷_, _++_, map}
@@ -6,21 +6,26 @@ use mathlib.Core.Bool.{Bool, true, false}
 use mathlib.Core.Logic.{⊎-elim}
 use native.Mathlib.Omega.{arith}
 use lib.Dec.{ltb, eqb}
-use lib.ListN.{length, getD, length-map, List·getD-append}
+use lib.ListN.{length, getD, drop, length-map, List·getD-append, List·getD-eq-default}
 use borrow.Author.Tests.{ltb-true, ltb-false, lt-ltb, le-ltb, eqb-true, eqb-false, eq-eqb, ne-eqb}
 use Rattle.base.specs.Pick.{pick}
-use Rattle.base.specs.Cases.{whether}
+use Rattle.base.specs.Cases.{whether, lt-or-ge}
+use Rattle.base.specs.Digits.{Below, below-at, below-drop}
 use Rattle.base.specs.Lists.{upTo, getD-table}
 use Rattle.format.specs.declared.CodeRow.{CodeRow}
 use Rattle.format.specs.declared.Kind.{Kind}
 use Rattle.format.specs.declared.Kind.the-variants.{Fixed, Variable, Group, Genus}
 use Rattle.format.specs.declared.Opening.{Opening}
 use Rattle.format.specs.declared.Opening.the-variants.{Unknown, Short, LargeVariable, LargeGroup, Version}
-use Rattle.format.specs.Registry.{fixed, isGroup, isOpaque, zeroBitsOf, prepadOf, opening}
-use Rattle.format.specs.Framing.{sextet}
-use Rattle.format.specs.Judging.{zeroBits}
+use Rattle.format.specs.declared.Framed.the-variants.{Item}
+use Rattle.format.specs.declared.Verdict.{Verdict}
+use Rattle.format.specs.declared.Verdict.the-variants.{Accepted}
+use Rattle.format.specs.Registry.{fixed, isType, isGroup, isOpaque, zeroBitsOf, prepadOf, opening}
+use Rattle.format.specs.Framing.{sextet, ruled}
+use Rattle.format.specs.Judging.{shift, andThen, unless, behind, hasLead, zeroBits, prepadRight, judgeKind}
+use Rattle.laws.specs.Scan.{scan-below}
 use Rattle.laws.specs.Registry.{Finds, fixed-finds}
-use Rattle.runs.specs.Plain.{limitOf, plainRow, rowsOf, plainTable, rowIn, next, limited, groupUnits}
+use Rattle.runs.specs.Plain.{limitOf, plainRow, rowsOf, plainTable, rowOf, rowAA, typed, lettered, limited, sizedOf, plainOf, groupOf}
 
 -- ---- choices that are not 0
 
@@ -111,17 +116,42 @@ zero-by (suc (suc (suc (suc (suc (suc (suc z))))))) x y w h l p q = absurd (omeg
 
 -- ---- a plain primitive
 
+-- the kind that the first unit opens, of which 7 is never asked
+pub record Opens (a b c d n : ℕ) : Type 0 where
+  pub kind : Kind
+  pub ruleless : (at : ℕ → ℕ) (h m : ℕ) → ruled at (Item kind h m) ≡ Item kind h m
+  pub opens : opening a b c d ≡ Short kind n
+
+-- and that an item of it is accepted if all its sextets are known
 pub record Plain (a b c d n : ℕ) : Type 0 where
-  pub row : CodeRow
-  pub opens : opening a b c d ≡ Short (Fixed row) n
-  pub bare : prepadOf row ≡ 0
-  pub passes : (s : List ℕ) → sextet s 1 ≡ b → sextet s 2 ≡ c → ((i : ℕ) → sextet s i < 64) → zeroBits s (row .chars) (zeroBitsOf row) ≡ true
+  pub told : Opens a b c d n
+  pub accepts : (own : List ℕ) → sextet own 1 ≡ b → sextet own 2 ≡ c → Below 64 own → (inner : ℕ → ℕ → List ℕ → Verdict)
+      → judgeKind (told .kind) 1 own inner ≡ Accepted
+
+all-low : (x : List ℕ) → Below 64 x → (i : ℕ) → sextet x i < 64
+all-low x b i = ⊎-elim (below-at 64 x b i) (λ h. rw (List·getD-eq-default x 0 {n = i} h) (omega arith)) (lt-or-ge i (length x))
+
+fixed-accepts : (row : CodeRow) (own : List ℕ) → prepadOf row ≡ 0 → zeroBits own (row .chars) (zeroBitsOf row) ≡ true → Below 64 own
+    → (inner : ℕ → ℕ → List ℕ → Verdict) → judgeKind (Fixed row) 1 own inner ≡ Accepted
+unfolding judgeKind behind prepadRight unless andThen shift
+fixed-accepts row own e z b inner = rw (scan-below (drop 4 own) (below-drop 64 4 own b), z, eq-eqb (prepadOf row) 0 e)
+
+variable-accepts : (t m : ℕ) (own : List ℕ) → Below 64 own → (inner : ℕ → ℕ → List ℕ → Verdict) → judgeKind (Variable t 0 m) 1 own inner ≡ Accepted
+unfolding judgeKind behind hasLead zeroBits unless andThen shift
+variable-accepts t m own b inner =
+    rw (scan-below (drop 4 own) (below-drop 64 4 own b), zero-by 0 (sextet own 4) (sextet own 5) (sextet own 6) (omega arith) (all-low own b 4) (all-low own b 5) (all-low own b 6))
 
 -- ---- the table
 
-second-half : (f g : List ℕ) (i : ℕ) → getD (f ++ g) (length f + i) 0 ≡ getD g i 0
-second-half [] g i = let z : 0 + i ≡ i = omega arith in rw z
-second-half (x ∷ f) g i = let z : suc (length f) + i ≡ suc (length f + i) = omega arith in rw z (second-half f g i)
+front : (f g : List ℕ) (i k : ℕ) → length f ≡ k → i < k → getD (f ++ g) i 0 ≡ getD f i 0
+front f g i k e h = List·getD-append f g 0 i (omega arith)
+
+back : (f g : List ℕ) (i k : ℕ) → length f ≡ k → getD (f ++ g) (k + i) 0 ≡ getD g i 0
+back f g i k e = rw (← e) (go f)
+  where
+    go : (f : List ℕ) → getD (f ++ g) (length f + i) 0 ≡ getD g i 0
+    go [] = let z : 0 + i ≡ i = omega arith in rw z
+    go (x ∷ f) = let z : suc (length f) + i ≡ suc (length f + i) = omega arith in rw z (go f)
 
 row-at : (chars letter : ℕ) → letter < 64 → getD (rowsOf chars) letter 0 ≡ plainRow (fixed chars letter)
 unfolding rowsOf
@@ -131,80 +161,129 @@ rows-long : (chars : ℕ) → length (rowsOf chars) ≡ 64
 unfolding rowsOf
 rows-long chars = length-map (upTo 64) (λ (x : ℕ). plainRow (fixed chars x))
 
-table-one : (a : ℕ) → a < 64 → getD plainTable a 0 ≡ plainRow (fixed 1 a)
-unfolding plainTable
-table-one a h = List·getD-append (rowsOf 1) (rowsOf 2) 0 a (rw (rows-long 1) h) ∙ row-at 1 a h
+table-one : (a : ℕ) → a < 64 → rowOf plainTable 0 a ≡ plainRow (fixed 1 a)
+unfolding plainTable rowOf
+table-one a h = let z : 64 * 0 + a ≡ a = omega arith in rw (lt-ltb a 64 h, z) (front (rowsOf 1) (rowsOf 2 ++ rowsOf 4) a 64 (rows-long 1) h ∙ row-at 1 a h)
 
-table-two : (b : ℕ) → b < 64 → getD plainTable (64 + b) 0 ≡ plainRow (fixed 2 b)
-unfolding plainTable
-table-two b h = rw (← (rows-long 1)) (second-half (rowsOf 1) (rowsOf 2) b) ∙ row-at 2 b h
+table-two : (b : ℕ) → b < 64 → rowOf plainTable 1 b ≡ plainRow (fixed 2 b)
+unfolding plainTable rowOf
+table-two b h = rw (lt-ltb b 64 h) (back (rowsOf 1) (rowsOf 2 ++ rowsOf 4) b 64 (rows-long 1) ∙ front (rowsOf 2) (rowsOf 4) b 64 (rows-long 2) h ∙ row-at 2 b h)
 
-module _ (a b c d n : ℕ) (p : 0 < n) (la : a < 64) (lb : b < 64) where
+table-four : (d : ℕ) → d < 64 → rowOf plainTable 2 d ≡ plainRow (fixed 4 d)
+unfolding plainTable rowOf
+table-four d h =
+    let z : 128 + d ≡ 64 + (64 + d) = omega arith in
+    rw (lt-ltb d 64 h, z) (back (rowsOf 1) (rowsOf 2 ++ rowsOf 4) (64 + d) 64 (rows-long 1) ∙ back (rowsOf 2) (rowsOf 4) d 64 (rows-long 2) ∙ row-at 4 d h)
+
+none-limited : (x : ℕ) → limited 0 x ≡ 0
+unfolding limited
+none-limited x = rw (le-ltb x 0 (omega arith))
+
+-- what `1AA` and a letter's row says
+row-four : (b c d m : ℕ) → d < 64 → 0 < m → (f : ℕ → ℕ) → f 0 ≡ 0 → f (rowAA plainTable b c d) ≡ m
+    → (eqb b 0 ≡ true) × (eqb c 0 ≡ true) × (f (plainRow (fixed 4 d)) ≡ m)
+unfolding rowAA
+row-four b c d m h p f z e = go (eqb b 0) (eqb c 0) refl refl e
+  where
+    go : (x y : Bool) → eqb b 0 ≡ x → eqb c 0 ≡ y → f (pick x (pick y (rowOf plainTable 2 d) 0) 0) ≡ m
+        → (eqb b 0 ≡ true) × (eqb c 0 ≡ true) × (f (plainRow (fixed 4 d)) ≡ m)
+    go true true s t q = (s, t, rw (← (table-four d h)) q)
+    go true false s t q = absurd (omega (arith, q, z))
+    go false y s t q = absurd (omega (arith, q, z))
+
+module _ (a b c d n : ℕ) (p : 0 < n) (la : a < 64) (lb : b < 64) (ld : d < 64) where
+  fixed-plain : (chars letter x : ℕ) (r : Row (fixed chars letter) x n) → opening a b c d ≡ fixed chars letter
+      → ((own : List ℕ) → sextet own 1 ≡ b → sextet own 2 ≡ c → Below 64 own → zeroBits own chars (zeroBitsOf (r .row)) ≡ true) → Plain a b c d n
+  unfolding ruled
+  fixed-plain chars letter x r o z =
+      let f = subst (Finds chars letter) (r .opens) (fixed-finds chars letter) in
+      record {
+        told = record { kind = Fixed (r .row); ruleless = λ at h m. refl; opens = o ∙ r .opens };
+        accepts = λ own y w k inner. fixed-accepts (r .row) own (r .bare) (rw (f .2) (z own y w k)) k inner;
+      }
+
   one-plain : ltb a 52 ≡ true → limited (plainRow (fixed 1 a)) b ≡ n → Plain a b c d n
   unfolding opening zeroBits
   one-plain t e =
       let r = row-of (fixed 1 a) b n e p in
-      let f = subst (Finds 1 a) (r .opens) (fixed-finds 1 a) in
-      record {
-        row = r .row;
-        opens = rw t (r .opens);
-        bare = r .bare;
-        passes = λ s x y k. rw (f .2, x) (zero-by (zeroBitsOf (r .row)) b _ _ (r .few) (r .low) (k 2) (k 3));
-      }
+      fixed-plain 1 a b r (rw t) (λ s x y k. rw x (zero-by (zeroBitsOf (r .row)) b _ _ (r .few) (r .low) (all-low s k 2) (all-low s k 3)))
 
   two-plain : ltb a 52 ≡ false → eqb a 52 ≡ true → limited (plainRow (fixed 2 b)) c ≡ n → Plain a b c d n
   unfolding opening zeroBits
   two-plain f t e =
       let r = row-of (fixed 2 b) c n e p in
-      let g = subst (Finds 2 b) (r .opens) (fixed-finds 2 b) in
+      fixed-plain 2 b c r (rw (f, t)) (λ s x y k. rw y (zero-by (zeroBitsOf (r .row)) c _ _ (r .few) (r .low) (all-low s k 3) (all-low s k 4)))
+
+  -- 63 is below the limit, so every sextet is
+  four-plain : ltb a 52 ≡ false → eqb a 52 ≡ false → eqb a 53 ≡ true → limited (rowAA plainTable b c d) 63 ≡ n → Plain a b c d n
+  unfolding opening zeroBits
+  four-plain f g t e =
+      let q = row-four b c d n ld p (λ (m : ℕ). limited m 63) (none-limited 63) e in
+      let r = row-of (fixed 4 d) 63 n (q .2) p in
+      fixed-plain 4 d 63 r (rw (f, g, t, q .0, q .1))
+      (λ s x y k. zero-by (zeroBitsOf (r .row)) (sextet s 4) _ _ (r .few) (omega (arith, all-low s k 4, r .low)) (all-low s k 5) (all-low s k 6))
+
+  variable-plain : eqb a 56 ≡ true → typed b c d ≡ n → Plain a b c d n
+  unfolding opening typed ruled
+  variable-plain t e =
+      let q = some-then (isType b) _ n e p in
+      let is : a ≡ 56 = eqb-true _ _ t in
+      let s = q .1 in
       record {
-        row = r .row;
-        opens = rw (f, t) (r .opens);
-        bare = r .bare;
-        passes = λ s x y k. rw (g .2, y) (zero-by (zeroBitsOf (r .row)) c _ _ (r .few) (r .low) (k 3) (k 4));
+        told = record { kind = Variable b 0 (c * 64 + d); ruleless = λ at h m. refl; opens = rw (is, q .0, s) };
+        accepts = λ own y w k inner. variable-accepts b (c * 64 + d) own k inner;
       }
 
-  pub plain-opens : limited (rowIn plainTable a b) (next a b c) ≡ n → Plain a b c d n
-  unfolding rowIn
-  plain-opens e = ⊎-elim one (λ f. ⊎-elim (two f) (none f) (whether (eqb a 52))) (whether (ltb a 52))
+  pub plain-opens : plainOf plainTable a b c d ≡ n → Plain a b c d n
+  unfolding plainOf
+  plain-opens e = go (ltb a 52) (eqb a 52) (eqb a 53) (eqb a 56) refl refl refl refl e
     where
-      one : ltb a 52 ≡ true → Plain a b c d n
-      one t = one-plain t (rw (t, table-one a la) at e)
+      go : (x y z w : Bool) → ltb a 52 ≡ x → eqb a 52 ≡ y → eqb a 53 ≡ z → eqb a 56 ≡ w
+          → pick x (limited (rowOf plainTable 0 a) b) (pick y (limited (rowOf plainTable 1 b) c) (pick z (limited (rowAA plainTable b c d) 63) (pick w (typed b c d) 0))) ≡ n
+          → Plain a b c d n
+      go true y z w s t u v q = one-plain s (rw (table-one a la) at q)
+      go false true z w s t u v q = two-plain s t (rw (table-two b lb) at q)
+      go false false true w s t u v q = four-plain s t u q
+      go false false false true s t u v q = variable-plain v q
+      go false false false false s t u v q = absurd (omega arith)
 
-      two : ltb a 52 ≡ false → eqb a 52 ≡ true → Plain a b c d n
-      two f t = two-plain f t (rw (f, t, table-two b lb) at e)
+  -- ---- a size alone
 
-      none : ltb a 52 ≡ false → eqb a 52 ≡ false → Plain a b c d n
-      none f g = absurd (no-row c n (rw (f, g) at e) p)
+  fixed-sized : (chars letter : ℕ) → plainRow (fixed chars letter) % 64 ≡ n → opening a b c d ≡ fixed chars letter → Opens a b c d n
+  unfolding ruled
+  fixed-sized chars letter e o =
+      let r = size-of (fixed chars letter) n e p in
+      record { kind = Fixed (r .0); ruleless = λ at h m. refl; opens = o ∙ r .1 }
 
-  pub sized-opens : rowIn plainTable a b % 64 ≡ n → (row : CodeRow) × (opening a b c d ≡ Short (Fixed row) n)
-  unfolding rowIn opening
-  sized-opens e = go (ltb a 52) (eqb a 52) refl refl e
+  pub sized-opens : sizedOf plainTable a b c d ≡ n → Opens a b c d n
+  unfolding sizedOf opening typed lettered ruled
+  sized-opens e = go (ltb a 52) (eqb a 52) (eqb a 53) (ltb a 56) (ltb a 59) (eqb a 62) refl refl refl refl refl refl e
     where
-      go : (x y : Bool) → ltb a 52 ≡ x → eqb a 52 ≡ y → pick x (getD plainTable a 0) (pick y (getD plainTable (64 + b) 0) 0) % 64 ≡ n
-          → (row : CodeRow) × (opening a b c d ≡ Short (Fixed row) n)
-      go true y t u q = let r = size-of (fixed 1 a) n (ap (λ (m : ℕ). m % 64) (sym (table-one a la)) ∙ q) p in (r .0, rw t (r .1))
-      go false true t u q = let r = size-of (fixed 2 b) n (ap (λ (m : ℕ). m % 64) (sym (table-two b lb)) ∙ q) p in (r .0, rw (t, u) (r .1))
-      go false false t u q = absurd (omega arith)
+      go : (x y z w v u : Bool) → ltb a 52 ≡ x → eqb a 52 ≡ y → eqb a 53 ≡ z → ltb a 56 ≡ w → ltb a 59 ≡ v → eqb a 62 ≡ u
+          → pick x (rowOf plainTable 0 a % 64) (pick y (rowOf plainTable 1 b % 64) (pick z (rowAA plainTable b c d % 64)
+          (pick w 0 (pick v (typed b c d) (pick u (lettered b c d) 0))))) ≡ n → Opens a b c d n
+      go true y z w v u r s t k l m q = fixed-sized 1 a (rw (table-one a la) at q) (rw r)
+      go false true z w v u r s t k l m q = fixed-sized 2 b (rw (table-two b lb) at q) (rw (r, s))
+      go false false true w v u r s t k l m q =
+          let j = row-four b c d n ld p (λ (i : ℕ). i % 64) refl q in
+          fixed-sized 4 d (j .2) (rw (r, s, t, j .0, j .1))
+      go false false false true v u r s t k l m q = absurd (omega arith)
+      go false false false false true u r s t k l m q =
+          let j = some-then (isType b) _ n q p in
+          record { kind = Variable b (a - 56) (c * 64 + d); ruleless = λ at h i. refl; opens = rw (r, s, t, k, l, j .0, j .1) }
+      go false false false false false true r s t k l m q =
+          let j = some-then (isGroup b) _ n q p in
+          let is : a ≡ 62 = eqb-true _ _ m in
+          record { kind = Group b; ruleless = λ at h i. refl; opens = rw (is, j .0, j .1) }
+      go false false false false false false r s t k l m q = absurd (omega arith)
 
 -- ---- a small group
 
-pub small-opens : (a b c d n : ℕ) → 0 < n → eqb a 62 ≡ true → pick (isGroup b) (1 + (c * 64 + d)) 0 ≡ n → opening a b c d ≡ Short (Group b) n
-unfolding opening
-small-opens a b c d n p e f =
-    let y = some-then (isGroup b) _ n f p in
-    let a-is : a ≡ 62 = eqb-true _ _ e in
-    rw (a-is, y .0, y .1)
-
-pub record Entered (a b c d n : ℕ) : Type 0 where
-  pub opens : opening a b c d ≡ Short (Group b) n
-  pub clear : isOpaque b ≡ false
-
-pub group-opens : (a b c d n : ℕ) → 0 < n → groupUnits a b c d ≡ n → Entered a b c d n
-unfolding groupUnits opening
+pub group-opens : (a b c d n : ℕ) → 0 < n → groupOf a b c d ≡ n → (opening a b c d ≡ Short (Group b) n) × (isOpaque b ≡ false)
+unfolding groupOf opening
 group-opens a b c d n p e =
     let x = some-then (eqb a 62) _ n e p in
     let y = some-then (isGroup b) _ n (x .1) p in
     let z = some-else (isOpaque b) _ n (y .1) p in
     let a-is : a ≡ 62 = eqb-true _ _ (x .0) in
-    record { opens = rw (a-is, y .0, z .1); clear = z .0 }
+    (rw (a-is, y .0, z .1), z .0)

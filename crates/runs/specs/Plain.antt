@@ -1,10 +1,10 @@
--- What a first unit alone can decide: the size of a primitive of a fixed code or of a small group; whether the primitive is accepted
--- if its other characters are known; whether the group's contents are items. Runs of such items. Over sextets. Assumes nothing.
+-- What a first unit alone can decide, if its characters are known: the size of an item whose header it is; whether a primitive is
+-- accepted, if its other characters are known too; whether a group's contents are items. Groups one in the other. Assumes nothing.
 use Prim.Native.Nat.{ℕ, zero, suc, _+_, _-_, _*_, _/_, _%_, _^_}
 use mathlib.Core.List.{List, map, _++_}
-use mathlib.Core.Bool.{Bool, true, false}
+use mathlib.Core.Bool.{Bool, true, false, not}
 use lib.Dec.{ltb, eqb}
-use lib.ListN.{length, getD, take, drop}
+use lib.ListN.{length, getD}
 use Rattle.base.specs.Pick.{pick}
 use Rattle.base.specs.Lists.{upTo}
 use Rattle.format.specs.declared.CodeRow.{CodeRow}
@@ -12,9 +12,9 @@ use Rattle.format.specs.declared.Kind.{Kind}
 use Rattle.format.specs.declared.Kind.the-variants.{Fixed, Variable, Group, Genus}
 use Rattle.format.specs.declared.Opening.{Opening}
 use Rattle.format.specs.declared.Opening.the-variants.{Unknown, Short, LargeVariable, LargeGroup, Version}
-use Rattle.format.specs.Registry.{fixed, isGroup, isOpaque, zeroBitsOf, prepadOf}
+use Rattle.format.specs.Registry.{fixed, isType, isGroup, isOpaque, isOverrideable, zeroBitsOf, prepadOf}
 use Rattle.format.specs.Framing.{sextet}
-use Rattle.format.specs.Conversion.{firstStranger}
+use Rattle.format.specs.Alphabet.{sextetOf}
 
 -- ---- primitives
 
@@ -37,45 +37,62 @@ plainRow Version = 0
 unfoldable pub rowsOf : ℕ → List ℕ
 rowsOf chars = map (λ letter. plainRow (fixed chars letter)) (upTo 64)
 
--- one letter, then `0` and a letter
+-- one letter, then `0` and a letter, then `1AA` and a letter
 unfoldable pub plainTable : List ℕ
-plainTable = rowsOf 1 ++ rowsOf 2
+plainTable = rowsOf 1 ++ (rowsOf 2 ++ rowsOf 4)
 
--- the row of a first unit's code in a table, 0 for everything else
-unfoldable pub rowIn : List ℕ → ℕ → ℕ → ℕ
-rowIn rows a b = pick (ltb a 52) (getD rows a 0) (pick (eqb a 52) (getD rows (64 + b) 0) 0)
-
--- the sextet behind its code
-abbrev pub next : ℕ → ℕ → ℕ → ℕ
-next a b c = pick (ltb a 52) b c
+-- the row in one of the three lists, by the sextet that tells the code there; 0 past the list
+unfoldable pub rowOf : List ℕ → ℕ → ℕ → ℕ
+rowOf rows list x = pick (ltb x 64) (getD rows (64 * list + x) 0) 0
 
 -- the size, if the sextet behind the code is below the limit
 unfoldable pub limited : ℕ → ℕ → ℕ
 limited row x = pick (ltb x (row / 64)) (row % 64) 0
 
--- ---- groups
+-- the row of `1AA` and a letter, by what is behind the `1`
+unfoldable pub rowAA : List ℕ → ℕ → ℕ → ℕ → ℕ
+rowAA rows b c d = pick (eqb b 0) (pick (eqb c 0) (rowOf rows 2 d) 0) 0
+
+-- ---- at a first unit, as four sextets that are known
+
+-- one unit, and as many as two digits say
+abbrev pub counted : ℕ → ℕ → ℕ
+counted c d = 1 + (c * 64 + d)
+
+-- a small variable value, by what is behind the selector
+unfoldable pub typed : ℕ → ℕ → ℕ → ℕ
+typed b c d = pick (isType b) (counted c d) 0
+
+-- a small group, by what is behind the `-`
+unfoldable pub lettered : ℕ → ℕ → ℕ → ℕ
+lettered b c d = pick (isGroup b) (counted c d) 0
+
+-- the size in units of an item whose header is one unit; 0 for everything else
+unfoldable pub sizedOf : List ℕ → ℕ → ℕ → ℕ → ℕ → ℕ
+sizedOf rows a b c d =
+    pick (ltb a 52) (rowOf rows 0 a % 64)
+    (pick (eqb a 52) (rowOf rows 1 b % 64)
+    (pick (eqb a 53) (rowAA rows b c d % 64)
+    (pick (ltb a 56) 0
+    (pick (ltb a 59) (typed b c d)
+    (pick (eqb a 62) (lettered b c d) 0)))))
+
+-- and of a primitive that is plain: accepted, if its other characters are known. Behind `1AA` and a letter stands no code's sextet:
+-- 63 is below the limit where there are no zero bits
+unfoldable pub plainOf : List ℕ → ℕ → ℕ → ℕ → ℕ → ℕ
+plainOf rows a b c d =
+    pick (ltb a 52) (limited (rowOf rows 0 a) b)
+    (pick (eqb a 52) (limited (rowOf rows 1 b) c)
+    (pick (eqb a 53) (limited (rowAA rows b c d) 63)
+    (pick (eqb a 56) (typed b c d) 0)))
 
 -- the size in units of a small group whose contents are items; 0 for everything else
-unfoldable pub groupUnits : ℕ → ℕ → ℕ → ℕ → ℕ
-groupUnits a b c d = pick (eqb a 62) (pick (isGroup b) (pick (isOpaque b) 0 (1 + (c * 64 + d))) 0) 0
-
--- ---- at a unit of a stream's sextets
-
-abbrev pub known4 : ℕ → ℕ → ℕ → ℕ → Bool
-known4 a b c d = pick (ltb a 64) (pick (ltb b 64) (pick (ltb c 64) (ltb d 64) false) false) false
-
--- the size in units of a primitive of a fixed code or of a small group; 0 for everything else
-unfoldable pub sizedOf : List ℕ → ℕ → ℕ → ℕ → ℕ → ℕ
-sizedOf rows a b c d = pick (known4 a b c d) (pick (eqb a 62) (pick (isGroup b) (1 + (c * 64 + d)) 0) (rowIn rows a b % 64)) 0
-
--- and of one that is plain: accepted, if its other characters are known
-unfoldable pub plainOf : List ℕ → ℕ → ℕ → ℕ → ℕ → ℕ
-plainOf rows a b c d = pick (known4 a b c d) (limited (rowIn rows a b) (next a b c)) 0
-
 unfoldable pub groupOf : ℕ → ℕ → ℕ → ℕ → ℕ
-groupOf a b c d = pick (known4 a b c d) (groupUnits a b c d) 0
+groupOf a b c d = pick (eqb a 62) (pick (isGroup b) (pick (isOpaque b) 0 (counted c d)) 0) 0
 
--- a rule of the four sextets of a unit; 0 past the last whole one
+-- ---- at a unit of a stream
+
+-- a rule of the four elements of a unit; 0 past the last whole one
 unfoldable pub unitBy : (ℕ → ℕ → ℕ → ℕ → ℕ) → List ℕ → ℕ → ℕ
 unitBy f s at = pick (ltb at (length s / 4)) (f (sextet s (4 * at)) (sextet s (4 * at + 1)) (sextet s (4 * at + 2)) (sextet s (4 * at + 3))) 0
 
@@ -90,22 +107,11 @@ groupAt s at = unitBy groupOf s at
 
 -- the letter of a group
 abbrev pub letterAt : List ℕ → ℕ → ℕ
-letterAt s at = unitBy (λ a b c d. b) s at
+letterAt s at = sextet s (4 * at + 1)
 
--- ---- runs
-
--- how many of p's items of k units follow one another, of n at most, none of them past the unit stop
-unfoldable pub run : (ℕ → ℕ) → ℕ → ℕ → ℕ → ℕ → ℕ
-run p k stop zero at = 0
-run p k stop (suc n) at = pick (ltb stop (at + k)) 0 (pick (eqb (p at) k) (suc (run p k stop n (at + k))) 0)
-
--- the most of a run that is looked at at once, so that a run that ends early costs no more than this
-abbrev pub most : ℕ
-most = 64
-
--- in a stream of so many units
-unfoldable pub runAt : (ℕ → ℕ) → ℕ → ℕ → ℕ → ℕ → ℕ
-runAt p units k stop at = pick (ltb units stop) 0 (pick (eqb k 0) 0 (run p k stop most at))
+-- whether 7 is asked of the first item of a group at a unit
+unfoldable pub marksAt : List ℕ → ℕ → Bool
+marksAt s at = pick (ltb at (length s / 4)) (isOverrideable (letterAt s at)) false
 
 -- ---- groups that end with what is around them
 
@@ -117,17 +123,29 @@ nested g stop (suc n) at = pick (ltb at stop) (pick (eqb (g at) (stop - at)) (su
 unfoldable pub nestedAt : (ℕ → ℕ) → ℕ → ℕ → ℕ → ℕ → ℕ
 nestedAt g units stop n at = pick (ltb units stop) 0 (nested g stop n at)
 
+-- ---- a group's contents are items
+
+unfoldable pub opensBy : ℕ → ℕ → Bool
+opensBy a b = pick (eqb a 62) (pick (isGroup b) (not (isOpaque b)) false) false
+
 -- ---- text, its sextets by a table
 
 unfoldable pub sextetsBy : List ℕ → List ℕ → List ℕ
 sextetsBy values s = map (λ c. getD values c 0) s
 
--- of a run, the items in front of the first character that is not of the alphabet
-unfoldable pub cleanPart : List ℕ → ℕ → ℕ → ℕ → ℕ
-cleanPart s k at n =
-    pick (eqb (firstStranger (take (4 * (n * k)) (drop (4 * at) s))) (4 * (n * k))) n (firstStranger (take (4 * (n * k)) (drop (4 * at) s)) / (4 * k))
+-- a character as a group's letter: 0 where the contents are items, 1 where 7 is asked of the first of them, 2 for everything else
+unfoldable pub classOf : ℕ → ℕ
+classOf c = pick (isGroup (sextetOf c)) (pick (isOpaque (sextetOf c)) 2 (pick (isOverrideable (sextetOf c)) 1 0)) 2
 
-unfoldable pub cleanRun : List ℕ → List ℕ → List ℕ → ℕ → ℕ → ℕ → ℕ
-cleanRun values rows s k stop at =
-    pick (eqb k 1) (runAt (plainAt rows (sextetsBy values s)) (length s / 4) k stop at)  -- all header, so known
-    (cleanPart s k at (runAt (plainAt rows (sextetsBy values s)) (length s / 4) k stop at))
+unfoldable pub classTable : List ℕ
+classTable = map classOf (upTo 256)
+
+-- a small group by its characters; 45 is `-`
+unfoldable pub charGroup : List ℕ → List ℕ → ℕ → ℕ → ℕ → ℕ → ℕ
+charGroup values classes w x y z = pick (eqb w 45) (pick (ltb 1 (getD classes x 0)) 0 (counted (getD values y 0) (getD values z 0))) 0
+
+abbrev pub groupBy : List ℕ → List ℕ → List ℕ → ℕ → ℕ
+groupBy values classes s at = unitBy (charGroup values classes) s at
+
+unfoldable pub marksBy : List ℕ → List ℕ → ℕ → Bool
+marksBy classes s at = pick (ltb at (length s / 4)) (eqb (getD classes (sextet s (4 * at + 1)) 0) 1) false

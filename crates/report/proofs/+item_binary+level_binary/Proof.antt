@@ -5,11 +5,10 @@ use lib.ListN.{length}
 use borrow.Author.Needs.{needs}
 use Rattle.format.specs.Units.{binarySextets}
 use Rattle.laws.specs.Levels.{level, level-end, part-length}
-use Rattle.runs.specs.Plain.{plainTable, plainAt, groupAt}
-use Rattle.runs.specs.Levels.{nested-level}
-use Rattle.runs.specs.Runs.{run-fits, run-moves, run-level, nested-is, binary-run}
+use Rattle.runs.specs.Runs.{marks-at}
 use Rattle.contents.specs.Next.{Judged}
-use Rattle.contents.proofs.Laws.{binary-part, length-binary, next-near, judged-refused, judged-sizes, judged-levels, judged-plain, judged-entered, marked}
+use Rattle.contents.proofs.Laws.{binary-part, length-binary, next-near, judged-refused, judged-sizes, judged-levels, judged-plain, judged-entered}
+use Rattle.report.proofs.Judging.{binary-clear, step-passed, step-refused, step-entered}
 use Prim.Native.Nat.{ℕ, _<_}
 use borrow.Fn.Kinds.{In}
 use borrow.Fn.PlainCycle.{Measures, is, falls, and}
@@ -23,10 +22,9 @@ use Rattle.contents.proofs.is_entered.Reads as is-entered-reads
 use Rattle.contents.proofs.is_ruled.Reads as is-ruled-reads
 use Rattle.contents.proofs.next_binary.Reads as next-binary-reads
 use Rattle.judging.proofs.told.Reads as told-reads
-use Rattle.runs.proofs.letter_binary.Reads as letter-binary-reads
-use Rattle.runs.proofs.nested_binary.Reads as nested-binary-reads
-use Rattle.runs.proofs.plain_binary.Reads as plain-binary-reads
-use Rattle.runs.proofs.plain_run_binary.Reads as plain-run-binary-reads
+use Rattle.report.proofs.entered_binary.Reads as entered-binary-reads
+use Rattle.report.proofs.passed_binary.Reads as passed-binary-reads
+use Rattle.runs.proofs.marks_binary.Reads as marks-binary-reads
 use Rattle.report.proofs.+item_binary+level_binary.{statement}
 use Rattle.report.proofs.+item_binary+level_binary.Tie.{close}
 
@@ -56,7 +54,7 @@ level-binary-below t =
     (falls 2 level-binary-kinds.ps _<_ μ-level-binary t)
     level-binary.Pre
 
--- src/lib.rt:335:16
+-- src/lib.rt:635:16
 item-binary-mul-from : (t : ℕ) → item-binary-lts.Need-mul-from (
   next-binary-reads.Asked,
   next-binary-reads.Learnt,
@@ -71,7 +69,7 @@ item-binary-mul-from : (t : ℕ) → item-binary-lts.Need-mul-from (
 ) (item-binary-at t) item-binary.Post
 item-binary-mul-from t c = search needs
 
--- src/lib.rt:336:14
+-- src/lib.rt:636:14
 item-binary-mul-to : (t : ℕ) → item-binary-lts.Need-mul-to (
   next-binary-reads.Asked,
   next-binary-reads.Learnt,
@@ -86,7 +84,7 @@ item-binary-mul-to : (t : ℕ) → item-binary-lts.Need-mul-to (
 ) (item-binary-at t) item-binary.Post
 item-binary-mul-to t c = search needs
 
--- src/lib.rt:337:38
+-- src/lib.rt:637:38
 item-binary-sub-next-binary : (t : ℕ) → item-binary-lts.Need-sub-next-binary (
   next-binary-reads.Asked,
   next-binary-reads.Learnt,
@@ -101,7 +99,7 @@ item-binary-sub-next-binary : (t : ℕ) → item-binary-lts.Need-sub-next-binary
 ) (item-binary-at t) item-binary.Post
 item-binary-sub-next-binary t c = search needs
 
--- src/lib.rt:337:38
+-- src/lib.rt:637:38
 item-binary-part-next-binary-start : (t : ℕ) → item-binary-lts.Need-part-next-binary-start (
   next-binary-reads.Asked,
   next-binary-reads.Learnt,
@@ -116,7 +114,7 @@ item-binary-part-next-binary-start : (t : ℕ) → item-binary-lts.Need-part-nex
 ) (item-binary-at t) item-binary.Post
 item-binary-part-next-binary-start t c = search needs
 
--- src/lib.rt:337:38
+-- src/lib.rt:637:38
 item-binary-part-next-binary-end : (t : ℕ) → item-binary-lts.Need-part-next-binary-end (
   next-binary-reads.Asked,
   next-binary-reads.Learnt,
@@ -131,7 +129,7 @@ item-binary-part-next-binary-end : (t : ℕ) → item-binary-lts.Need-part-next-
 ) (item-binary-at t) item-binary.Post
 item-binary-part-next-binary-end t c = search needs
 
--- src/lib.rt:337:9
+-- src/lib.rt:637:9
 item-binary-next-binary-requires : (t : ℕ) → item-binary-lts.Need-next-binary-requires (
   next-binary-reads.Asked,
   next-binary-reads.Learnt,
@@ -146,7 +144,7 @@ item-binary-next-binary-requires : (t : ℕ) → item-binary-lts.Need-next-binar
 ) (item-binary-at t) item-binary.Post
 item-binary-next-binary-requires t c κs = search needs
 
--- src/lib.rt:339:28
+-- src/lib.rt:639:28
 item-binary-enum-known-next : (t : ℕ) → item-binary-lts.Need-enum-known-next (
   next-binary-reads.Asked,
   next-binary-reads.Learnt,
@@ -161,7 +159,7 @@ item-binary-enum-known-next : (t : ℕ) → item-binary-lts.Need-enum-known-next
 ) (item-binary-at t) item-binary.Post
 item-binary-enum-known-next t c = search needs
 
--- src/lib.rt:341:20
+-- src/lib.rt:641:20
 item-binary-mul-t22 : (t : ℕ) → item-binary-lts.Need-mul-t22 (
   next-binary-reads.Asked,
   next-binary-reads.Learnt,
@@ -176,7 +174,7 @@ item-binary-mul-t22 : (t : ℕ) → item-binary-lts.Need-mul-t22 (
 ) (item-binary-at t) item-binary.Post
 item-binary-mul-t22 t c = search needs
 
--- src/lib.rt:341:20
+-- src/lib.rt:641:20
 item-binary-add-t23 : (t : ℕ) → item-binary-lts.Need-add-t23 (
   next-binary-reads.Asked,
   next-binary-reads.Learnt,
@@ -196,7 +194,7 @@ item-binary-add-t23 t c =
     let e = rw (binary-part (a .s .now) (a .at) (a .stop) (omega (arith, q .2)) (omega (arith, q .1))) at (c .before .before .before .next-binary .ensures) in
     omega (arith, next-near _ _ _ _ _ (sym e ∙ c .before .next .given .1), part-length (binarySextets (a .s .now)) (a .at) (a .stop) long, length-binary (a .s .now))
 
--- src/lib.rt:343:24
+-- src/lib.rt:643:24
 item-binary-enum-known-next-2 : (t : ℕ) → item-binary-lts.Need-enum-known-next-2 (
   next-binary-reads.Asked,
   next-binary-reads.Learnt,
@@ -211,7 +209,7 @@ item-binary-enum-known-next-2 : (t : ℕ) → item-binary-lts.Need-enum-known-ne
 ) (item-binary-at t) item-binary.Post
 item-binary-enum-known-next-2 t c = search needs
 
--- src/lib.rt:344:16
+-- src/lib.rt:644:16
 item-binary-is-entered-requires : (t : ℕ) → item-binary-lts.Need-is-entered-requires (
   next-binary-reads.Asked,
   next-binary-reads.Learnt,
@@ -226,7 +224,7 @@ item-binary-is-entered-requires : (t : ℕ) → item-binary-lts.Need-is-entered-
 ) (item-binary-at t) item-binary.Post
 item-binary-is-entered-requires t c κs = search needs
 
--- src/lib.rt:345:21
+-- src/lib.rt:645:21
 item-binary-is-ruled-requires : (t : ℕ) → item-binary-lts.Need-is-ruled-requires (
   next-binary-reads.Asked,
   next-binary-reads.Learnt,
@@ -241,7 +239,7 @@ item-binary-is-ruled-requires : (t : ℕ) → item-binary-lts.Need-is-ruled-requ
 ) (item-binary-at t) item-binary.Post
 item-binary-is-ruled-requires t c κs = search needs
 
--- src/lib.rt:346:47
+-- src/lib.rt:646:47
 item-binary-sub-level-binary : (t : ℕ) → item-binary-lts.Need-sub-level-binary (
   next-binary-reads.Asked,
   next-binary-reads.Learnt,
@@ -261,7 +259,7 @@ item-binary-sub-level-binary t c =
     let e = rw (binary-part (a .s .now) (a .at) (a .stop) (omega (arith, q .2)) (omega (arith, q .1))) at (c .before .before .before .before .before .before .next-binary .ensures) in
     omega (arith, judged-levels (binarySextets (a .s .now)) (a .levels) (a .first) (a .at) (a .stop) long (q .2) _ _ _ _ e (c .before .before .before .before .next2 .given .1) (sym (c .before .before .is-entered .ensures) ∙ c .before .if1 .taken))
 
--- src/lib.rt:346:66
+-- src/lib.rt:646:66
 item-binary-add-level-binary : (t : ℕ) → item-binary-lts.Need-add-level-binary (
   next-binary-reads.Asked,
   next-binary-reads.Learnt,
@@ -281,7 +279,7 @@ item-binary-add-level-binary t c =
     let e = rw (binary-part (a .s .now) (a .at) (a .stop) (omega (arith, q .2)) (omega (arith, q .1))) at (c .before .before .before .before .before .before .next-binary .ensures) in
     omega (arith, judged-sizes (binarySextets (a .s .now)) (a .levels) (a .first) (a .at) (a .stop) long (q .2) _ _ _ _ e (c .before .before .before .before .next2 .given .1))
 
--- src/lib.rt:346:77
+-- src/lib.rt:646:77
 item-binary-add-level-binary-2 : (t : ℕ) → item-binary-lts.Need-add-level-binary-2 (
   next-binary-reads.Asked,
   next-binary-reads.Learnt,
@@ -301,7 +299,7 @@ item-binary-add-level-binary-2 t c =
     let e = rw (binary-part (a .s .now) (a .at) (a .stop) (omega (arith, q .2)) (omega (arith, q .1))) at (c .before .before .before .before .before .before .next-binary .ensures) in
     omega (arith, judged-sizes (binarySextets (a .s .now)) (a .levels) (a .first) (a .at) (a .stop) long (q .2) _ _ _ _ e (c .before .before .before .before .next2 .given .1))
 
--- src/lib.rt:346:21
+-- src/lib.rt:646:21
 item-binary-level-binary-requires : (t : ℕ) → item-binary-lts.Need-level-binary-requires (
   next-binary-reads.Asked,
   next-binary-reads.Learnt,
@@ -323,7 +321,7 @@ item-binary-level-binary-requires t c κs =
     let p = judged-levels (binarySextets (a .s .now)) (a .levels) (a .first) (a .at) (a .stop) long (q .2) _ _ _ _ e (c .before .before .before .before .next2 .given .1) (sym (c .before .before .is-entered .ensures) ∙ c .before .if1 .taken) in
     (omega (arith, p, c .before .before .before .before .before .before .before .before .before .pre .0), (q .0, omega (arith, z .2, q .1), omega (arith, z .1), q .3))
 
--- src/lib.rt:347:17
+-- src/lib.rt:647:17
 item-binary-told-requires : (t : ℕ) → item-binary-lts.Need-told-requires (
   next-binary-reads.Asked,
   next-binary-reads.Learnt,
@@ -338,7 +336,7 @@ item-binary-told-requires : (t : ℕ) → item-binary-lts.Need-told-requires (
 ) (item-binary-at t) item-binary.Post
 item-binary-told-requires t c κs = search needs
 
--- src/lib.rt:324:1
+-- src/lib.rt:624:1
 item-binary-returns : (t : ℕ) → item-binary-lts.Need-returns (
   next-binary-reads.Asked,
   next-binary-reads.Learnt,
@@ -358,7 +356,7 @@ item-binary-returns t c =
     let e = rw (binary-part (a .s .now) (a .at) (a .stop) (omega (arith, q .2)) (omega (arith, q .1))) at (c .before .before .before .next-binary .ensures) in
     judged-refused (binarySextets (a .s .now)) (a .levels) (a .first) (a .at) (a .stop) long (q .2) _ _ (sym e ∙ c .before .next .given .1)
 
--- src/lib.rt:324:1
+-- src/lib.rt:624:1
 item-binary-returns-2 : (t : ℕ) → item-binary-lts.Need-returns-2 (
   next-binary-reads.Asked,
   next-binary-reads.Learnt,
@@ -378,7 +376,7 @@ item-binary-returns-2 t c =
     let e = rw (binary-part (a .s .now) (a .at) (a .stop) (omega (arith, q .2)) (omega (arith, q .1))) at (c .before .before .before .before .before .before .before .before .next-binary .ensures) in
     judged-entered (binarySextets (a .s .now)) (a .levels) (a .first) (a .at) (a .stop) long (q .2) _ _ _ _ e (c .before .before .before .before .before .before .next2 .given .1) (sym (c .before .before .before .before .is-entered .ensures) ∙ c .before .before .before .if1 .taken) _ (rw (c .before .before .is-ruled .ensures) at (c .before .level-binary .ensures)) _ (c .told .ensures)
 
--- src/lib.rt:324:1
+-- src/lib.rt:624:1
 item-binary-returns-3 : (t : ℕ) → item-binary-lts.Need-returns-3 (
   next-binary-reads.Asked,
   next-binary-reads.Learnt,
@@ -399,51 +397,51 @@ item-binary-returns-3 t c =
     judged-plain (binarySextets (a .s .now)) (a .levels) (a .first) (a .at) (a .stop) long (q .2) _ _ _ _ e (c .before .before .before .next2 .given .1) (sym (c .before .is-entered .ensures) ∙ c .if1 .left)
 
 abbrev level-binary-Inv-loop : level-binary-lts.InvT-loop
-level-binary-Inv-loop rows s levels first at stop i₀ ruled₀ left₀ i ruled left = (i ≤ stop) × (left ≤ levels) × (level (binarySextets s) levels first at stop ≡ level (binarySextets s) left ruled i stop)
+level-binary-Inv-loop rows s levels first at stop i₀ ruled₀ i ruled = (i ≤ stop) × (at ≤ i) × (level (binarySextets s) levels first at stop ≡ level (binarySextets s) levels ruled i stop)
 
 abbrev level-binary-μ-loop : level-binary-lts.MeasureT-loop
-level-binary-μ-loop rows s levels first at stop i₀ ruled₀ left₀ i ruled left = stop - i
+level-binary-μ-loop rows s levels first at stop i₀ ruled₀ i ruled = stop - i
 
--- src/lib.rt:371:5
+-- src/lib.rt:669:5
 level-binary-loop-holds : (t : ℕ) → level-binary-lts.Need-loop-holds (
-  nested-binary-reads.Asked,
-  nested-binary-reads.Learnt,
-  letter-binary-reads.Asked,
-  letter-binary-reads.Learnt,
-  plain-binary-reads.Asked,
-  plain-binary-reads.Learnt,
-  plain-run-binary-reads.Asked,
-  plain-run-binary-reads.Learnt,
+  passed-binary-reads.Asked,
+  passed-binary-reads.Learnt,
+  entered-binary-reads.Asked,
+  entered-binary-reads.Learnt,
+  marks-binary-reads.Asked,
+  marks-binary-reads.Learnt,
+  level-binary-below t,
+  level-binary.Post,
   item-binary-below t,
   item-binary.Post,
 ) (level-binary-at t) level-binary.Post level-binary-Inv-loop level-binary-μ-loop
 level-binary-loop-holds t c = (search needs, search needs, refl)
 
--- src/lib.rt:372:13
-level-binary-nested-binary-requires : (t : ℕ) → level-binary-lts.Need-nested-binary-requires (
-  nested-binary-reads.Asked,
-  nested-binary-reads.Learnt,
-  letter-binary-reads.Asked,
-  letter-binary-reads.Learnt,
-  plain-binary-reads.Asked,
-  plain-binary-reads.Learnt,
-  plain-run-binary-reads.Asked,
-  plain-run-binary-reads.Learnt,
+-- src/lib.rt:670:13
+level-binary-passed-binary-requires : (t : ℕ) → level-binary-lts.Need-passed-binary-requires (
+  passed-binary-reads.Asked,
+  passed-binary-reads.Learnt,
+  entered-binary-reads.Asked,
+  entered-binary-reads.Learnt,
+  marks-binary-reads.Asked,
+  marks-binary-reads.Learnt,
+  level-binary-below t,
+  level-binary.Post,
   item-binary-below t,
   item-binary.Post,
 ) (level-binary-at t) level-binary.Post level-binary-Inv-loop level-binary-μ-loop
-level-binary-nested-binary-requires t c κs = search needs
+level-binary-passed-binary-requires t c κs = search needs
 
--- src/lib.rt:374:17
+-- src/lib.rt:672:17
 level-binary-add-i : (t : ℕ) → level-binary-lts.Need-add-i (
-  nested-binary-reads.Asked,
-  nested-binary-reads.Learnt,
-  letter-binary-reads.Asked,
-  letter-binary-reads.Learnt,
-  plain-binary-reads.Asked,
-  plain-binary-reads.Learnt,
-  plain-run-binary-reads.Asked,
-  plain-run-binary-reads.Learnt,
+  passed-binary-reads.Asked,
+  passed-binary-reads.Learnt,
+  entered-binary-reads.Asked,
+  entered-binary-reads.Learnt,
+  marks-binary-reads.Asked,
+  marks-binary-reads.Learnt,
+  level-binary-below t,
+  level-binary.Post,
   item-binary-below t,
   item-binary.Post,
 ) (level-binary-at t) level-binary.Post level-binary-Inv-loop level-binary-μ-loop
@@ -451,371 +449,419 @@ level-binary-add-i t c =
     let l = c .before .before .before in
     let a = c .before .before .before .before .before .args in
     let q = c .before .before .before .before .before .pre .1 in
-    let long : 4 * a .stop ≤ length (binarySextets (a .s .now)) = omega (arith, length-binary (a .s .now), q .1) in
-    let N = nested-level (binarySextets (a .s .now)) (a .stop) long (l .loop .left) (l .loop .ruled) (l .loop .i) _ (nested-is (groupAt (binarySextets (a .s .now))) _ _ _ _ _ (sym (c .before .nested-binary .ensures)) (c .if1 .taken)) (c .if1 .taken) in
-    omega (arith, N .fits)
+    let h = c .before .passed-binary .ensures (c .if1 .taken) in
+    omega (arith, h .1, q .1, q .3)
 
--- src/lib.rt:375:20
-level-binary-sub-left : (t : ℕ) → level-binary-lts.Need-sub-left (
-  nested-binary-reads.Asked,
-  nested-binary-reads.Learnt,
-  letter-binary-reads.Asked,
-  letter-binary-reads.Learnt,
-  plain-binary-reads.Asked,
-  plain-binary-reads.Learnt,
-  plain-run-binary-reads.Asked,
-  plain-run-binary-reads.Learnt,
-  item-binary-below t,
-  item-binary.Post,
-) (level-binary-at t) level-binary.Post level-binary-Inv-loop level-binary-μ-loop
-level-binary-sub-left t c =
-    let l = c .before .before .before in
-    let a = c .before .before .before .before .before .args in
-    let q = c .before .before .before .before .before .pre .1 in
-    let long : 4 * a .stop ≤ length (binarySextets (a .s .now)) = omega (arith, length-binary (a .s .now), q .1) in
-    let N = nested-level (binarySextets (a .s .now)) (a .stop) long (l .loop .left) (l .loop .ruled) (l .loop .i) _ (nested-is (groupAt (binarySextets (a .s .now))) _ _ _ _ _ (sym (c .before .nested-binary .ensures)) (c .if1 .taken)) (c .if1 .taken) in
-    omega (arith, N .few)
-
--- src/lib.rt:376:44
-level-binary-sub-letter-binary : (t : ℕ) → level-binary-lts.Need-sub-letter-binary (
-  nested-binary-reads.Asked,
-  nested-binary-reads.Learnt,
-  letter-binary-reads.Asked,
-  letter-binary-reads.Learnt,
-  plain-binary-reads.Asked,
-  plain-binary-reads.Learnt,
-  plain-run-binary-reads.Asked,
-  plain-run-binary-reads.Learnt,
-  item-binary-below t,
-  item-binary.Post,
-) (level-binary-at t) level-binary.Post level-binary-Inv-loop level-binary-μ-loop
-level-binary-sub-letter-binary t c =
-    let l = c .before .before .before in
-    let a = c .before .before .before .before .before .args in
-    let q = c .before .before .before .before .before .pre .1 in
-    let long : 4 * a .stop ≤ length (binarySextets (a .s .now)) = omega (arith, length-binary (a .s .now), q .1) in
-    let N = nested-level (binarySextets (a .s .now)) (a .stop) long (l .loop .left) (l .loop .ruled) (l .loop .i) _ (nested-is (groupAt (binarySextets (a .s .now))) _ _ _ _ _ (sym (c .before .nested-binary .ensures)) (c .if1 .taken)) (c .if1 .taken) in
-    omega (arith, c .if1 .taken)
-
--- src/lib.rt:376:21
-level-binary-letter-binary-requires : (t : ℕ) → level-binary-lts.Need-letter-binary-requires (
-  nested-binary-reads.Asked,
-  nested-binary-reads.Learnt,
-  letter-binary-reads.Asked,
-  letter-binary-reads.Learnt,
-  plain-binary-reads.Asked,
-  plain-binary-reads.Learnt,
-  plain-run-binary-reads.Asked,
-  plain-run-binary-reads.Learnt,
-  item-binary-below t,
-  item-binary.Post,
-) (level-binary-at t) level-binary.Post level-binary-Inv-loop level-binary-μ-loop
-level-binary-letter-binary-requires t c κs = search needs
-
--- src/lib.rt:371:5
+-- src/lib.rt:669:5
 level-binary-loop-less : (t : ℕ) → level-binary-lts.Need-loop-less (
-  nested-binary-reads.Asked,
-  nested-binary-reads.Learnt,
-  letter-binary-reads.Asked,
-  letter-binary-reads.Learnt,
-  plain-binary-reads.Asked,
-  plain-binary-reads.Learnt,
-  plain-run-binary-reads.Asked,
-  plain-run-binary-reads.Learnt,
+  passed-binary-reads.Asked,
+  passed-binary-reads.Learnt,
+  entered-binary-reads.Asked,
+  entered-binary-reads.Learnt,
+  marks-binary-reads.Asked,
+  marks-binary-reads.Learnt,
+  level-binary-below t,
+  level-binary.Post,
   item-binary-below t,
   item-binary.Post,
 ) (level-binary-at t) level-binary.Post level-binary-Inv-loop level-binary-μ-loop
 level-binary-loop-less t c =
-    let l = c .before .before .before .before in
-    let a = c .before .before .before .before .before .before .args in
-    let q = c .before .before .before .before .before .before .pre .1 in
-    let long : 4 * a .stop ≤ length (binarySextets (a .s .now)) = omega (arith, length-binary (a .s .now), q .1) in
-    let N = nested-level (binarySextets (a .s .now)) (a .stop) long (l .loop .left) (l .loop .ruled) (l .loop .i) _ (nested-is (groupAt (binarySextets (a .s .now))) _ _ _ _ _ (sym (c .before .before .nested-binary .ensures)) (c .before .if1 .taken)) (c .before .if1 .taken) in
-    omega (arith, N .fits, c .before .if1 .taken)
+    let l = c .before .before .before in
+    let a = c .before .before .before .before .before .args in
+    let q = c .before .before .before .before .before .pre .1 in
+    let h = c .before .passed-binary .ensures (c .if1 .taken) in
+    omega (arith, h .1, c .if1 .taken)
 
--- src/lib.rt:371:5
+-- src/lib.rt:669:5
 level-binary-loop-again : (t : ℕ) → level-binary-lts.Need-loop-again (
-  nested-binary-reads.Asked,
-  nested-binary-reads.Learnt,
-  letter-binary-reads.Asked,
-  letter-binary-reads.Learnt,
-  plain-binary-reads.Asked,
-  plain-binary-reads.Learnt,
-  plain-run-binary-reads.Asked,
-  plain-run-binary-reads.Learnt,
+  passed-binary-reads.Asked,
+  passed-binary-reads.Learnt,
+  entered-binary-reads.Asked,
+  entered-binary-reads.Learnt,
+  marks-binary-reads.Asked,
+  marks-binary-reads.Learnt,
+  level-binary-below t,
+  level-binary.Post,
   item-binary-below t,
   item-binary.Post,
 ) (level-binary-at t) level-binary.Post level-binary-Inv-loop level-binary-μ-loop
 level-binary-loop-again t c =
-    let l = c .before .before .before .before in
-    let a = c .before .before .before .before .before .before .args in
-    let q = c .before .before .before .before .before .before .pre .1 in
+    let l = c .before .before .before in
+    let a = c .before .before .before .before .before .args in
+    let q = c .before .before .before .before .before .pre .1 in
     let long : 4 * a .stop ≤ length (binarySextets (a .s .now)) = omega (arith, length-binary (a .s .now), q .1) in
-    let N = nested-level (binarySextets (a .s .now)) (a .stop) long (l .loop .left) (l .loop .ruled) (l .loop .i) _ (nested-is (groupAt (binarySextets (a .s .now))) _ _ _ _ _ (sym (c .before .before .nested-binary .ensures)) (c .before .if1 .taken)) (c .before .if1 .taken) in
-    (N .fits, omega (arith, N .few), l .loop .inv .2 ∙ N .leaves ∙ marked (binarySextets (a .s .now)) _ _ _ _ _ (c .letter-binary .ensures))
+    let h = c .before .passed-binary .ensures (c .if1 .taken) in
+    (h .1, omega (arith, l .loop .inv .1), l .loop .inv .2 ∙ step-passed (binarySextets (a .s .now)) (a .levels) (a .stop) long (a .at) (a .stop) (binary-clear (a .s .now) (a .at) (a .stop)) (l .loop .ruled) (l .loop .i) (l .loop .inv .1) _ (c .before .passed-binary .ensures) (c .if1 .taken))
 
--- src/lib.rt:378:17
-level-binary-plain-binary-requires : (t : ℕ) → level-binary-lts.Need-plain-binary-requires (
-  nested-binary-reads.Asked,
-  nested-binary-reads.Learnt,
-  letter-binary-reads.Asked,
-  letter-binary-reads.Learnt,
-  plain-binary-reads.Asked,
-  plain-binary-reads.Learnt,
-  plain-run-binary-reads.Asked,
-  plain-run-binary-reads.Learnt,
+-- src/lib.rt:675:17
+level-binary-entered-binary-requires : (t : ℕ) → level-binary-lts.Need-entered-binary-requires (
+  passed-binary-reads.Asked,
+  passed-binary-reads.Learnt,
+  entered-binary-reads.Asked,
+  entered-binary-reads.Learnt,
+  marks-binary-reads.Asked,
+  marks-binary-reads.Learnt,
+  level-binary-below t,
+  level-binary.Post,
   item-binary-below t,
   item-binary.Post,
 ) (level-binary-at t) level-binary.Post level-binary-Inv-loop level-binary-μ-loop
-level-binary-plain-binary-requires t c κs = search needs
+level-binary-entered-binary-requires t c κs = search needs
 
--- src/lib.rt:379:17
-level-binary-plain-run-binary-requires : (t : ℕ) → level-binary-lts.Need-plain-run-binary-requires (
-  nested-binary-reads.Asked,
-  nested-binary-reads.Learnt,
-  letter-binary-reads.Asked,
-  letter-binary-reads.Learnt,
-  plain-binary-reads.Asked,
-  plain-binary-reads.Learnt,
-  plain-run-binary-reads.Asked,
-  plain-run-binary-reads.Learnt,
+-- src/lib.rt:677:21
+level-binary-marks-binary-requires : (t : ℕ) → level-binary-lts.Need-marks-binary-requires (
+  passed-binary-reads.Asked,
+  passed-binary-reads.Learnt,
+  entered-binary-reads.Asked,
+  entered-binary-reads.Learnt,
+  marks-binary-reads.Asked,
+  marks-binary-reads.Learnt,
+  level-binary-below t,
+  level-binary.Post,
   item-binary-below t,
   item-binary.Post,
 ) (level-binary-at t) level-binary.Post level-binary-Inv-loop level-binary-μ-loop
-level-binary-plain-run-binary-requires t c κs = search needs
+level-binary-marks-binary-requires t c κs = search needs
 
--- src/lib.rt:381:25
-level-binary-mul-i : (t : ℕ) → level-binary-lts.Need-mul-i (
-  nested-binary-reads.Asked,
-  nested-binary-reads.Learnt,
-  letter-binary-reads.Asked,
-  letter-binary-reads.Learnt,
-  plain-binary-reads.Asked,
-  plain-binary-reads.Learnt,
-  plain-run-binary-reads.Asked,
-  plain-run-binary-reads.Learnt,
+-- src/lib.rt:678:47
+level-binary-sub-level-binary : (t : ℕ) → level-binary-lts.Need-sub-level-binary (
+  passed-binary-reads.Asked,
+  passed-binary-reads.Learnt,
+  entered-binary-reads.Asked,
+  entered-binary-reads.Learnt,
+  marks-binary-reads.Asked,
+  marks-binary-reads.Learnt,
+  level-binary-below t,
+  level-binary.Post,
   item-binary-below t,
   item-binary.Post,
 ) (level-binary-at t) level-binary.Post level-binary-Inv-loop level-binary-μ-loop
-level-binary-mul-i t c =
+level-binary-sub-level-binary t c =
     let l = c .before .before .before .before .before .before in
     let a = c .before .before .before .before .before .before .before .before .args in
     let q = c .before .before .before .before .before .before .before .before .pre .1 in
-    let long : 4 * a .stop ≤ length (binarySextets (a .s .now)) = omega (arith, length-binary (a .s .now), q .1) in
-    let R = binary-run (a .rows .now) (a .s .now) _ (a .stop) (l .loop .i) _ (q .0) (sym (c .before .plain-run-binary .ensures)) (c .if2 .taken) in
-    let z = run-fits (plainAt plainTable (binarySextets (a .s .now))) _ (a .stop) (l .loop .i) _ (R .run) (c .if2 .taken) in
-    omega (arith, z)
+    let h = c .before .before .entered-binary .ensures (c .before .if2 .taken) in
+    omega (arith, h .3)
 
--- src/lib.rt:381:21
-level-binary-add-i-2 : (t : ℕ) → level-binary-lts.Need-add-i-2 (
-  nested-binary-reads.Asked,
-  nested-binary-reads.Learnt,
-  letter-binary-reads.Asked,
-  letter-binary-reads.Learnt,
-  plain-binary-reads.Asked,
-  plain-binary-reads.Learnt,
-  plain-run-binary-reads.Asked,
-  plain-run-binary-reads.Learnt,
+-- src/lib.rt:678:66
+level-binary-add-level-binary : (t : ℕ) → level-binary-lts.Need-add-level-binary (
+  passed-binary-reads.Asked,
+  passed-binary-reads.Learnt,
+  entered-binary-reads.Asked,
+  entered-binary-reads.Learnt,
+  marks-binary-reads.Asked,
+  marks-binary-reads.Learnt,
+  level-binary-below t,
+  level-binary.Post,
   item-binary-below t,
   item-binary.Post,
 ) (level-binary-at t) level-binary.Post level-binary-Inv-loop level-binary-μ-loop
-level-binary-add-i-2 t c =
+level-binary-add-level-binary t c =
     let l = c .before .before .before .before .before .before in
     let a = c .before .before .before .before .before .before .before .before .args in
     let q = c .before .before .before .before .before .before .before .before .pre .1 in
-    let long : 4 * a .stop ≤ length (binarySextets (a .s .now)) = omega (arith, length-binary (a .s .now), q .1) in
-    let R = binary-run (a .rows .now) (a .s .now) _ (a .stop) (l .loop .i) _ (q .0) (sym (c .before .plain-run-binary .ensures)) (c .if2 .taken) in
-    let z = run-fits (plainAt plainTable (binarySextets (a .s .now))) _ (a .stop) (l .loop .i) _ (R .run) (c .if2 .taken) in
-    omega (arith, z)
+    let h = c .before .before .entered-binary .ensures (c .before .if2 .taken) in
+    omega (arith, h .1, c .before .if2 .taken, q .1, q .3)
 
--- src/lib.rt:371:5
-level-binary-loop-less-2 : (t : ℕ) → level-binary-lts.Need-loop-less-2 (
-  nested-binary-reads.Asked,
-  nested-binary-reads.Learnt,
-  letter-binary-reads.Asked,
-  letter-binary-reads.Learnt,
-  plain-binary-reads.Asked,
-  plain-binary-reads.Learnt,
-  plain-run-binary-reads.Asked,
-  plain-run-binary-reads.Learnt,
+-- src/lib.rt:678:73
+level-binary-add-level-binary-2 : (t : ℕ) → level-binary-lts.Need-add-level-binary-2 (
+  passed-binary-reads.Asked,
+  passed-binary-reads.Learnt,
+  entered-binary-reads.Asked,
+  entered-binary-reads.Learnt,
+  marks-binary-reads.Asked,
+  marks-binary-reads.Learnt,
+  level-binary-below t,
+  level-binary.Post,
   item-binary-below t,
   item-binary.Post,
 ) (level-binary-at t) level-binary.Post level-binary-Inv-loop level-binary-μ-loop
-level-binary-loop-less-2 t c =
+level-binary-add-level-binary-2 t c =
     let l = c .before .before .before .before .before .before in
     let a = c .before .before .before .before .before .before .before .before .args in
     let q = c .before .before .before .before .before .before .before .before .pre .1 in
-    let long : 4 * a .stop ≤ length (binarySextets (a .s .now)) = omega (arith, length-binary (a .s .now), q .1) in
-    let R = binary-run (a .rows .now) (a .s .now) _ (a .stop) (l .loop .i) _ (q .0) (sym (c .before .plain-run-binary .ensures)) (c .if2 .taken) in
-    let z = run-fits (plainAt plainTable (binarySextets (a .s .now))) _ (a .stop) (l .loop .i) _ (R .run) (c .if2 .taken) in
-    omega (arith, z, run-moves (plainAt plainTable (binarySextets (a .s .now))) _ (a .stop) (l .loop .i) _ (R .run) (c .if2 .taken))
+    let h = c .before .before .entered-binary .ensures (c .before .if2 .taken) in
+    omega (arith, h .1, c .before .if2 .taken, q .1, q .3)
 
--- src/lib.rt:371:5
-level-binary-loop-again-2 : (t : ℕ) → level-binary-lts.Need-loop-again-2 (
-  nested-binary-reads.Asked,
-  nested-binary-reads.Learnt,
-  letter-binary-reads.Asked,
-  letter-binary-reads.Learnt,
-  plain-binary-reads.Asked,
-  plain-binary-reads.Learnt,
-  plain-run-binary-reads.Asked,
-  plain-run-binary-reads.Learnt,
+-- src/lib.rt:678:21
+level-binary-level-binary-requires : (t : ℕ) → level-binary-lts.Need-level-binary-requires (
+  passed-binary-reads.Asked,
+  passed-binary-reads.Learnt,
+  entered-binary-reads.Asked,
+  entered-binary-reads.Learnt,
+  marks-binary-reads.Asked,
+  marks-binary-reads.Learnt,
+  level-binary-below t,
+  level-binary.Post,
   item-binary-below t,
   item-binary.Post,
 ) (level-binary-at t) level-binary.Post level-binary-Inv-loop level-binary-μ-loop
-level-binary-loop-again-2 t c =
+level-binary-level-binary-requires t c κs =
     let l = c .before .before .before .before .before .before in
     let a = c .before .before .before .before .before .before .before .before .args in
     let q = c .before .before .before .before .before .before .before .before .pre .1 in
-    let long : 4 * a .stop ≤ length (binarySextets (a .s .now)) = omega (arith, length-binary (a .s .now), q .1) in
-    let R = binary-run (a .rows .now) (a .s .now) _ (a .stop) (l .loop .i) _ (q .0) (sym (c .before .plain-run-binary .ensures)) (c .if2 .taken) in
-    let z = run-fits (plainAt plainTable (binarySextets (a .s .now))) _ (a .stop) (l .loop .i) _ (R .run) (c .if2 .taken) in
-    (omega (arith, z), l .loop .inv .1, l .loop .inv .2 ∙ run-level (binarySextets (a .s .now)) (l .loop .left) (a .stop) long (l .loop .ruled) _ (l .loop .i) _ (R .run) (R .known) (c .if2 .taken))
+    let h = c .before .before .entered-binary .ensures (c .before .if2 .taken) in
+    (omega (arith, h .3, c .before .before .before .before .before .before .before .before .pre .0), (q .0, omega (arith, h .1, q .1), omega (arith, c .before .if2 .taken), q .3))
 
--- src/lib.rt:384:23
-level-binary-item-binary-requires : (t : ℕ) → level-binary-lts.Need-item-binary-requires (
-  nested-binary-reads.Asked,
-  nested-binary-reads.Learnt,
-  letter-binary-reads.Asked,
-  letter-binary-reads.Learnt,
-  plain-binary-reads.Asked,
-  plain-binary-reads.Learnt,
-  plain-run-binary-reads.Asked,
-  plain-run-binary-reads.Learnt,
+-- src/lib.rt:680:40
+level-binary-enum-known-v : (t : ℕ) → level-binary-lts.Need-enum-known-v (
+  passed-binary-reads.Asked,
+  passed-binary-reads.Learnt,
+  entered-binary-reads.Asked,
+  entered-binary-reads.Learnt,
+  marks-binary-reads.Asked,
+  marks-binary-reads.Learnt,
+  level-binary-below t,
+  level-binary.Post,
   item-binary-below t,
   item-binary.Post,
 ) (level-binary-at t) level-binary.Post level-binary-Inv-loop level-binary-μ-loop
-level-binary-item-binary-requires t c κs =
-    let l = c .before .before .before .before .before .before in
-    let a = c .before .before .before .before .before .before .before .before .args in
-    let q = c .before .before .before .before .before .before .before .before .pre .1 in
-    let long : 4 * a .stop ≤ length (binarySextets (a .s .now)) = omega (arith, length-binary (a .s .now), q .1) in
-    (omega (arith, l .loop .inv .1, c .before .before .before .before .before .before .before .before .pre .0), (q .0, q .1, omega arith, q .3))
+level-binary-enum-known-v t c = search needs
 
--- src/lib.rt:385:40
-level-binary-enum-known-number : (t : ℕ) → level-binary-lts.Need-enum-known-number (
-  nested-binary-reads.Asked,
-  nested-binary-reads.Learnt,
-  letter-binary-reads.Asked,
-  letter-binary-reads.Learnt,
-  plain-binary-reads.Asked,
-  plain-binary-reads.Learnt,
-  plain-run-binary-reads.Asked,
-  plain-run-binary-reads.Learnt,
-  item-binary-below t,
-  item-binary.Post,
-) (level-binary-at t) level-binary.Post level-binary-Inv-loop level-binary-μ-loop
-level-binary-enum-known-number t c = search needs
-
--- src/lib.rt:386:25
+-- src/lib.rt:681:25
 level-binary-returns : (t : ℕ) → level-binary-lts.Need-returns (
-  nested-binary-reads.Asked,
-  nested-binary-reads.Learnt,
-  letter-binary-reads.Asked,
-  letter-binary-reads.Learnt,
-  plain-binary-reads.Asked,
-  plain-binary-reads.Learnt,
-  plain-run-binary-reads.Asked,
-  plain-run-binary-reads.Learnt,
+  passed-binary-reads.Asked,
+  passed-binary-reads.Learnt,
+  entered-binary-reads.Asked,
+  entered-binary-reads.Learnt,
+  marks-binary-reads.Asked,
+  marks-binary-reads.Learnt,
+  level-binary-below t,
+  level-binary.Post,
   item-binary-below t,
   item-binary.Post,
 ) (level-binary-at t) level-binary.Post level-binary-Inv-loop level-binary-μ-loop
 level-binary-returns t c =
     let l = c .before .before .before .before .before .before .before .before .before .before in
     let a = c .before .before .before .before .before .before .before .before .before .before .before .before .args in
-    let j = subst (Judged (binarySextets (a .s .now)) (l .loop .left) (l .loop .ruled) (l .loop .i) (a .stop)) (c .before .number .given .1) (c .before .before .before .item-binary .ensures) in
+    let q = c .before .before .before .before .before .before .before .before .before .before .before .before .pre .1 in
+    let long : 4 * a .stop ≤ length (binarySextets (a .s .now)) = omega (arith, length-binary (a .s .now), q .1) in
+    let h = c .before .before .before .before .before .before .entered-binary .ensures (c .before .before .before .before .before .if2 .taken) in
+    step-refused (binarySextets (a .s .now)) (a .levels) (a .stop) long (a .at) (a .stop) (binary-clear (a .s .now) (a .at) (a .stop)) (l .loop .ruled) (l .loop .i) (l .loop .inv .1) _ (c .before .before .before .before .before .before .entered-binary .ensures) (c .before .before .before .before .before .if2 .taken) _ (c .before .before .before .before .marks-binary .ensures ∙ marks-at (binarySextets (a .s .now)) (l .loop .i) (omega (arith, long, c .before .before .before .before .before .before .before .before .before .loop-test .taken))) _ (c .before .before .before .level-binary .ensures) _ _ (c .before .v .given .1) ∙ sym (l .loop .inv .2)
+
+-- src/lib.rt:684:29
+level-binary-enum-told : (t : ℕ) → level-binary-lts.Need-enum-told (
+  passed-binary-reads.Asked,
+  passed-binary-reads.Learnt,
+  entered-binary-reads.Asked,
+  entered-binary-reads.Learnt,
+  marks-binary-reads.Asked,
+  marks-binary-reads.Learnt,
+  level-binary-below t,
+  level-binary.Post,
+  item-binary-below t,
+  item-binary.Post,
+) (level-binary-at t) level-binary.Post level-binary-Inv-loop level-binary-μ-loop
+level-binary-enum-told t c = search needs
+
+-- src/lib.rt:684:29
+level-binary-add-i-2 : (t : ℕ) → level-binary-lts.Need-add-i-2 (
+  passed-binary-reads.Asked,
+  passed-binary-reads.Learnt,
+  entered-binary-reads.Asked,
+  entered-binary-reads.Learnt,
+  marks-binary-reads.Asked,
+  marks-binary-reads.Learnt,
+  level-binary-below t,
+  level-binary.Post,
+  item-binary-below t,
+  item-binary.Post,
+) (level-binary-at t) level-binary.Post level-binary-Inv-loop level-binary-μ-loop
+level-binary-add-i-2 t c =
+    let l = c .before .before .before .before .before .before .before .before .before in
+    let a = c .before .before .before .before .before .before .before .before .before .before .before .args in
+    let q = c .before .before .before .before .before .before .before .before .before .before .before .pre .1 in
+    let h = c .before .before .before .before .before .entered-binary .ensures (c .before .before .before .before .if2 .taken) in
+    omega (arith, h .1, q .1, q .3)
+
+-- src/lib.rt:669:5
+level-binary-loop-less-2 : (t : ℕ) → level-binary-lts.Need-loop-less-2 (
+  passed-binary-reads.Asked,
+  passed-binary-reads.Learnt,
+  entered-binary-reads.Asked,
+  entered-binary-reads.Learnt,
+  marks-binary-reads.Asked,
+  marks-binary-reads.Learnt,
+  level-binary-below t,
+  level-binary.Post,
+  item-binary-below t,
+  item-binary.Post,
+) (level-binary-at t) level-binary.Post level-binary-Inv-loop level-binary-μ-loop
+level-binary-loop-less-2 t c =
+    let l = c .before .before .before .before .before .before .before .before .before in
+    let a = c .before .before .before .before .before .before .before .before .before .before .before .args in
+    let q = c .before .before .before .before .before .before .before .before .before .before .before .pre .1 in
+    let h = c .before .before .before .before .before .entered-binary .ensures (c .before .before .before .before .if2 .taken) in
+    omega (arith, h .1, c .before .before .before .before .if2 .taken)
+
+-- src/lib.rt:669:5
+level-binary-loop-again-2 : (t : ℕ) → level-binary-lts.Need-loop-again-2 (
+  passed-binary-reads.Asked,
+  passed-binary-reads.Learnt,
+  entered-binary-reads.Asked,
+  entered-binary-reads.Learnt,
+  marks-binary-reads.Asked,
+  marks-binary-reads.Learnt,
+  level-binary-below t,
+  level-binary.Post,
+  item-binary-below t,
+  item-binary.Post,
+) (level-binary-at t) level-binary.Post level-binary-Inv-loop level-binary-μ-loop
+level-binary-loop-again-2 t c =
+    let l = c .before .before .before .before .before .before .before .before .before in
+    let a = c .before .before .before .before .before .before .before .before .before .before .before .args in
+    let q = c .before .before .before .before .before .before .before .before .before .before .before .pre .1 in
+    let long : 4 * a .stop ≤ length (binarySextets (a .s .now)) = omega (arith, length-binary (a .s .now), q .1) in
+    let h = c .before .before .before .before .before .entered-binary .ensures (c .before .before .before .before .if2 .taken) in
+    (h .1, omega (arith, l .loop .inv .1), l .loop .inv .2 ∙ step-entered (binarySextets (a .s .now)) (a .levels) (a .stop) long (a .at) (a .stop) (binary-clear (a .s .now) (a .at) (a .stop)) (l .loop .ruled) (l .loop .i) (l .loop .inv .1) _ (c .before .before .before .before .before .entered-binary .ensures) (c .before .before .before .before .if2 .taken) _ (c .before .before .before .marks-binary .ensures ∙ marks-at (binarySextets (a .s .now)) (l .loop .i) (omega (arith, long, c .before .before .before .before .before .before .before .before .loop-test .taken))) _ (c .before .before .level-binary .ensures) (c .enum-told .given .1))
+
+-- src/lib.rt:689:23
+level-binary-item-binary-requires : (t : ℕ) → level-binary-lts.Need-item-binary-requires (
+  passed-binary-reads.Asked,
+  passed-binary-reads.Learnt,
+  entered-binary-reads.Asked,
+  entered-binary-reads.Learnt,
+  marks-binary-reads.Asked,
+  marks-binary-reads.Learnt,
+  level-binary-below t,
+  level-binary.Post,
+  item-binary-below t,
+  item-binary.Post,
+) (level-binary-at t) level-binary.Post level-binary-Inv-loop level-binary-μ-loop
+level-binary-item-binary-requires t c κs =
+    let l = c .before .before .before .before .before in
+    let a = c .before .before .before .before .before .before .before .args in
+    let q = c .before .before .before .before .before .before .before .pre .1 in
+    (omega (arith, c .before .before .before .before .before .before .before .pre .0), (q .0, q .1, omega arith, q .3))
+
+-- src/lib.rt:690:40
+level-binary-enum-known-number : (t : ℕ) → level-binary-lts.Need-enum-known-number (
+  passed-binary-reads.Asked,
+  passed-binary-reads.Learnt,
+  entered-binary-reads.Asked,
+  entered-binary-reads.Learnt,
+  marks-binary-reads.Asked,
+  marks-binary-reads.Learnt,
+  level-binary-below t,
+  level-binary.Post,
+  item-binary-below t,
+  item-binary.Post,
+) (level-binary-at t) level-binary.Post level-binary-Inv-loop level-binary-μ-loop
+level-binary-enum-known-number t c = search needs
+
+-- src/lib.rt:691:25
+level-binary-returns-2 : (t : ℕ) → level-binary-lts.Need-returns-2 (
+  passed-binary-reads.Asked,
+  passed-binary-reads.Learnt,
+  entered-binary-reads.Asked,
+  entered-binary-reads.Learnt,
+  marks-binary-reads.Asked,
+  marks-binary-reads.Learnt,
+  level-binary-below t,
+  level-binary.Post,
+  item-binary-below t,
+  item-binary.Post,
+) (level-binary-at t) level-binary.Post level-binary-Inv-loop level-binary-μ-loop
+level-binary-returns-2 t c =
+    let l = c .before .before .before .before .before .before .before .before .before in
+    let a = c .before .before .before .before .before .before .before .before .before .before .before .args in
+    let q = c .before .before .before .before .before .before .before .before .before .before .before .pre .1 in
+    let j = subst (Judged (binarySextets (a .s .now)) (a .levels) (l .loop .ruled) (l .loop .i) (a .stop)) (c .before .number .given .1) (c .before .before .before .item-binary .ensures) in
     j ∙ sym (l .loop .inv .2)
 
--- src/lib.rt:391:25
+-- src/lib.rt:696:25
 level-binary-enum-known-size : (t : ℕ) → level-binary-lts.Need-enum-known-size (
-  nested-binary-reads.Asked,
-  nested-binary-reads.Learnt,
-  letter-binary-reads.Asked,
-  letter-binary-reads.Learnt,
-  plain-binary-reads.Asked,
-  plain-binary-reads.Learnt,
-  plain-run-binary-reads.Asked,
-  plain-run-binary-reads.Learnt,
+  passed-binary-reads.Asked,
+  passed-binary-reads.Learnt,
+  entered-binary-reads.Asked,
+  entered-binary-reads.Learnt,
+  marks-binary-reads.Asked,
+  marks-binary-reads.Learnt,
+  level-binary-below t,
+  level-binary.Post,
   item-binary-below t,
   item-binary.Post,
 ) (level-binary-at t) level-binary.Post level-binary-Inv-loop level-binary-μ-loop
 level-binary-enum-known-size t c = search needs
 
--- src/lib.rt:393:29
+-- src/lib.rt:698:29
 level-binary-add-i-3 : (t : ℕ) → level-binary-lts.Need-add-i-3 (
-  nested-binary-reads.Asked,
-  nested-binary-reads.Learnt,
-  letter-binary-reads.Asked,
-  letter-binary-reads.Learnt,
-  plain-binary-reads.Asked,
-  plain-binary-reads.Learnt,
-  plain-run-binary-reads.Asked,
-  plain-run-binary-reads.Learnt,
+  passed-binary-reads.Asked,
+  passed-binary-reads.Learnt,
+  entered-binary-reads.Asked,
+  entered-binary-reads.Learnt,
+  marks-binary-reads.Asked,
+  marks-binary-reads.Learnt,
+  level-binary-below t,
+  level-binary.Post,
   item-binary-below t,
   item-binary.Post,
 ) (level-binary-at t) level-binary.Post level-binary-Inv-loop level-binary-μ-loop
 level-binary-add-i-3 t c =
-    let l = c .before .before .before .before .before .before .before .before .before .before in
-    let a = c .before .before .before .before .before .before .before .before .before .before .before .before .args in
-    let j = subst (Judged (binarySextets (a .s .now)) (l .loop .left) (l .loop .ruled) (l .loop .i) (a .stop)) (c .before .size .given .1) (c .before .before .before .item-binary .ensures) in
-    omega (arith, j .2, c .before .before .before .before .before .before .before .before .before .before .before .before .pre .1)
+    let l = c .before .before .before .before .before .before .before .before .before in
+    let a = c .before .before .before .before .before .before .before .before .before .before .before .args in
+    let q = c .before .before .before .before .before .before .before .before .before .before .before .pre .1 in
+    let j = subst (Judged (binarySextets (a .s .now)) (a .levels) (l .loop .ruled) (l .loop .i) (a .stop)) (c .before .size .given .1) (c .before .before .before .item-binary .ensures) in
+    omega (arith, j .2, q .1, q .3)
 
--- src/lib.rt:371:5
+-- src/lib.rt:669:5
 level-binary-loop-less-3 : (t : ℕ) → level-binary-lts.Need-loop-less-3 (
-  nested-binary-reads.Asked,
-  nested-binary-reads.Learnt,
-  letter-binary-reads.Asked,
-  letter-binary-reads.Learnt,
-  plain-binary-reads.Asked,
-  plain-binary-reads.Learnt,
-  plain-run-binary-reads.Asked,
-  plain-run-binary-reads.Learnt,
+  passed-binary-reads.Asked,
+  passed-binary-reads.Learnt,
+  entered-binary-reads.Asked,
+  entered-binary-reads.Learnt,
+  marks-binary-reads.Asked,
+  marks-binary-reads.Learnt,
+  level-binary-below t,
+  level-binary.Post,
   item-binary-below t,
   item-binary.Post,
 ) (level-binary-at t) level-binary.Post level-binary-Inv-loop level-binary-μ-loop
 level-binary-loop-less-3 t c =
-    let l = c .before .before .before .before .before .before .before .before .before .before in
-    let a = c .before .before .before .before .before .before .before .before .before .before .before .before .args in
-    let j = subst (Judged (binarySextets (a .s .now)) (l .loop .left) (l .loop .ruled) (l .loop .i) (a .stop)) (c .before .size .given .1) (c .before .before .before .item-binary .ensures) in
+    let l = c .before .before .before .before .before .before .before .before .before in
+    let a = c .before .before .before .before .before .before .before .before .before .before .before .args in
+    let q = c .before .before .before .before .before .before .before .before .before .before .before .pre .1 in
+    let j = subst (Judged (binarySextets (a .s .now)) (a .levels) (l .loop .ruled) (l .loop .i) (a .stop)) (c .before .size .given .1) (c .before .before .before .item-binary .ensures) in
     omega (arith, j .1, j .2)
 
--- src/lib.rt:371:5
+-- src/lib.rt:669:5
 level-binary-loop-again-3 : (t : ℕ) → level-binary-lts.Need-loop-again-3 (
-  nested-binary-reads.Asked,
-  nested-binary-reads.Learnt,
-  letter-binary-reads.Asked,
-  letter-binary-reads.Learnt,
-  plain-binary-reads.Asked,
-  plain-binary-reads.Learnt,
-  plain-run-binary-reads.Asked,
-  plain-run-binary-reads.Learnt,
+  passed-binary-reads.Asked,
+  passed-binary-reads.Learnt,
+  entered-binary-reads.Asked,
+  entered-binary-reads.Learnt,
+  marks-binary-reads.Asked,
+  marks-binary-reads.Learnt,
+  level-binary-below t,
+  level-binary.Post,
   item-binary-below t,
   item-binary.Post,
 ) (level-binary-at t) level-binary.Post level-binary-Inv-loop level-binary-μ-loop
 level-binary-loop-again-3 t c =
-    let l = c .before .before .before .before .before .before .before .before .before .before in
-    let a = c .before .before .before .before .before .before .before .before .before .before .before .before .args in
-    let j = subst (Judged (binarySextets (a .s .now)) (l .loop .left) (l .loop .ruled) (l .loop .i) (a .stop)) (c .before .size .given .1) (c .before .before .before .item-binary .ensures) in
-    (j .2, l .loop .inv .1, l .loop .inv .2 ∙ j .0)
+    let l = c .before .before .before .before .before .before .before .before .before in
+    let a = c .before .before .before .before .before .before .before .before .before .before .before .args in
+    let q = c .before .before .before .before .before .before .before .before .before .before .before .pre .1 in
+    let j = subst (Judged (binarySextets (a .s .now)) (a .levels) (l .loop .ruled) (l .loop .i) (a .stop)) (c .before .size .given .1) (c .before .before .before .item-binary .ensures) in
+    (j .2, omega (arith, l .loop .inv .1), l .loop .inv .2 ∙ j .0)
 
--- src/lib.rt:357:1
-level-binary-returns-2 : (t : ℕ) → level-binary-lts.Need-returns-2 (
-  nested-binary-reads.Asked,
-  nested-binary-reads.Learnt,
-  letter-binary-reads.Asked,
-  letter-binary-reads.Learnt,
-  plain-binary-reads.Asked,
-  plain-binary-reads.Learnt,
-  plain-run-binary-reads.Asked,
-  plain-run-binary-reads.Learnt,
+-- src/lib.rt:656:1
+level-binary-returns-3 : (t : ℕ) → level-binary-lts.Need-returns-3 (
+  passed-binary-reads.Asked,
+  passed-binary-reads.Learnt,
+  entered-binary-reads.Asked,
+  entered-binary-reads.Learnt,
+  marks-binary-reads.Asked,
+  marks-binary-reads.Learnt,
+  level-binary-below t,
+  level-binary.Post,
   item-binary-below t,
   item-binary.Post,
 ) (level-binary-at t) level-binary.Post level-binary-Inv-loop level-binary-μ-loop
-level-binary-returns-2 t c =
+level-binary-returns-3 t c =
     let l = c .before in
     let a = c .before .before .before .args in
     let z : l .loop .i ≡ a .stop = omega arith in
-    sym (l .loop .inv .2 ∙ rw z (level-end (binarySextets (a .s .now)) (l .loop .left) (l .loop .ruled) (a .stop)))
+    sym (l .loop .inv .2 ∙ rw z (level-end (binarySextets (a .s .now)) (a .levels) (l .loop .ruled) (a .stop)))
 
 pub +item-binary+level-binary-spec : {M : Type 1} → statement M
 +item-binary+level-binary-spec = close μ-item-binary μ-level-binary (λ t. item-binary-lts.spec (
@@ -853,14 +899,14 @@ pub +item-binary+level-binary-spec : {M : Type 1} → statement M
     (item-binary-returns-2 t)
     (item-binary-returns-3 t))
     λ t. level-binary-lts.spec (
-      nested-binary-reads.Asked,
-      nested-binary-reads.Learnt,
-      letter-binary-reads.Asked,
-      letter-binary-reads.Learnt,
-      plain-binary-reads.Asked,
-      plain-binary-reads.Learnt,
-      plain-run-binary-reads.Asked,
-      plain-run-binary-reads.Learnt,
+      passed-binary-reads.Asked,
+      passed-binary-reads.Learnt,
+      entered-binary-reads.Asked,
+      entered-binary-reads.Learnt,
+      marks-binary-reads.Asked,
+      marks-binary-reads.Learnt,
+      level-binary-below t,
+      level-binary.Post,
       item-binary-below t,
       item-binary.Post,
     )
@@ -869,24 +915,27 @@ pub +item-binary+level-binary-spec : {M : Type 1} → statement M
     level-binary-Inv-loop
     level-binary-μ-loop
     (level-binary-loop-holds t)
-    (level-binary-nested-binary-requires t)
+    (level-binary-passed-binary-requires t)
     (level-binary-add-i t)
-    (level-binary-sub-left t)
-    (level-binary-sub-letter-binary t)
-    (level-binary-letter-binary-requires t)
     (level-binary-loop-less t)
     (level-binary-loop-again t)
-    (level-binary-plain-binary-requires t)
-    (level-binary-plain-run-binary-requires t)
-    (level-binary-mul-i t)
+    (level-binary-entered-binary-requires t)
+    (level-binary-marks-binary-requires t)
+    (level-binary-sub-level-binary t)
+    (level-binary-add-level-binary t)
+    (level-binary-add-level-binary-2 t)
+    (level-binary-level-binary-requires t)
+    (level-binary-enum-known-v t)
+    (level-binary-returns t)
+    (level-binary-enum-told t)
     (level-binary-add-i-2 t)
     (level-binary-loop-less-2 t)
     (level-binary-loop-again-2 t)
     (level-binary-item-binary-requires t)
     (level-binary-enum-known-number t)
-    (level-binary-returns t)
+    (level-binary-returns-2 t)
     (level-binary-enum-known-size t)
     (level-binary-add-i-3 t)
     (level-binary-loop-less-3 t)
     (level-binary-loop-again-3 t)
-    (level-binary-returns-2 t)
+    (level-binary-returns-3 t)

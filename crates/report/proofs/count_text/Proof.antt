@@ -1,172 +1,108 @@
 use mathlib.Core.Path.{_≡_, refl, sym, ap, _∙_}
-use Prim.Native.Nat.{_+_, _-_, _*_, _≤_}
 use native.Mathlib.Omega.{arith}
-use lib.ListN.{length, drop}
-use Rattle.format.specs.Units.{text, textSextets}
-use Rattle.format.specs.Report.{rowsIn}
-use Rattle.laws.specs.Domains.{text-reader}
-use Rattle.laws.specs.Items.{rowsAt}
-use Rattle.runs.specs.Plain.{plainTable, sizedAt}
-use Rattle.runs.specs.Runs.{run-is, run-fits, run-moves, run-many}
-use Rattle.report.proofs.Laws.{top-item, top-unframed, item-size, count-start, count-stop, count-more, count-end, count-run, nth-sized, text-by}
+use Prim.Native.Nat.{ℕ, _+_, _-_, _*_, _/_, _≤_, _<_, min}
+use lib.ListN.{length, drop, getD}
+use Rattle.format.specs.Units.{text, binary, textSextets, binarySextets}
+use Rattle.format.specs.Framing.{frameRuled}
+use Rattle.laws.specs.Domains.{text-reader, binary-reader}
+use Rattle.laws.specs.Conversion.{binary-below}
+use Rattle.runs.specs.Plain.{plainTable, sizedAt, letterAt}
+use Rattle.runs.specs.Levels.{Clear, clear-less, clear-below}
+use Rattle.runs.specs.Runs.{Run, run-fits, run-many}
+use Rattle.report.specs.Steps.{sizeOf}
+use Rattle.report.proofs.Laws.{group-item, sized-item, sized-none}
+use Rattle.report.proofs.Counting.{Counted, counted-start, counted-item, counted-stop, counted-end, counted-units, counted-run, item-some}
 use borrow.Author.Needs.{needs}
 use Rattle.report.proofs.count_text.Statement.{statement}
 use Rattle.report.proofs.count_text.Tie as tie
 use Rattle.report.proofs.count_text.Reads as reads
 use Rattle.report.proofs.count_text.Lts as lts
-use Rattle.report.proofs.next_text.Reads as next-text-reads
-use Rattle.runs.proofs.sized_run_text.Reads as sized-run-text-reads
-use Rattle.runs.proofs.sized_text.Reads as sized-text-reads
+use Rattle.report.proofs.alike_text.Reads as alike-text-reads
+use Rattle.report.proofs.clean_from.Reads as clean-from-reads
+use Rattle.report.proofs.group_size_text.Reads as group-size-text-reads
+use Rattle.report.proofs.size_text.Reads as size-text-reads
 
 abbrev Inv-loop : tie.InvT-loop
-Inv-loop values rows s a₀ i₀ a i = (4 * a ≤ length s) × (i ≤ a) × (length (rowsIn text s) ≡ i + length (rowsAt text (4 * a) (drop (4 * a) s)))
+Inv-loop values classes rows s known clean₀ a₀ i₀ clean a i = Counted text text-reader 4 refl s a i × Clear (textSextets s) a clean
 
 abbrev μ-loop : tie.MeasureT-loop
-μ-loop values rows s a₀ i₀ a i = length s - 4 * a
+μ-loop values classes rows s known clean₀ a₀ i₀ clean a i = length s - 4 * a
 
--- src/lib.rt:225:5
+-- src/lib.rt:462:5
 loop-holds : tie.Need-loop-holds Inv-loop μ-loop
-loop-holds c = (search needs, search needs, count-start text text-reader (c .before .args .s .now))
+loop-holds c = (counted-start text text-reader 4 refl (c .before .args .s .now), c .before .pre .4)
 
--- src/lib.rt:225:11
+-- src/lib.rt:462:11
 mul-loop : tie.Need-mul-loop Inv-loop μ-loop
-mul-loop c = search needs
+mul-loop c = omega (arith, c .loop .inv .0 .inside, c .before .before .pre .3)
 
--- src/lib.rt:226:13
-sized-text-requires : tie.Need-sized-text-requires Inv-loop μ-loop
-sized-text-requires c κs = search needs
+-- src/lib.rt:463:9
+clean-from-requires : tie.Need-clean-from-requires Inv-loop μ-loop
+clean-from-requires c κs = (c .before .loop .inv .0 .inside, c .before .loop .inv .1)
 
--- src/lib.rt:227:13
-sized-run-text-requires : tie.Need-sized-run-text-requires Inv-loop μ-loop
-sized-run-text-requires c κs = search needs
+-- src/lib.rt:464:13
+group-size-text-requires : tie.Need-group-size-text-requires Inv-loop μ-loop
+group-size-text-requires c κs = (c .before .before .before .before .pre .0, c .before .before .before .before .pre .1, c .before .before .loop .inv .0 .inside, c .clean-from .ensures)
 
--- src/lib.rt:229:21
-mul-a : tie.Need-mul-a Inv-loop μ-loop
-mul-a c =
-    let l = c .before .before .before .before in
-    let b = c .before .before .before .before .before .before .args in
-    let q = c .before .before .before .before .before .before .pre in
-    let s = b .s .now in
-    let X = run-is (sizedAt plainTable (textSextets s)) _ _ _ (l .loop .a) _ (rw (q .1, text-by (b .values .now) s (q .0) (λ i. omega (arith, c .before .before .before .before .before .shared-slice-known .given i))) at (sym (c .before .sized-run-text .ensures))) (c .if1 .taken) in
-    let z = run-fits (sizedAt plainTable (textSextets s)) _ _ (l .loop .a) _ X (c .if1 .taken) in
-    let y = run-moves (sizedAt plainTable (textSextets s)) _ _ (l .loop .a) _ X (c .if1 .taken) in
-    let x = run-many (sizedAt plainTable (textSextets s)) _ _ (l .loop .a) _ X in
-    omega (arith, z)
-
--- src/lib.rt:229:17
+-- src/lib.rt:466:17
 add-a : tie.Need-add-a Inv-loop μ-loop
-add-a c =
-    let l = c .before .before .before .before in
-    let b = c .before .before .before .before .before .before .args in
-    let q = c .before .before .before .before .before .before .pre in
-    let s = b .s .now in
-    let X = run-is (sizedAt plainTable (textSextets s)) _ _ _ (l .loop .a) _ (rw (q .1, text-by (b .values .now) s (q .0) (λ i. omega (arith, c .before .before .before .before .before .shared-slice-known .given i))) at (sym (c .before .sized-run-text .ensures))) (c .if1 .taken) in
-    let z = run-fits (sizedAt plainTable (textSextets s)) _ _ (l .loop .a) _ X (c .if1 .taken) in
-    let y = run-moves (sizedAt plainTable (textSextets s)) _ _ (l .loop .a) _ X (c .if1 .taken) in
-    let x = run-many (sizedAt plainTable (textSextets s)) _ _ (l .loop .a) _ X in
-    omega (arith, z)
+add-a c = let g = c .before .group-size-text .ensures (c .if1 .taken) in let e = group-item text text-reader 4 refl (c .before .before .before .before .before .before .args .s .now) (c .before .before .before .before .loop .a) _ (c .before .before .clean-from .result) (c .before .before .clean-from .ensures) (g .2) (g .0) (c .if1 .taken) (g .1) in let C = counted-item text text-reader 4 refl (c .before .before .before .before .before .before .args .s .now) (c .before .before .before .before .loop .a) (c .before .before .before .before .loop .i) (c .before .before .before .before .loop .inv .0) _ e _ _ _ refl in let b = counted-units text text-reader 4 refl (c .before .before .before .before .before .before .args .s .now) _ _ C in let p = c .if1 .taken in omega (arith, b, c .before .before .before .before .before .before .pre .3)
 
--- src/lib.rt:230:17
+-- src/lib.rt:467:17
 add-i : tie.Need-add-i Inv-loop μ-loop
-add-i c =
-    let l = c .before .before .before .before in
-    let b = c .before .before .before .before .before .before .args in
-    let q = c .before .before .before .before .before .before .pre in
-    let s = b .s .now in
-    let X = run-is (sizedAt plainTable (textSextets s)) _ _ _ (l .loop .a) _ (rw (q .1, text-by (b .values .now) s (q .0) (λ i. omega (arith, c .before .before .before .before .before .shared-slice-known .given i))) at (sym (c .before .sized-run-text .ensures))) (c .if1 .taken) in
-    let z = run-fits (sizedAt plainTable (textSextets s)) _ _ (l .loop .a) _ X (c .if1 .taken) in
-    let y = run-moves (sizedAt plainTable (textSextets s)) _ _ (l .loop .a) _ X (c .if1 .taken) in
-    let x = run-many (sizedAt plainTable (textSextets s)) _ _ (l .loop .a) _ X in
-    omega (arith, z, x)
+add-i c = let g = c .before .group-size-text .ensures (c .if1 .taken) in let e = group-item text text-reader 4 refl (c .before .before .before .before .before .before .args .s .now) (c .before .before .before .before .loop .a) _ (c .before .before .clean-from .result) (c .before .before .clean-from .ensures) (g .2) (g .0) (c .if1 .taken) (g .1) in let C = counted-item text text-reader 4 refl (c .before .before .before .before .before .before .args .s .now) (c .before .before .before .before .loop .a) (c .before .before .before .before .loop .i) (c .before .before .before .before .loop .inv .0) _ e _ _ _ refl in let b = counted-units text text-reader 4 refl (c .before .before .before .before .before .before .args .s .now) _ _ C in let p = c .if1 .taken in omega (arith, b, C .few, c .before .before .before .before .before .before .pre .3)
 
--- src/lib.rt:225:5
+-- src/lib.rt:462:5
 loop-less : tie.Need-loop-less Inv-loop μ-loop
-loop-less c =
-    let l = c .before .before .before .before in
-    let b = c .before .before .before .before .before .before .args in
-    let q = c .before .before .before .before .before .before .pre in
-    let s = b .s .now in
-    let X = run-is (sizedAt plainTable (textSextets s)) _ _ _ (l .loop .a) _ (rw (q .1, text-by (b .values .now) s (q .0) (λ i. omega (arith, c .before .before .before .before .before .shared-slice-known .given i))) at (sym (c .before .sized-run-text .ensures))) (c .if1 .taken) in
-    let z = run-fits (sizedAt plainTable (textSextets s)) _ _ (l .loop .a) _ X (c .if1 .taken) in
-    let y = run-moves (sizedAt plainTable (textSextets s)) _ _ (l .loop .a) _ X (c .if1 .taken) in
-    let x = run-many (sizedAt plainTable (textSextets s)) _ _ (l .loop .a) _ X in
-    omega (arith, z, y)
+loop-less c = let g = c .before .group-size-text .ensures (c .if1 .taken) in let e = group-item text text-reader 4 refl (c .before .before .before .before .before .before .args .s .now) (c .before .before .before .before .loop .a) _ (c .before .before .clean-from .result) (c .before .before .clean-from .ensures) (g .2) (g .0) (c .if1 .taken) (g .1) in let C = counted-item text text-reader 4 refl (c .before .before .before .before .before .before .args .s .now) (c .before .before .before .before .loop .a) (c .before .before .before .before .loop .i) (c .before .before .before .before .loop .inv .0) _ e _ _ _ refl in let b = counted-units text text-reader 4 refl (c .before .before .before .before .before .before .args .s .now) _ _ C in let p = c .if1 .taken in omega (arith, C .inside)
 
--- src/lib.rt:225:5
+-- src/lib.rt:462:5
 loop-again : tie.Need-loop-again Inv-loop μ-loop
-loop-again c =
-    let l = c .before .before .before .before in
-    let b = c .before .before .before .before .before .before .args in
-    let q = c .before .before .before .before .before .before .pre in
-    let s = b .s .now in
-    let X = run-is (sizedAt plainTable (textSextets s)) _ _ _ (l .loop .a) _ (rw (q .1, text-by (b .values .now) s (q .0) (λ i. omega (arith, c .before .before .before .before .before .shared-slice-known .given i))) at (sym (c .before .sized-run-text .ensures))) (c .if1 .taken) in
-    let z = run-fits (sizedAt plainTable (textSextets s)) _ _ (l .loop .a) _ X (c .if1 .taken) in
-    let y = run-moves (sizedAt plainTable (textSextets s)) _ _ (l .loop .a) _ X (c .if1 .taken) in
-    let x = run-many (sizedAt plainTable (textSextets s)) _ _ (l .loop .a) _ X in
-    (omega (arith, z), omega (arith, x), count-run text text-reader 4 refl s _ (l .loop .a) _ (nth-sized text text-reader 4 refl s _ (l .loop .a) _ X) (l .loop .i) (l .loop .inv .2))
+loop-again c = let g = c .before .group-size-text .ensures (c .if1 .taken) in let e = group-item text text-reader 4 refl (c .before .before .before .before .before .before .args .s .now) (c .before .before .before .before .loop .a) _ (c .before .before .clean-from .result) (c .before .before .clean-from .ensures) (g .2) (g .0) (c .if1 .taken) (g .1) in let C = counted-item text text-reader 4 refl (c .before .before .before .before .before .before .args .s .now) (c .before .before .before .before .loop .a) (c .before .before .before .before .loop .i) (c .before .before .before .before .loop .inv .0) _ e _ _ _ refl in let b = counted-units text text-reader 4 refl (c .before .before .before .before .before .before .args .s .now) _ _ C in let p = c .if1 .taken in (C, clear-less (textSextets (c .before .before .before .before .before .before .args .s .now)) (c .before .before .before .before .loop .a) (c .before .before .clean-from .result) _ (c .before .before .clean-from .result) (c .before .before .clean-from .ensures) (omega arith) (omega arith))
 
--- src/lib.rt:232:19
-next-text-requires : tie.Need-next-text-requires Inv-loop μ-loop
-next-text-requires c κs = search needs
+-- src/lib.rt:469:17
+size-text-requires : tie.Need-size-text-requires Inv-loop μ-loop
+size-text-requires c κs = (c .before .before .before .before .before .before .pre .0, c .before .before .before .before .before .before .pre .2, c .before .before .before .before .loop .inv .0 .inside, c .before .before .clean-from .ensures)
 
--- src/lib.rt:237:21
-enum-told : tie.Need-enum-told Inv-loop μ-loop
-enum-told c = search needs
-
--- src/lib.rt:237:21
+-- src/lib.rt:471:17
 returns : tie.Need-returns Inv-loop μ-loop
-returns c =
-    let l = c .before .before .before .before .before .before .before in
-    let s = c .before .before .before .before .before .before .before .before .before .args .s .now in
-    let t = top-unframed text (drop (4 * l .loop .a) s) _ (c .before .before .next-text .ensures) _ _ (c .enum-told .given .1) in
-    let e = ap length (count-stop text text-reader s (4 * l .loop .a) (search needs) t) in
-    (omega arith, omega arith)
+returns c = let z = counted-stop text text-reader 4 refl (c .before .before .before .before .before .before .before .before .args .s .now) (c .before .before .before .before .before .before .loop .a) (c .before .before .before .before .before .before .loop .i) (c .before .before .before .before .before .before .loop .inv .0) (frameRuled (textSextets (drop (4 * c .before .before .before .before .before .before .loop .a) (c .before .before .before .before .before .before .before .before .args .s .now)))) refl _ _ (sized-none _ (frameRuled (textSextets (drop (4 * c .before .before .before .before .before .before .loop .a) (c .before .before .before .before .before .before .before .before .args .s .now)))) refl (sym (c .if2 .taken) ∙ c .before .size-text .ensures)) (search needs) in let y = counted-units text text-reader 4 refl (c .before .before .before .before .before .before .before .before .args .s .now) _ _ (c .before .before .before .before .before .before .loop .inv .0) in let w = (c .before .before .before .before .before .before .loop .inv .0) .few in (z, omega (arith, c .before .before .before .before .before .before .before .before .pre .3))
 
--- src/lib.rt:242:21
-enum-known-size : tie.Need-enum-known-size Inv-loop μ-loop
-enum-known-size c = search needs
+-- src/lib.rt:473:17
+alike-text-requires : tie.Need-alike-text-requires Inv-loop μ-loop
+alike-text-requires c κs = let p : 0 < c .before .size-text .result = search needs in let q = sized-item (frameRuled (textSextets (drop (4 * c .before .before .before .before .before .before .loop .a) (c .before .before .before .before .before .before .before .before .args .s .now)))) _ (c .before .size-text .ensures) p in let C = counted-item text text-reader 4 refl (c .before .before .before .before .before .before .before .before .args .s .now) (c .before .before .before .before .before .before .loop .a) (c .before .before .before .before .before .before .loop .i) (c .before .before .before .before .before .before .loop .inv .0) (frameRuled (textSextets (drop (4 * c .before .before .before .before .before .before .loop .a) (c .before .before .before .before .before .before .before .before .args .s .now)))) refl _ _ _ (q .2) in let b = counted-units text text-reader 4 refl (c .before .before .before .before .before .before .before .before .args .s .now) _ _ C in (c .before .before .before .before .before .before .before .before .pre .0, c .before .before .before .before .before .before .before .before .pre .2, omega (arith, b), p, omega (arith, b, c .before .before .before .before .before .before .before .before .pre .3), c .before .before .before .before .before .before .before .before .pre .3)
 
--- src/lib.rt:244:25
+-- src/lib.rt:474:17
 add-a-2 : tie.Need-add-a-2 Inv-loop μ-loop
-add-a-2 c =
-    let l = c .before .before .before .before .before .before .before .before in
-    let s = c .before .before .before .before .before .before .before .before .before .before .args .s .now in
-    let t = top-item text (drop (4 * l .loop .a) s) _ (c .before .before .before .next-text .ensures) _ _ _ (c .before .size .given .1) in
-    let z = item-size text text-reader s (4 * l .loop .a) _ _ _ t in
-    omega (arith, z .2)
+add-a-2 c = let p : 0 < c .before .before .size-text .result = search needs in let q = sized-item (frameRuled (textSextets (drop (4 * c .before .before .before .before .before .before .before .loop .a) (c .before .before .before .before .before .before .before .before .before .args .s .now)))) _ (c .before .before .size-text .ensures) p in let C = counted-item text text-reader 4 refl (c .before .before .before .before .before .before .before .before .before .args .s .now) (c .before .before .before .before .before .before .before .loop .a) (c .before .before .before .before .before .before .before .loop .i) (c .before .before .before .before .before .before .before .loop .inv .0) (frameRuled (textSextets (drop (4 * c .before .before .before .before .before .before .before .loop .a) (c .before .before .before .before .before .before .before .before .before .args .s .now)))) refl _ _ _ (q .2) in let b = counted-units text text-reader 4 refl (c .before .before .before .before .before .before .before .before .before .args .s .now) _ _ C in let K = clear-less (textSextets (c .before .before .before .before .before .before .before .before .before .args .s .now)) (c .before .before .before .before .before .before .before .loop .a) (c .before .before .before .before .before .clean-from .result) (c .before .before .before .before .before .before .before .loop .a) (min (c .before .before .before .before .before .clean-from .result) (length (c .before .before .before .before .before .before .before .before .before .args .s .now) / 4)) (c .before .before .before .before .before .clean-from .ensures) (omega arith) (omega arith) in let E = counted-run text text-reader 4 refl (c .before .before .before .before .before .before .before .before .before .args .s .now) (c .before .before .before .before .before .before .before .loop .a + c .before .before .size-text .result) (c .before .before .before .before .before .before .before .loop .i + 1) (c .before .before .size-text .result) (min (c .before .before .before .before .before .clean-from .result) (length (c .before .before .before .before .before .before .before .before .before .args .s .now) / 4)) (c .alike-text .result) (c .before .before .before .before .before .before .before .loop .a) C (c .alike-text .ensures) K (omega arith) (omega arith) in let z = counted-units text text-reader 4 refl (c .before .before .before .before .before .before .before .before .before .args .s .now) _ _ E in omega (arith, b, c .before .before .before .before .before .before .before .before .before .pre .3)
 
--- src/lib.rt:245:25
+-- src/lib.rt:474:25
+mul-a : tie.Need-mul-a Inv-loop μ-loop
+mul-a c = let p : 0 < c .before .before .size-text .result = search needs in let q = sized-item (frameRuled (textSextets (drop (4 * c .before .before .before .before .before .before .before .loop .a) (c .before .before .before .before .before .before .before .before .before .args .s .now)))) _ (c .before .before .size-text .ensures) p in let C = counted-item text text-reader 4 refl (c .before .before .before .before .before .before .before .before .before .args .s .now) (c .before .before .before .before .before .before .before .loop .a) (c .before .before .before .before .before .before .before .loop .i) (c .before .before .before .before .before .before .before .loop .inv .0) (frameRuled (textSextets (drop (4 * c .before .before .before .before .before .before .before .loop .a) (c .before .before .before .before .before .before .before .before .before .args .s .now)))) refl _ _ _ (q .2) in let b = counted-units text text-reader 4 refl (c .before .before .before .before .before .before .before .before .before .args .s .now) _ _ C in let K = clear-less (textSextets (c .before .before .before .before .before .before .before .before .before .args .s .now)) (c .before .before .before .before .before .before .before .loop .a) (c .before .before .before .before .before .clean-from .result) (c .before .before .before .before .before .before .before .loop .a) (min (c .before .before .before .before .before .clean-from .result) (length (c .before .before .before .before .before .before .before .before .before .args .s .now) / 4)) (c .before .before .before .before .before .clean-from .ensures) (omega arith) (omega arith) in let E = counted-run text text-reader 4 refl (c .before .before .before .before .before .before .before .before .before .args .s .now) (c .before .before .before .before .before .before .before .loop .a + c .before .before .size-text .result) (c .before .before .before .before .before .before .before .loop .i + 1) (c .before .before .size-text .result) (min (c .before .before .before .before .before .clean-from .result) (length (c .before .before .before .before .before .before .before .before .before .args .s .now) / 4)) (c .alike-text .result) (c .before .before .before .before .before .before .before .loop .a) C (c .alike-text .ensures) K (omega arith) (omega arith) in let z = counted-units text text-reader 4 refl (c .before .before .before .before .before .before .before .before .before .args .s .now) _ _ E in omega (arith, z, c .before .before .before .before .before .before .before .before .before .pre .3)
+
+-- src/lib.rt:474:17
+add-a-3 : tie.Need-add-a-3 Inv-loop μ-loop
+add-a-3 c = let p : 0 < c .before .before .size-text .result = search needs in let q = sized-item (frameRuled (textSextets (drop (4 * c .before .before .before .before .before .before .before .loop .a) (c .before .before .before .before .before .before .before .before .before .args .s .now)))) _ (c .before .before .size-text .ensures) p in let C = counted-item text text-reader 4 refl (c .before .before .before .before .before .before .before .before .before .args .s .now) (c .before .before .before .before .before .before .before .loop .a) (c .before .before .before .before .before .before .before .loop .i) (c .before .before .before .before .before .before .before .loop .inv .0) (frameRuled (textSextets (drop (4 * c .before .before .before .before .before .before .before .loop .a) (c .before .before .before .before .before .before .before .before .before .args .s .now)))) refl _ _ _ (q .2) in let b = counted-units text text-reader 4 refl (c .before .before .before .before .before .before .before .before .before .args .s .now) _ _ C in let K = clear-less (textSextets (c .before .before .before .before .before .before .before .before .before .args .s .now)) (c .before .before .before .before .before .before .before .loop .a) (c .before .before .before .before .before .clean-from .result) (c .before .before .before .before .before .before .before .loop .a) (min (c .before .before .before .before .before .clean-from .result) (length (c .before .before .before .before .before .before .before .before .before .args .s .now) / 4)) (c .before .before .before .before .before .clean-from .ensures) (omega arith) (omega arith) in let E = counted-run text text-reader 4 refl (c .before .before .before .before .before .before .before .before .before .args .s .now) (c .before .before .before .before .before .before .before .loop .a + c .before .before .size-text .result) (c .before .before .before .before .before .before .before .loop .i + 1) (c .before .before .size-text .result) (min (c .before .before .before .before .before .clean-from .result) (length (c .before .before .before .before .before .before .before .before .before .args .s .now) / 4)) (c .alike-text .result) (c .before .before .before .before .before .before .before .loop .a) C (c .alike-text .ensures) K (omega arith) (omega arith) in let z = counted-units text text-reader 4 refl (c .before .before .before .before .before .before .before .before .before .args .s .now) _ _ E in omega (arith, z, c .before .before .before .before .before .before .before .before .before .pre .3)
+
+-- src/lib.rt:475:17
 add-i-2 : tie.Need-add-i-2 Inv-loop μ-loop
-add-i-2 c =
-    let l = c .before .before .before .before .before .before .before .before in omega arith
+add-i-2 c = let p : 0 < c .before .before .size-text .result = search needs in let q = sized-item (frameRuled (textSextets (drop (4 * c .before .before .before .before .before .before .before .loop .a) (c .before .before .before .before .before .before .before .before .before .args .s .now)))) _ (c .before .before .size-text .ensures) p in let C = counted-item text text-reader 4 refl (c .before .before .before .before .before .before .before .before .before .args .s .now) (c .before .before .before .before .before .before .before .loop .a) (c .before .before .before .before .before .before .before .loop .i) (c .before .before .before .before .before .before .before .loop .inv .0) (frameRuled (textSextets (drop (4 * c .before .before .before .before .before .before .before .loop .a) (c .before .before .before .before .before .before .before .before .before .args .s .now)))) refl _ _ _ (q .2) in let b = counted-units text text-reader 4 refl (c .before .before .before .before .before .before .before .before .before .args .s .now) _ _ C in let K = clear-less (textSextets (c .before .before .before .before .before .before .before .before .before .args .s .now)) (c .before .before .before .before .before .before .before .loop .a) (c .before .before .before .before .before .clean-from .result) (c .before .before .before .before .before .before .before .loop .a) (min (c .before .before .before .before .before .clean-from .result) (length (c .before .before .before .before .before .before .before .before .before .args .s .now) / 4)) (c .before .before .before .before .before .clean-from .ensures) (omega arith) (omega arith) in let E = counted-run text text-reader 4 refl (c .before .before .before .before .before .before .before .before .before .args .s .now) (c .before .before .before .before .before .before .before .loop .a + c .before .before .size-text .result) (c .before .before .before .before .before .before .before .loop .i + 1) (c .before .before .size-text .result) (min (c .before .before .before .before .before .clean-from .result) (length (c .before .before .before .before .before .before .before .before .before .args .s .now) / 4)) (c .alike-text .result) (c .before .before .before .before .before .before .before .loop .a) C (c .alike-text .ensures) K (omega arith) (omega arith) in let z = counted-units text text-reader 4 refl (c .before .before .before .before .before .before .before .before .before .args .s .now) _ _ E in omega (arith, b, C .few, c .before .before .before .before .before .before .before .before .before .pre .3)
 
--- src/lib.rt:225:5
+-- src/lib.rt:475:17
+add-i-3 : tie.Need-add-i-3 Inv-loop μ-loop
+add-i-3 c = let p : 0 < c .before .before .size-text .result = search needs in let q = sized-item (frameRuled (textSextets (drop (4 * c .before .before .before .before .before .before .before .loop .a) (c .before .before .before .before .before .before .before .before .before .args .s .now)))) _ (c .before .before .size-text .ensures) p in let C = counted-item text text-reader 4 refl (c .before .before .before .before .before .before .before .before .before .args .s .now) (c .before .before .before .before .before .before .before .loop .a) (c .before .before .before .before .before .before .before .loop .i) (c .before .before .before .before .before .before .before .loop .inv .0) (frameRuled (textSextets (drop (4 * c .before .before .before .before .before .before .before .loop .a) (c .before .before .before .before .before .before .before .before .before .args .s .now)))) refl _ _ _ (q .2) in let b = counted-units text text-reader 4 refl (c .before .before .before .before .before .before .before .before .before .args .s .now) _ _ C in let K = clear-less (textSextets (c .before .before .before .before .before .before .before .before .before .args .s .now)) (c .before .before .before .before .before .before .before .loop .a) (c .before .before .before .before .before .clean-from .result) (c .before .before .before .before .before .before .before .loop .a) (min (c .before .before .before .before .before .clean-from .result) (length (c .before .before .before .before .before .before .before .before .before .args .s .now) / 4)) (c .before .before .before .before .before .clean-from .ensures) (omega arith) (omega arith) in let E = counted-run text text-reader 4 refl (c .before .before .before .before .before .before .before .before .before .args .s .now) (c .before .before .before .before .before .before .before .loop .a + c .before .before .size-text .result) (c .before .before .before .before .before .before .before .loop .i + 1) (c .before .before .size-text .result) (min (c .before .before .before .before .before .clean-from .result) (length (c .before .before .before .before .before .before .before .before .before .args .s .now) / 4)) (c .alike-text .result) (c .before .before .before .before .before .before .before .loop .a) C (c .alike-text .ensures) K (omega arith) (omega arith) in let z = counted-units text text-reader 4 refl (c .before .before .before .before .before .before .before .before .before .args .s .now) _ _ E in omega (arith, z, E .few, c .before .before .before .before .before .before .before .before .before .pre .3)
+
+-- src/lib.rt:462:5
 loop-less-2 : tie.Need-loop-less-2 Inv-loop μ-loop
-loop-less-2 c =
-    let l = c .before .before .before .before .before .before .before .before in
-    let s = c .before .before .before .before .before .before .before .before .before .before .args .s .now in
-    let t = top-item text (drop (4 * l .loop .a) s) _ (c .before .before .before .next-text .ensures) _ _ _ (c .before .size .given .1) in
-    let z = item-size text text-reader s (4 * l .loop .a) _ _ _ t in
-    omega (arith, z .0, z .1, z .2)
+loop-less-2 c = let p : 0 < c .before .before .size-text .result = search needs in let q = sized-item (frameRuled (textSextets (drop (4 * c .before .before .before .before .before .before .before .loop .a) (c .before .before .before .before .before .before .before .before .before .args .s .now)))) _ (c .before .before .size-text .ensures) p in let C = counted-item text text-reader 4 refl (c .before .before .before .before .before .before .before .before .before .args .s .now) (c .before .before .before .before .before .before .before .loop .a) (c .before .before .before .before .before .before .before .loop .i) (c .before .before .before .before .before .before .before .loop .inv .0) (frameRuled (textSextets (drop (4 * c .before .before .before .before .before .before .before .loop .a) (c .before .before .before .before .before .before .before .before .before .args .s .now)))) refl _ _ _ (q .2) in let b = counted-units text text-reader 4 refl (c .before .before .before .before .before .before .before .before .before .args .s .now) _ _ C in let K = clear-less (textSextets (c .before .before .before .before .before .before .before .before .before .args .s .now)) (c .before .before .before .before .before .before .before .loop .a) (c .before .before .before .before .before .clean-from .result) (c .before .before .before .before .before .before .before .loop .a) (min (c .before .before .before .before .before .clean-from .result) (length (c .before .before .before .before .before .before .before .before .before .args .s .now) / 4)) (c .before .before .before .before .before .clean-from .ensures) (omega arith) (omega arith) in let E = counted-run text text-reader 4 refl (c .before .before .before .before .before .before .before .before .before .args .s .now) (c .before .before .before .before .before .before .before .loop .a + c .before .before .size-text .result) (c .before .before .before .before .before .before .before .loop .i + 1) (c .before .before .size-text .result) (min (c .before .before .before .before .before .clean-from .result) (length (c .before .before .before .before .before .before .before .before .before .args .s .now) / 4)) (c .alike-text .result) (c .before .before .before .before .before .before .before .loop .a) C (c .alike-text .ensures) K (omega arith) (omega arith) in let z = counted-units text text-reader 4 refl (c .before .before .before .before .before .before .before .before .before .args .s .now) _ _ E in omega (arith, E .inside, p)
 
--- src/lib.rt:225:5
+-- src/lib.rt:462:5
 loop-again-2 : tie.Need-loop-again-2 Inv-loop μ-loop
-loop-again-2 c =
-    let l = c .before .before .before .before .before .before .before .before in
-    let s = c .before .before .before .before .before .before .before .before .before .before .args .s .now in
-    let t = top-item text (drop (4 * l .loop .a) s) _ (c .before .before .before .next-text .ensures) _ _ _ (c .before .size .given .1) in
-    let z = item-size text text-reader s (4 * l .loop .a) _ _ _ t in
-    let n = c .before .size .given .0 .1 .1 .0 in
-    let w : 4 * l .loop .a + n * 4 ≡ 4 * (l .loop .a + n) = omega arith in
-    (omega (arith, z .2), omega (arith, z .0, z .1), l .loop .inv .2 ∙ rw (count-more text text-reader s (4 * l .loop .a) t, w) (omega arith))
+loop-again-2 c = let p : 0 < c .before .before .size-text .result = search needs in let q = sized-item (frameRuled (textSextets (drop (4 * c .before .before .before .before .before .before .before .loop .a) (c .before .before .before .before .before .before .before .before .before .args .s .now)))) _ (c .before .before .size-text .ensures) p in let C = counted-item text text-reader 4 refl (c .before .before .before .before .before .before .before .before .before .args .s .now) (c .before .before .before .before .before .before .before .loop .a) (c .before .before .before .before .before .before .before .loop .i) (c .before .before .before .before .before .before .before .loop .inv .0) (frameRuled (textSextets (drop (4 * c .before .before .before .before .before .before .before .loop .a) (c .before .before .before .before .before .before .before .before .before .args .s .now)))) refl _ _ _ (q .2) in let b = counted-units text text-reader 4 refl (c .before .before .before .before .before .before .before .before .before .args .s .now) _ _ C in let K = clear-less (textSextets (c .before .before .before .before .before .before .before .before .before .args .s .now)) (c .before .before .before .before .before .before .before .loop .a) (c .before .before .before .before .before .clean-from .result) (c .before .before .before .before .before .before .before .loop .a) (min (c .before .before .before .before .before .clean-from .result) (length (c .before .before .before .before .before .before .before .before .before .args .s .now) / 4)) (c .before .before .before .before .before .clean-from .ensures) (omega arith) (omega arith) in let E = counted-run text text-reader 4 refl (c .before .before .before .before .before .before .before .before .before .args .s .now) (c .before .before .before .before .before .before .before .loop .a + c .before .before .size-text .result) (c .before .before .before .before .before .before .before .loop .i + 1) (c .before .before .size-text .result) (min (c .before .before .before .before .before .clean-from .result) (length (c .before .before .before .before .before .before .before .before .before .args .s .now) / 4)) (c .alike-text .result) (c .before .before .before .before .before .before .before .loop .a) C (c .alike-text .ensures) K (omega arith) (omega arith) in let z = counted-units text text-reader 4 refl (c .before .before .before .before .before .before .before .before .before .args .s .now) _ _ E in (E, clear-less (textSextets (c .before .before .before .before .before .before .before .before .before .args .s .now)) (c .before .before .before .before .before .before .before .loop .a) (c .before .before .before .before .before .clean-from .result) _ (c .before .before .before .before .before .clean-from .result) (c .before .before .before .before .before .clean-from .ensures) (omega arith) (omega arith))
 
--- src/lib.rt:219:1
+-- src/lib.rt:449:1
 returns-2 : tie.Need-returns-2 Inv-loop μ-loop
-returns-2 c =
-    let l = c .before in
-    let s = c .before .before .before .args .s .now in
-    let e = ap length (count-end text text-reader s (4 * l .loop .a) (search needs)) in
-    (omega arith, omega arith)
+returns-2 c = let C = c .before .loop .inv .0 in let z = counted-end text text-reader 4 refl (c .before .before .before .args .s .now) _ _ C (search needs) in let y = counted-units text text-reader 4 refl (c .before .before .before .args .s .now) _ _ C in (z, omega (arith, C .few, c .before .before .before .pre .3))
 
 pub count-text-spec : {M : Type 1} → statement M
 count-text-spec =
@@ -176,19 +112,20 @@ count-text-spec =
     μ-loop
     loop-holds
     mul-loop
-    sized-text-requires
-    sized-run-text-requires
-    mul-a
+    clean-from-requires
+    group-size-text-requires
     add-a
     add-i
     loop-less
     loop-again
-    next-text-requires
-    enum-told
+    size-text-requires
     returns
-    enum-known-size
+    alike-text-requires
     add-a-2
+    mul-a
+    add-a-3
     add-i-2
+    add-i-3
     loop-less-2
     loop-again-2
     returns-2)

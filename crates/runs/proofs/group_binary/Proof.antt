@@ -1,4 +1,5 @@
-use Rattle.runs.specs.Plain.{groupOf}
+use Rattle.runs.specs.Plain.{charGroup, groupOf, unitBy}
+use borrow.Author.Tests.{le-ltb}
 use Rattle.runs.proofs.Laws.{binary-past}
 use borrow.Author.Needs.{needs}
 use Rattle.runs.proofs.group_binary.Statement.{statement}
@@ -7,15 +8,15 @@ use Rattle.runs.proofs.group_binary.Reads as reads
 use Rattle.runs.proofs.group_binary.Lts as lts
 use Rattle.runs.proofs.group_in_binary.Reads as group-in-binary-reads
 
--- src/lib.rt:510:9
+-- src/lib.rt:775:9
 returns : tie.Need-returns
 returns c = binary-past groupOf _ _ (c .if1 .taken)
 
--- src/lib.rt:512:5
+-- src/lib.rt:777:5
 group-in-binary-requires : tie.Need-group-in-binary-requires
 group-in-binary-requires c κs = search needs
 
--- src/lib.rt:506:1
+-- src/lib.rt:771:1
 returns-2 : tie.Need-returns-2
 returns-2 c = search needs
 

@@ -1,5 +1,6 @@
-use Rattle.runs.specs.Plain.{groupOf}
-use Rattle.runs.proofs.Laws.{text-past}
+use Rattle.runs.specs.Plain.{charGroup, groupOf, unitBy}
+use borrow.Author.Tests.{le-ltb}
+use Rattle.runs.proofs.Laws.{binary-past}
 use borrow.Author.Needs.{needs}
 use Rattle.runs.proofs.group_text.Statement.{statement}
 use Rattle.runs.proofs.group_text.Tie as tie
@@ -7,15 +8,16 @@ use Rattle.runs.proofs.group_text.Reads as reads
 use Rattle.runs.proofs.group_text.Lts as lts
 use Rattle.runs.proofs.group_in_text.Reads as group-in-text-reads
 
--- src/lib.rt:328:9
+-- src/lib.rt:652:9
 returns : tie.Need-returns
-returns c = text-past groupOf _ _ _ (c .if1 .taken)
+unfolding unitBy
+returns c = rw (le-ltb _ _ (c .if1 .taken))
 
--- src/lib.rt:330:5
+-- src/lib.rt:654:5
 group-in-text-requires : tie.Need-group-in-text-requires
 group-in-text-requires c κs = search needs
 
--- src/lib.rt:324:1
+-- src/lib.rt:648:1
 returns-2 : tie.Need-returns-2
 returns-2 c = search needs
 
