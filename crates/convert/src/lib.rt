@@ -4,13 +4,15 @@ use format::TextOffset;
 use format::ToBinary;
 use format::ToText;
 ghost use mathlib.Core.Path.{_≡_};
-ghost use mathlib.Core.List.{_++_};
-ghost use Prim.Native.Nat.{_+_, _*_, _≤_};
-ghost use lib.ListN.{length, take, drop};
+ghost use mathlib.Core.List.{_++_, map};
+ghost use Prim.Native.Nat.{ℕ, _+_, _*_, _≤_, _<_};
+ghost use lib.ListN.{length, getD, take, drop};
+ghost use Rattle.base.specs.Digits.{Below, numberOf, digitsOf};
 ghost use Rattle.base.specs.Each.{each};
-ghost use Rattle.format.specs.Alphabet.{sextetTable, characterTable};
-ghost use Rattle.format.specs.Units.{tripletOf, quadletOf};
+ghost use Rattle.format.specs.Alphabet.{sextetOf, sextetTable, characterTable};
+ghost use Rattle.format.specs.Units.{textSextets, tripletOf, quadletOf};
 ghost use Rattle.format.specs.Conversion.{textToBinary, binaryLeft, binaryToText, textLeft};
+ghost use Rattle.convert.specs.Pairs.{SextetPairs};
 
 // ---- text to binary
 
@@ -42,6 +44,120 @@ fn fill_binary(values: &[u8; 256], src: &[u8], dst: &mut [u8], n: usize)
     }
 }
 
+// ---- text to binary, long streams: two characters a look-up
+
+fn wide(x: u8) -> u16
+    ensures { λ r. ⌜ (r ≡ x) × (r < 256) ⌝ }
+{
+    x as u16
+}
+
+fn wider(x: u16) -> u32
+    ensures { λ r. ⌜ r ≡ x ⌝ }
+{
+    x as u32
+}
+
+// The pairs whose second character has the value `low`.
+fn put_row(table: &mut [u16; 19790], values: &[u8; 256], at: usize, low: u16)
+    requires { ⌜ (length (now table) ≡ 19790) × (at + 78 ≤ 19790) × (low < 256) ⌝ }
+    ensures { λ _. ⌜ (length (now (table .exit)) ≡ 19790) × ((i : ℕ) → i < 78 → getD (now (table .exit)) (at + i) 0 ≡ getD (now (values .entry)) (i + 45) 0 * 64 + low) × ((k : ℕ) → k < at → getD (now (table .exit)) k 0 ≡ getD (now (table .entry)) k 0) ⌝ }
+{
+    let mut i = 0;
+    while i < 78 {
+        table[at + i] = wide(values[i + 45]) * 64 + low;
+        i += 1;
+    }
+}
+
+// Built for each call, which 2,048 units make good: a constant table would be copied too.
+fn sextet_pairs(values: &[u8; 256]) -> [u16; 19790]
+    requires { ⌜ now values ≡ sextetTable ⌝ }
+    ensures { λ r. ⌜ SextetPairs r ⌝ }
+{
+    let mut table = [0u16; 19790];
+    let mut j = 0;
+    while j < 78 {
+        let low = wide(values[j + 45]);
+        put_row(&mut table, values, 256 * j, low);
+        j += 1;
+    }
+    table
+}
+
+// Two characters as one number, the first in the low byte: so it is one load.
+fn two_at(s: &[u8], at: usize) -> u16
+    requires { ⌜ at + 2 ≤ length (now s) ⌝ }
+    ensures { λ r. ⌜ r ≡ getD (now (s .entry)) at 0 + getD (now (s .entry)) (at + 1) 0 * 256 ⌝ }
+{
+    wide(s[at]) + wide(s[at + 1]) * 256
+}
+
+fn pair_at(table: &[u16; 19790], s: &[u8], at: usize) -> u32
+    requires { ⌜ SextetPairs (now table) × (at + 2 ≤ length (now s)) × Below 64 (textSextets (now s)) ⌝ }
+    ensures { λ r. ⌜ (r ≡ sextetOf (getD (now (s .entry)) at 0) * 64 + sextetOf (getD (now (s .entry)) (at + 1) 0)) × (r < 4096) ⌝ }
+{
+    let p = two_at(s, at) as usize;
+    wider(table[p - 11565])
+}
+
+fn quadlet_at(table: &[u16; 19790], s: &[u8], at: usize) -> u32
+    requires { ⌜ SextetPairs (now table) × (at + 4 ≤ length (now s)) × Below 64 (textSextets (now s)) ⌝ }
+    ensures { λ r. ⌜ r ≡ numberOf 64 (map sextetOf (take 4 (drop at (now (s .entry))))) ⌝ }
+{
+    pair_at(table, s, at) * 4096 + pair_at(table, s, at + 2)
+}
+
+fn put_number(d: &mut [u8], at: usize, n: u32)
+    requires { ⌜ at + 3 ≤ length (now d) ⌝ }
+    ensures { λ _. ⌜ now (d .exit) ≡ take at (now (d .entry)) ++ digitsOf 256 3 n ++ drop (at + 3) (now (d .entry)) ⌝ }
+{
+    d[at] = (n / 65536 % 256) as u8;
+    d[at + 1] = (n / 256 % 256) as u8;
+    d[at + 2] = (n % 256) as u8;
+}
+
+// The i-th unit, where it is to stand.
+fn pack_unit(table: &[u16; 19790], src: &[u8], dst: &mut [u8], i: usize)
+    requires { ⌜ SextetPairs (now table) × (4 * i + 4 ≤ length (now src)) × Below 64 (textSextets (now src)) × (3 * i + 3 ≤ length (now dst)) ⌝ }
+    ensures { λ _. ⌜ now (dst .exit) ≡ take (3 * i) (now (dst .entry)) ++ tripletOf (take 4 (drop (4 * i) (now (src .entry)))) ++ drop (3 * i + 3) (now (dst .entry)) ⌝ }
+{
+    let n = quadlet_at(table, src, 4 * i);
+    put_number(dst, 3 * i, n);
+}
+
+// Four units a turn, which saves some of the loop's own steps; how many were done.
+fn pack_units(table: &[u16; 19790], src: &[u8], dst: &mut [u8], n: usize) -> usize
+    requires { ⌜ SextetPairs (now table) × (4 * n ≤ length (now src)) × Below 64 (textSextets (now src)) × (3 * n ≤ length (now dst)) ⌝ }
+    ensures { λ r. ⌜ (r ≤ n) × (now (dst .exit) ≡ each 4 tripletOf r (now (src .entry)) ++ drop (3 * r) (now (dst .entry))) ⌝ }
+{
+    let mut i = 0;
+    while 3 < n - i {
+        pack_unit(table, src, dst, i);
+        pack_unit(table, src, dst, i + 1);
+        pack_unit(table, src, dst, i + 2);
+        pack_unit(table, src, dst, i + 3);
+        i += 4;
+    }
+    i
+}
+
+// By pairs as far as four units go, and the rest one by one; so are short streams, which are done before a table is.
+fn to_binary(values: &[u8; 256], src: &[u8], dst: &mut [u8], n: usize)
+    requires { ⌜ (now values ≡ sextetTable) × (4 * n ≤ length (now src)) × Below 64 (textSextets (now src)) × (3 * n ≤ length (now dst)) ⌝ }
+    ensures { λ _. ⌜ now (dst .exit) ≡ each 4 tripletOf n (now (src .entry)) ++ drop (3 * n) (now (dst .entry)) ⌝ }
+{
+    if n < 2048 {
+        fill_binary(values, src, dst, n);
+        return;
+    }
+    let table = sextet_pairs(values);
+    let i = pack_units(&table, src, dst, n);
+    let read = 4 * i;
+    let written = 3 * i;
+    fill_binary(values, &src[read..], &mut dst[written..], n - i);
+}
+
 // Refusals in the order 1, 2, 5, 3; a refused call writes nothing, and bytes behind the answer stay.
 pub fn text_to_binary(src: &[u8], dst: &mut [u8]) -> ToBinary
     ensures { λ r. ⌜ r ≡ textToBinary (now (src .entry)) (length (now (dst .entry))) ⌝ }
@@ -64,7 +180,7 @@ pub fn text_to_binary(src: &[u8], dst: &mut [u8]) -> ToBinary
         return ToBinary::Refused(3, TextOffset(0));
     }
     let values = alphabet::sextets();
-    fill_binary(&values, src, dst, count);
+    to_binary(&values, src, dst, count);
     ToBinary::Written(BinaryOffset(size))
 }
 
