@@ -7,7 +7,6 @@ use Prim.Native.Nat.{ℕ, _+_, _-_, _*_, _/_, _%_, _<_, _≤_}
 use native.Mathlib.Omega.{arith}
 use lib.Dec.{T, ltb, leb, leb→le, lt→ltb}
 use lib.ListN.{length, getD, set, take, drop, length-map}
-use lib.Seq.{getD-set-same, getD-set-other}
 use Rattle.base.specs.Below.{below, implies, implies-elim}
 use Rattle.base.specs.Cases.{lt-or-ge}
 use Rattle.base.specs.Digits.{Below, below-at, numberOf, digitsOf}
@@ -18,28 +17,6 @@ use Rattle.format.specs.Alphabet.{sextetOf, sextetTable}
 use Rattle.format.specs.Units.{textSextets}
 use Rattle.laws.specs.Alphabet.{sextet-past}
 use Rattle.convert.specs.Pairs.{SextetPairs}
-
--- ---- a row is filled from its start on
-
-pub row-more : (t : List ℕ) (at i x : ℕ) (f : ℕ → ℕ) → at + i < length t → ((k : ℕ) → k < i → getD t (at + k) 0 ≡ f k) → x ≡ f i
-    → (k : ℕ) → k < i + 1 → getD (set t (at + i) x) (at + k) 0 ≡ f k
-row-more t at i x f h r e k l =
-    ⊎-elim (λ p. getD-set-other t (at + i) (at + k) x 0 (λ q. omega arith) ∙ r k p)
-    (λ p. let q : k ≡ i = omega arith in rw q (getD-set-same t (at + i) x 0 h ∙ e))
-    (lt-or-ge k i)
-
-pub row-kept : (t o : List ℕ) (at i x : ℕ) → ((k : ℕ) → k < at → getD t k 0 ≡ getD o k 0) → (k : ℕ) → k < at → getD (set t (at + i) x) k 0 ≡ getD o k 0
-row-kept t o at i x r k l = getD-set-other t (at + i) k x 0 (λ q. omega arith) ∙ r k l
-
--- the rows before it are as they were
-pub rows-more : (values t t' : List ℕ) (j low : ℕ) → low ≡ getD values (j + 45) 0
-    → ((k : ℕ) → k < 78 → getD t' (256 * j + k) 0 ≡ getD values (k + 45) 0 * 64 + low) → ((k : ℕ) → k < 256 * j → getD t' k 0 ≡ getD t k 0)
-    → ((k l : ℕ) → k < 78 → l < j → getD t (256 * l + k) 0 ≡ getD values (k + 45) 0 * 64 + getD values (l + 45) 0)
-    → (k l : ℕ) → k < 78 → l < j + 1 → getD t' (256 * l + k) 0 ≡ getD values (k + 45) 0 * 64 + getD values (l + 45) 0
-rows-more values t t' j low e row kept before k l h p =
-    ⊎-elim (λ q. kept (256 * l + k) (omega arith) ∙ before k l h q)
-    (λ q. let z : l ≡ j = omega arith in rw z (row k h ∙ ap (λ (x : ℕ). getD values (k + 45) 0 * 64 + x) e))
-    (lt-or-ge l j)
 
 pub sextet-pairs-held : (values t : List ℕ) → values ≡ sextetTable
     → ((k l : ℕ) → k < 78 → l < 78 → getD t (256 * l + k) 0 ≡ getD values (k + 45) 0 * 64 + getD values (l + 45) 0) → SextetPairs t

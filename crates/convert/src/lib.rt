@@ -9,10 +9,10 @@ ghost use Prim.Native.Nat.{ℕ, _+_, _*_, _≤_, _<_};
 ghost use lib.ListN.{length, getD, take, drop};
 ghost use Rattle.base.specs.Digits.{Below, numberOf, digitsOf};
 ghost use Rattle.base.specs.Each.{each};
-ghost use Rattle.format.specs.Alphabet.{sextetOf, sextetTable, characterTable};
+ghost use Rattle.format.specs.Alphabet.{sextetOf, charOf, sextetTable, characterTable};
 ghost use Rattle.format.specs.Units.{textSextets, tripletOf, quadletOf};
 ghost use Rattle.format.specs.Conversion.{textToBinary, binaryLeft, binaryToText, textLeft};
-ghost use Rattle.convert.specs.Pairs.{SextetPairs};
+ghost use Rattle.convert.specs.Pairs.{SextetPairs, CharacterPairs, fourAt};
 
 // ---- text to binary
 
@@ -233,6 +233,110 @@ fn fill_text(characters: &[u8; 64], src: &[u8], dst: &mut [u8], n: usize)
     }
 }
 
+// ---- binary to text, long streams: two characters a look-up
+
+fn widest(x: u8) -> u64
+    ensures { λ r. ⌜ (r ≡ x) × (r < 256) ⌝ }
+{
+    x as u64
+}
+
+// The pairs whose first character is `first`.
+fn put_characters(table: &mut [u16; 4096], characters: &[u8; 64], at: usize, first: u16)
+    requires { ⌜ (length (now table) ≡ 4096) × (at + 64 ≤ 4096) × (first < 256) ⌝ }
+    ensures { λ _. ⌜ (length (now (table .exit)) ≡ 4096) × ((j : ℕ) → j < 64 → getD (now (table .exit)) (at + j) 0 ≡ first + getD (now (characters .entry)) j 0 * 256) × ((k : ℕ) → k < at → getD (now (table .exit)) k 0 ≡ getD (now (table .entry)) k 0) ⌝ }
+{
+    let mut j = 0;
+    while j < 64 {
+        table[at + j] = first + wide(characters[j]) * 256;
+        j += 1;
+    }
+}
+
+fn character_pairs(characters: &[u8; 64]) -> [u16; 4096]
+    requires { ⌜ now characters ≡ characterTable ⌝ }
+    ensures { λ r. ⌜ CharacterPairs r ⌝ }
+{
+    let mut table = [0u16; 4096];
+    let mut i = 0;
+    while i < 64 {
+        let first = wide(characters[i]);
+        put_characters(&mut table, characters, 64 * i, first);
+        i += 1;
+    }
+    table
+}
+
+fn four_bytes(s: &[u8], at: usize) -> u64
+    requires { ⌜ at + 4 ≤ length (now s) ⌝ }
+    ensures { λ r. ⌜ (r ≡ fourAt (now (s .entry)) at) × (r < 4294967296) ⌝ }
+{
+    ((widest(s[at]) * 256 + widest(s[at + 1])) * 256 + widest(s[at + 2])) * 256 + widest(s[at + 3])
+}
+
+fn eight_bytes(s: &[u8], at: usize) -> u64
+    requires { ⌜ at + 8 ≤ length (now s) ⌝ }
+    ensures { λ r. ⌜ (r ≡ fourAt (now (s .entry)) at * 4294967296 + fourAt (now (s .entry)) (at + 4)) × (r < 18446744073709551616) ⌝ }
+{
+    four_bytes(s, at) * 4294967296 + four_bytes(s, at + 4)
+}
+
+// Two characters by one store, since they are the two bytes of one number.
+fn put_pair(table: &[u16; 4096], d: &mut [u8], at: usize, v: u64)
+    requires { ⌜ CharacterPairs (now table) × (at + 2 ≤ length (now d)) × (v < 4096) ⌝ }
+    ensures { λ _. ⌜ now (d .exit) ≡ take at (now (d .entry)) ++ map charOf (digitsOf 64 2 v) ++ drop (at + 2) (now (d .entry)) ⌝ }
+{
+    let p = table[v as usize];
+    d[at] = (p % 256) as u8;
+    d[at + 1] = (p / 256) as u8;
+}
+
+// The i-th unit, of which the number is known.
+fn unpack_unit(table: &[u16; 4096], d: &mut [u8], i: usize, n: u64)
+    requires { ⌜ CharacterPairs (now table) × (4 * i + 4 ≤ length (now d)) × (n < 16777216) ⌝ }
+    ensures { λ _. ⌜ now (d .exit) ≡ take (4 * i) (now (d .entry)) ++ map charOf (digitsOf 64 4 n) ++ drop (4 * i + 4) (now (d .entry)) ⌝ }
+{
+    put_pair(table, d, 4 * i, n / 4096);
+    put_pair(table, d, 4 * i + 2, n % 4096);
+}
+
+// Four units a turn; how many were done. The next four are read before the turn ends: a number that is carried over is one load,
+// where one that is taken apart at once is a load for each byte.
+fn unpack_units(table: &[u16; 4096], src: &[u8], dst: &mut [u8], n: usize) -> usize
+    requires { ⌜ CharacterPairs (now table) × (4 ≤ n) × (3 * n ≤ length (now src)) × (4 * n ≤ length (now dst)) ⌝ }
+    ensures { λ r. ⌜ (r ≤ n) × (now (dst .exit) ≡ each 3 quadletOf r (now (src .entry)) ++ drop (4 * r) (now (dst .entry))) ⌝ }
+{
+    let mut i = 0;
+    let mut w = eight_bytes(src, 0);
+    let mut v = four_bytes(src, 8);
+    while 7 < n - i {
+        unpack_unit(table, dst, i, w / 1099511627776);
+        unpack_unit(table, dst, i + 1, w / 65536 % 16777216);
+        unpack_unit(table, dst, i + 2, w % 65536 * 256 + v / 16777216);
+        unpack_unit(table, dst, i + 3, v % 16777216);
+        i += 4;
+        w = eight_bytes(src, 3 * i);
+        v = four_bytes(src, 3 * i + 8);
+    }
+    i
+}
+
+// By pairs as far as they go, and the rest one by one; so are short streams, which are done before a table is.
+fn to_text(characters: &[u8; 64], src: &[u8], dst: &mut [u8], n: usize)
+    requires { ⌜ (now characters ≡ characterTable) × (3 * n ≤ length (now src)) × (4 * n ≤ length (now dst)) ⌝ }
+    ensures { λ _. ⌜ now (dst .exit) ≡ each 3 quadletOf n (now (src .entry)) ++ drop (4 * n) (now (dst .entry)) ⌝ }
+{
+    if n < 1024 {
+        fill_text(characters, src, dst, n);
+        return;
+    }
+    let table = character_pairs(characters);
+    let i = unpack_units(&table, src, dst, n);
+    let read = 3 * i;
+    let written = 4 * i;
+    fill_text(characters, &src[read..], &mut dst[written..], n - i);
+}
+
 // Refusals in the order 1, 2, 3; a refused call writes nothing, and bytes behind the answer stay.
 pub fn binary_to_text(src: &[u8], dst: &mut [u8]) -> ToText
     ensures { λ r. ⌜ r ≡ binaryToText (now (src .entry)) (length (now (dst .entry))) ⌝ }
@@ -251,6 +355,6 @@ pub fn binary_to_text(src: &[u8], dst: &mut [u8]) -> ToText
         return ToText::Refused(3, BinaryOffset(0));
     }
     let characters = alphabet::characters();
-    fill_text(&characters, src, dst, count);
+    to_text(&characters, src, dst, count);
     ToText::Written(TextOffset(size))
 }

@@ -2,7 +2,7 @@ use mathlib.Core.Path.{_≡_, refl, ap}
 use Prim.Native.Nat.{ℕ, _+_, _*_, _-_, _<_, _≤_}
 use native.Mathlib.Omega.{arith}
 use lib.ListN.{length, getD, length-set}
-use Rattle.convert.proofs.SextetPairs.{row-more, row-kept}
+use Rattle.convert.proofs.Rows.{row-more, row-kept}
 use borrow.Author.Needs.{needs}
 use Rattle.convert.proofs.put_row.Statement.{statement}
 use Rattle.convert.proofs.put_row.Tie as tie

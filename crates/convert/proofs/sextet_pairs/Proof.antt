@@ -1,8 +1,9 @@
-use mathlib.Core.Path.{_≡_}
+use mathlib.Core.Path.{_≡_, _∙_, ap}
 use Prim.Native.Nat.{ℕ, _+_, _*_, _-_, _<_, _≤_}
 use native.Mathlib.Omega.{arith}
 use lib.ListN.{length, getD}
-use Rattle.convert.proofs.SextetPairs.{rows-more, sextet-pairs-held}
+use Rattle.convert.proofs.Rows.{rows-more}
+use Rattle.convert.proofs.SextetPairs.{sextet-pairs-held}
 use borrow.Author.Needs.{needs}
 use Rattle.convert.proofs.sextet_pairs.Statement.{statement}
 use Rattle.convert.proofs.sextet_pairs.Tie as tie
@@ -60,7 +61,8 @@ loop-again c =
     let values = l .before .args .values .now in (
       search needs,
       c .put-row .ensures .0,
-      rows-more values (l .loop .table) (c .put-row .last .0) (l .loop .j) (w .wide .result) (w .wide .ensures .0) (c .put-row .ensures .1) (c .put-row .ensures .2) (l .loop .inv .2),
+      rows-more 256 78 (l .loop .j) (l .loop .table) (c .put-row .last .0) (λ k m. getD values (k + 45) 0 * 64 + getD values (m + 45) 0) (search needs)
+          (λ k h. c .put-row .ensures .1 k h ∙ ap (λ (x : ℕ). getD values (k + 45) 0 * 64 + x) (w .wide .ensures .0)) (c .put-row .ensures .2) (l .loop .inv .2),
     )
 
 -- src/lib.rt:74:1
