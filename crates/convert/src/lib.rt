@@ -5,13 +5,14 @@ use format::ToBinary;
 use format::ToText;
 ghost use mathlib.Core.Path.{_≡_};
 ghost use mathlib.Core.List.{_++_, map};
-ghost use Prim.Native.Nat.{ℕ, _+_, _*_, _≤_, _<_};
+ghost use Prim.Native.Nat.{_+_, _*_, _≤_, _<_};
 ghost use lib.ListN.{length, getD, take, drop};
 ghost use Rattle.base.specs.Digits.{Below, numberOf, digitsOf};
 ghost use Rattle.base.specs.Each.{each};
 ghost use Rattle.format.specs.Alphabet.{sextetOf, charOf, sextetTable, characterTable};
 ghost use Rattle.format.specs.Units.{textSextets, tripletOf, quadletOf};
 ghost use Rattle.format.specs.Conversion.{textToBinary, binaryLeft, binaryToText, textLeft};
+ghost use Rattle.convert.specs.Rows.{RowPut};
 ghost use Rattle.convert.specs.Pairs.{SextetPairs, CharacterPairs, fourAt};
 
 // ---- text to binary
@@ -61,7 +62,7 @@ fn wider(x: u16) -> u32
 // The pairs whose second character has the value `low`.
 fn put_row(table: &mut [u16; 19790], values: &[u8; 256], at: usize, low: u16)
     requires { ⌜ (length (now table) ≡ 19790) × (at + 78 ≤ 19790) × (low < 256) ⌝ }
-    ensures { λ _. ⌜ (length (now (table .exit)) ≡ 19790) × ((i : ℕ) → i < 78 → getD (now (table .exit)) (at + i) 0 ≡ getD (now (values .entry)) (i + 45) 0 * 64 + low) × ((k : ℕ) → k < at → getD (now (table .exit)) k 0 ≡ getD (now (table .entry)) k 0) ⌝ }
+    ensures { λ _. ⌜ RowPut 19790 at 78 (λ i. getD (now (values .entry)) (i + 45) 0 * 64 + low) (now (table .entry)) (now (table .exit)) ⌝ }
 {
     let mut i = 0;
     while i < 78 {
@@ -244,7 +245,7 @@ fn widest(x: u8) -> u64
 // The pairs whose first character is `first`.
 fn put_characters(table: &mut [u16; 4096], characters: &[u8; 64], at: usize, first: u16)
     requires { ⌜ (length (now table) ≡ 4096) × (at + 64 ≤ 4096) × (first < 256) ⌝ }
-    ensures { λ _. ⌜ (length (now (table .exit)) ≡ 4096) × ((j : ℕ) → j < 64 → getD (now (table .exit)) (at + j) 0 ≡ first + getD (now (characters .entry)) j 0 * 256) × ((k : ℕ) → k < at → getD (now (table .exit)) k 0 ≡ getD (now (table .entry)) k 0) ⌝ }
+    ensures { λ _. ⌜ RowPut 4096 at 64 (λ j. first + getD (now (characters .entry)) j 0 * 256) (now (table .entry)) (now (table .exit)) ⌝ }
 {
     let mut j = 0;
     while j < 64 {

@@ -1,4 +1,4 @@
-use mathlib.Core.Path.{_≡_, _∙_, ap}
+use mathlib.Core.Path.{_≡_}
 use Prim.Native.Nat.{ℕ, _+_, _*_, _-_, _<_, _≤_}
 use native.Mathlib.Omega.{arith}
 use lib.ListN.{length, getD}
@@ -54,11 +54,11 @@ loop-again : tie.Need-loop-again Inv-loop μ-loop
 loop-again c =
     let w = c .before .before in
     let l = w .before .before .before in
-    let characters = l .before .args .characters .now in (
+    let characters = l .before .args .characters .now in
+    let r = rw (w .wide .ensures .0) at (c .put-characters .ensures) in (
       search needs,
-      c .put-characters .ensures .0,
-      rows-more 64 64 (l .loop .i) (l .loop .table) (c .put-characters .last .0) (λ k m. getD characters m 0 + getD characters k 0 * 256) (search needs)
-          (λ k h. c .put-characters .ensures .1 k h ∙ ap (λ (x : ℕ). x + getD characters k 0 * 256) (w .wide .ensures .0)) (c .put-characters .ensures .2) (l .loop .inv .2),
+      r .long,
+      rows-more 4096 64 64 (l .loop .i) (l .loop .table) (c .put-characters .last .0) (λ k m. getD characters m 0 + getD characters k 0 * 256) (search needs) r (l .loop .inv .2),
     )
 
 -- src/lib.rt:256:1

@@ -1,8 +1,9 @@
-use mathlib.Core.Path.{_≡_, refl, ap}
-use Prim.Native.Nat.{ℕ, _+_, _*_, _-_, _<_, _≤_}
+use mathlib.Core.Path.{_≡_, ap}
+use Prim.Native.Nat.{ℕ, _+_, _*_, _-_, _≤_}
 use native.Mathlib.Omega.{arith}
-use lib.ListN.{length, getD, length-set}
-use Rattle.convert.proofs.Rows.{row-more, row-kept}
+use lib.ListN.{getD}
+use Rattle.convert.proofs.Rows.{row-none, row-more}
+use Rattle.convert.specs.Rows.{RowPut}
 use borrow.Author.Needs.{needs}
 use Rattle.convert.proofs.put_characters.Statement.{statement}
 use Rattle.convert.proofs.put_characters.Tie as tie
@@ -11,18 +12,14 @@ use Rattle.convert.proofs.put_characters.Lts as lts
 use Rattle.convert.proofs.wide.Reads as wide-reads
 
 abbrev Inv-loop : tie.InvT-loop
-Inv-loop table₀ characters at first j₀ table j =
-    (j ≤ 64)
-    × ((k : ℕ) → k < j → getD table (at + k) 0 ≡ first + getD characters k 0 * 256)
-    × ((k : ℕ) → k < at → getD table k 0 ≡ getD table₀ k 0)
-    × (length table ≡ 4096)
+Inv-loop table₀ characters at first j₀ table j = (j ≤ 64) × RowPut 4096 at j (λ k. first + getD characters k 0 * 256) table₀ table
 
 abbrev μ-loop : tie.MeasureT-loop
 μ-loop table₀ characters at first j₀ table j = 64 - j
 
 -- src/lib.rt:250:5
 loop-holds : tie.Need-loop-holds Inv-loop μ-loop
-loop-holds c = (search needs, λ k h. absurd (omega arith), λ k h. refl, c .pre .0)
+loop-holds c = (search needs, row-none 4096 (c .args .at) _ (c .args .table .now) (c .pre .0))
 
 -- src/lib.rt:251:38
 element-copy-out-wide : tie.Need-element-copy-out-wide Inv-loop μ-loop
@@ -66,15 +63,16 @@ loop-again c =
     let l = c .before .before .before in
     let a = l .before .args in (
       search needs,
-      row-more (l .loop .table) (a .at) (l .loop .j) (a .first + c .wide .result * 256) (λ k. a .first + getD (a .characters .now) k 0 * 256) (omega arith) (l .loop .inv .1)
-          (ap (λ (x : ℕ). a .first + x * 256) (c .wide .ensures .0)),
-      row-kept (l .loop .table) (a .table .now) (a .at) (l .loop .j) (a .first + c .wide .result * 256) (l .loop .inv .2),
-      simp length-set (l .loop .inv .3),
+      row-more 4096 (a .at) (l .loop .j) (a .first + c .wide .result * 256) (λ k. a .first + getD (a .characters .now) k 0 * 256) (a .table .now) (l .loop .table) (omega arith)
+          (ap (λ (x : ℕ). a .first + x * 256) (c .wide .ensures .0)) (l .loop .inv .1),
     )
 
 -- src/lib.rt:245:1
 returns : tie.Need-returns Inv-loop μ-loop
-returns c = (c .before .loop .inv .3, λ k h. c .before .loop .inv .1 k (omega arith), c .before .loop .inv .2)
+returns c =
+    let l = c .before in
+    let e : l .loop .j ≡ 64 = omega arith in
+    rw e at (l .loop .inv .1)
 
 pub put-characters-spec : {M : Type 1} → statement M
 put-characters-spec =

@@ -1,8 +1,9 @@
-use mathlib.Core.Path.{_≡_, refl, ap}
-use Prim.Native.Nat.{ℕ, _+_, _*_, _-_, _<_, _≤_}
+use mathlib.Core.Path.{_≡_, ap}
+use Prim.Native.Nat.{ℕ, _+_, _*_, _-_, _≤_}
 use native.Mathlib.Omega.{arith}
-use lib.ListN.{length, getD, length-set}
-use Rattle.convert.proofs.Rows.{row-more, row-kept}
+use lib.ListN.{getD}
+use Rattle.convert.proofs.Rows.{row-none, row-more}
+use Rattle.convert.specs.Rows.{RowPut}
 use borrow.Author.Needs.{needs}
 use Rattle.convert.proofs.put_row.Statement.{statement}
 use Rattle.convert.proofs.put_row.Tie as tie
@@ -11,18 +12,14 @@ use Rattle.convert.proofs.put_row.Lts as lts
 use Rattle.convert.proofs.wide.Reads as wide-reads
 
 abbrev Inv-loop : tie.InvT-loop
-Inv-loop table₀ values at low i₀ table i =
-    (i ≤ 78)
-    × ((k : ℕ) → k < i → getD table (at + k) 0 ≡ getD values (k + 45) 0 * 64 + low)
-    × ((k : ℕ) → k < at → getD table k 0 ≡ getD table₀ k 0)
-    × (length table ≡ 19790)
+Inv-loop table₀ values at low i₀ table i = (i ≤ 78) × RowPut 19790 at i (λ k. getD values (k + 45) 0 * 64 + low) table₀ table
 
 abbrev μ-loop : tie.MeasureT-loop
 μ-loop table₀ values at low i₀ table i = 78 - i
 
 -- src/lib.rt:67:5
 loop-holds : tie.Need-loop-holds Inv-loop μ-loop
-loop-holds c = (search needs, λ k h. absurd (omega arith), λ k h. refl, c .pre .0)
+loop-holds c = (search needs, row-none 19790 (c .args .at) _ (c .args .table .now) (c .pre .0))
 
 -- src/lib.rt:68:37
 add-wide : tie.Need-add-wide Inv-loop μ-loop
@@ -70,15 +67,16 @@ loop-again c =
     let l = c .before .before .before in
     let a = l .before .args in (
       search needs,
-      row-more (l .loop .table) (a .at) (l .loop .i) (c .wide .result * 64 + a .low) (λ k. getD (a .values .now) (k + 45) 0 * 64 + a .low) (omega arith) (l .loop .inv .1)
-          (ap (λ (x : ℕ). x * 64 + a .low) (c .wide .ensures .0)),
-      row-kept (l .loop .table) (a .table .now) (a .at) (l .loop .i) (c .wide .result * 64 + a .low) (l .loop .inv .2),
-      simp length-set (l .loop .inv .3),
+      row-more 19790 (a .at) (l .loop .i) (c .wide .result * 64 + a .low) (λ k. getD (a .values .now) (k + 45) 0 * 64 + a .low) (a .table .now) (l .loop .table) (omega arith)
+          (ap (λ (x : ℕ). x * 64 + a .low) (c .wide .ensures .0)) (l .loop .inv .1),
     )
 
 -- src/lib.rt:62:1
 returns : tie.Need-returns Inv-loop μ-loop
-returns c = (c .before .loop .inv .3, λ k h. c .before .loop .inv .1 k (omega arith), c .before .loop .inv .2)
+returns c =
+    let l = c .before in
+    let e : l .loop .i ≡ 78 = omega arith in
+    rw e at (l .loop .inv .1)
 
 pub put-row-spec : {M : Type 1} → statement M
 put-row-spec =

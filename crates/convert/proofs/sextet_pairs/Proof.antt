@@ -1,4 +1,4 @@
-use mathlib.Core.Path.{_≡_, _∙_, ap}
+use mathlib.Core.Path.{_≡_}
 use Prim.Native.Nat.{ℕ, _+_, _*_, _-_, _<_, _≤_}
 use native.Mathlib.Omega.{arith}
 use lib.ListN.{length, getD}
@@ -58,11 +58,11 @@ loop-again : tie.Need-loop-again Inv-loop μ-loop
 loop-again c =
     let w = c .before .before in
     let l = w .before .before .before in
-    let values = l .before .args .values .now in (
+    let values = l .before .args .values .now in
+    let r = rw (w .wide .ensures .0) at (c .put-row .ensures) in (
       search needs,
-      c .put-row .ensures .0,
-      rows-more 256 78 (l .loop .j) (l .loop .table) (c .put-row .last .0) (λ k m. getD values (k + 45) 0 * 64 + getD values (m + 45) 0) (search needs)
-          (λ k h. c .put-row .ensures .1 k h ∙ ap (λ (x : ℕ). getD values (k + 45) 0 * 64 + x) (w .wide .ensures .0)) (c .put-row .ensures .2) (l .loop .inv .2),
+      r .long,
+      rows-more 19790 256 78 (l .loop .j) (l .loop .table) (c .put-row .last .0) (λ k m. getD values (k + 45) 0 * 64 + getD values (m + 45) 0) (search needs) r (l .loop .inv .2),
     )
 
 -- src/lib.rt:74:1
