@@ -59,7 +59,7 @@ fn wider(x: u16) -> u32
     x as u32
 }
 
-// The pairs whose second character has the value `low`.
+// The pairs whose second character has the value `low`; the first is one of the 78 characters from `-`, 45, to `z`.
 fn put_row(table: &mut [u16; 19790], values: &[u8; 256], at: usize, low: u16)
     requires { ⌜ (length (now table) ≡ 19790) × (at + 78 ≤ 19790) × (low < 256) ⌝ }
     ensures { λ _. ⌜ RowPut 19790 at 78 (λ i. getD (now (values .entry)) (i + 45) 0 * 64 + low) (now (table .entry)) (now (table .exit)) ⌝ }
@@ -71,7 +71,8 @@ fn put_row(table: &mut [u16; 19790], values: &[u8; 256], at: usize, low: u16)
     }
 }
 
-// Built for each call, which 2,048 units make good: a constant table would be copied too.
+// Rows begin every 256: the place of two characters is the number that they are, less 11565, which is `--`. The table is built in
+// each call, which 2,048 units make good: a constant one would be copied.
 fn sextet_pairs(values: &[u8; 256]) -> [u16; 19790]
     requires { ⌜ now values ≡ sextetTable ⌝ }
     ensures { λ r. ⌜ SextetPairs r ⌝ }
