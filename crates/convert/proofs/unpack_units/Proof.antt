@@ -49,7 +49,7 @@ sub-loop c = search needs
 
 -- src/lib.rt:313:9
 unpack-unit-requires : tie.Need-unpack-unit-requires Inv-loop μ-loop
-unpack-unit-requires c κs = search needs
+unpack-unit-requires c κs = (c .before .before .before .before .before .before .before .pre .0, omega arith, omega arith)
 
 -- src/lib.rt:314:33
 add-unpack-unit : tie.Need-add-unpack-unit Inv-loop μ-loop
@@ -57,7 +57,7 @@ add-unpack-unit c = search needs
 
 -- src/lib.rt:314:9
 unpack-unit-requires-2 : tie.Need-unpack-unit-requires-2 Inv-loop μ-loop
-unpack-unit-requires-2 c κs = search needs
+unpack-unit-requires-2 c κs = (c .before .before .before .before .before .before .before .before .before .before .before .pre .0, omega arith, omega arith)
 
 -- src/lib.rt:315:33
 add-unpack-unit-2 : tie.Need-add-unpack-unit-2 Inv-loop μ-loop
@@ -73,7 +73,7 @@ add-unpack-unit-3 c = search needs
 
 -- src/lib.rt:315:9
 unpack-unit-requires-3 : tie.Need-unpack-unit-requires-3 Inv-loop μ-loop
-unpack-unit-requires-3 c κs = search needs
+unpack-unit-requires-3 c κs = (c .before .before .before .before .before .before .before .before .before .before .before .before .before .before .before .pre .0, omega arith, omega arith)
 
 -- src/lib.rt:316:33
 add-unpack-unit-4 : tie.Need-add-unpack-unit-4 Inv-loop μ-loop
@@ -81,7 +81,7 @@ add-unpack-unit-4 c = search needs
 
 -- src/lib.rt:316:9
 unpack-unit-requires-4 : tie.Need-unpack-unit-requires-4 Inv-loop μ-loop
-unpack-unit-requires-4 c κs = search needs
+unpack-unit-requires-4 c κs = (c .before .before .before .before .before .before .before .before .before .before .before .before .before .before .before .before .before .before .before .pre .0, omega arith, omega arith)
 
 -- src/lib.rt:317:9
 add-i : tie.Need-add-i Inv-loop μ-loop
