@@ -10,7 +10,7 @@ use Rattle.convert.proofs.binary_to_text.Tie as tie
 use Rattle.convert.proofs.binary_to_text.Reads as reads
 use Rattle.convert.proofs.binary_to_text.Lts as lts
 use Rattle.alphabet.proofs.characters.Reads as characters-reads
-use Rattle.convert.proofs.fill_text.Reads as fill-text-reads
+use Rattle.convert.proofs.to_text.Reads as to-text-reads
 
 -- src/lib.rt:109:9
 returns : tie.Need-returns
@@ -36,8 +36,8 @@ characters-requires : tie.Need-characters-requires
 characters-requires c κs = search needs
 
 -- src/lib.rt:120:5
-fill-text-requires : tie.Need-fill-text-requires
-fill-text-requires c κs = search needs
+to-text-requires : tie.Need-to-text-requires
+to-text-requires c κs = search needs
 
 -- src/lib.rt:103:1
 same-length : tie.Need-same-length
@@ -50,7 +50,7 @@ returns-4 c =
     let n = length (c .before .before .before .before .before .before .before .before .before .before .before .args .src .now) / 3 in
     let m : n * 4 ≡ 4 * n = omega arith in (
       sym (binary-converted _ _ (search needs) (search needs) (search needs)),
-      rw m (c .before .before .fill-text .ensures),
+      rw m (c .before .before .to-text .ensures),
     )
 
 pub binary-to-text-spec : {M : Type 1} → statement M
@@ -62,6 +62,6 @@ binary-to-text-spec =
     mul-size
     returns-3
     characters-requires
-    fill-text-requires
+    to-text-requires
     same-length
     returns-4)

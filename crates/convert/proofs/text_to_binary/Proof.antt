@@ -3,6 +3,7 @@ use Prim.Native.Nat.{_*_, _/_}
 use native.Mathlib.Omega.{arith}
 use lib.ListN.{length}
 use Rattle.format.specs.Conversion.{binaryLeft, toBinary}
+use Rattle.laws.specs.Conversion.{all-known}
 use Rattle.convert.proofs.Answers.{text-long, text-torn, text-stranger, text-no-room, text-converted}
 use borrow.Author.Needs.{needs}
 use Rattle.convert.proofs.text_to_binary.Statement.{statement}
@@ -11,7 +12,7 @@ use Rattle.convert.proofs.text_to_binary.Reads as reads
 use Rattle.convert.proofs.text_to_binary.Lts as lts
 use Rattle.alphabet.proofs.first_stranger.Reads as first-stranger-reads
 use Rattle.alphabet.proofs.sextets.Reads as sextets-reads
-use Rattle.convert.proofs.fill_binary.Reads as fill-binary-reads
+use Rattle.convert.proofs.to_binary.Reads as to-binary-reads
 
 -- src/lib.rt:52:9
 returns : tie.Need-returns
@@ -46,8 +47,8 @@ sextets-requires : tie.Need-sextets-requires
 sextets-requires c κs = search needs
 
 -- src/lib.rt:67:5
-fill-binary-requires : tie.Need-fill-binary-requires
-fill-binary-requires c κs = search needs
+to-binary-requires : tie.Need-to-binary-requires
+to-binary-requires c κs = (search needs, search needs, all-known _ (search needs), search needs)
 
 -- src/lib.rt:46:1
 same-length : tie.Need-same-length
@@ -61,7 +62,7 @@ returns-5 c =
     let n = length (f .before .before .before .before .before .args .src .now) / 4 in
     let m : n * 3 ≡ 3 * n = omega arith in (
       sym (text-converted _ _ (search needs) (search needs) (f .first-stranger .result) (search needs) (search needs) (search needs)),
-      rw m (c .before .before .fill-binary .ensures),
+      rw m (c .before .before .to-binary .ensures),
     )
 
 pub text-to-binary-spec : {M : Type 1} → statement M
@@ -75,6 +76,6 @@ text-to-binary-spec =
     mul-size
     returns-4
     sextets-requires
-    fill-binary-requires
+    to-binary-requires
     same-length
     returns-5)
