@@ -485,7 +485,7 @@ pub fn first_stranger(s: &[u8]) -> usize
         i = i + 64;
     }
     while i < s.len() {
-        if stranger(s[i]) != 0 {
+        if 63 < sextet(s[i]) {
             return i;
         }
         i = i + 1;

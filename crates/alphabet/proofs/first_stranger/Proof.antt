@@ -2,8 +2,9 @@
 use Prim.Native.Nat.{_+_, _≤_, _-_}
 use mathlib.Core.Path.{_≡_, sym, _∙_}
 use native.Mathlib.Omega.{arith}
-use lib.ListN.{length, drop}
-use borrow.Author.Tests.{eq-eqb, ne-eqb}
+use lib.ListN.{length, drop, getD}
+use borrow.Author.Tests.{lt-ltb, le-ltb, eq-eqb}
+use Rattle.format.specs.Alphabet.{sextetOf}
 use Rattle.format.specs.Conversion.{firstStranger}
 use Rattle.alphabet.proofs.Laws.{known-here, stranger-here, none-left, clean-block}
 use borrow.Author.Needs.{needs}
@@ -11,7 +12,7 @@ use Rattle.alphabet.proofs.first_stranger.Statement.{statement}
 use Rattle.alphabet.proofs.first_stranger.Tie as tie
 use Rattle.alphabet.proofs.first_stranger.Reads as reads
 use Rattle.alphabet.proofs.first_stranger.Lts as lts
-use Rattle.alphabet.proofs.stranger.Reads as stranger-reads
+use Rattle.alphabet.proofs.sextet.Reads as sextet-reads
 use Rattle.alphabet.proofs.strangers.Reads as strangers-reads
 
 abbrev Inv-loop : tie.InvT-loop
@@ -52,17 +53,17 @@ loop-again c =
 loop2-holds : tie.Need-loop2-holds Inv-loop μ-loop Inv-loop2 μ-loop2
 loop2-holds c = search needs
 
-shared-slice-read-stranger : tie.Need-shared-slice-read-stranger Inv-loop μ-loop Inv-loop2 μ-loop2
-shared-slice-read-stranger c = search needs
+shared-slice-read-sextet : tie.Need-shared-slice-read-sextet Inv-loop μ-loop Inv-loop2 μ-loop2
+shared-slice-read-sextet c = search needs
 
-stranger-requires : tie.Need-stranger-requires Inv-loop μ-loop Inv-loop2 μ-loop2
-stranger-requires c κs = search needs
+sextet-requires : tie.Need-sextet-requires Inv-loop μ-loop Inv-loop2 μ-loop2
+sextet-requires c κs = search needs
 
 returns : tie.Need-returns Inv-loop μ-loop Inv-loop2 μ-loop2
 returns c =
     let l = c .before .before .before .before in
     let s = l .before .before .before .before .args .s .now in
-    omega (arith, stranger-here s (l .loop2 .i) (search needs) (sym (c .before .stranger .ensures) ∙ ne-eqb _ 0 (c .if3 .taken)))
+    omega (arith, stranger-here s (l .loop2 .i) (search needs) (le-ltb (sextetOf (getD s (l .loop2 .i) 0)) 64 (omega (arith, c .before .sextet .ensures, c .if3 .taken))))
 
 add-i-2 : tie.Need-add-i-2 Inv-loop μ-loop Inv-loop2 μ-loop2
 add-i-2 c = search needs
@@ -75,7 +76,7 @@ loop2-again c =
     let l = c .before .before .before .before in
     let s = l .before .before .before .before .args .s .now in (
       search needs,
-      omega (arith, known-here s (l .loop2 .i) (search needs) (sym (c .before .stranger .ensures) ∙ eq-eqb _ 0 (c .if3 .left))),
+      omega (arith, known-here s (l .loop2 .i) (search needs) (lt-ltb (sextetOf (getD s (l .loop2 .i) 0)) 64 (omega (arith, c .before .sextet .ensures, c .if3 .left)))),
     )
 
 returns-2 : tie.Need-returns-2 Inv-loop μ-loop Inv-loop2 μ-loop2
@@ -96,8 +97,8 @@ first-stranger-spec =
     loop-less
     loop-again
     loop2-holds
-    shared-slice-read-stranger
-    stranger-requires
+    shared-slice-read-sextet
+    sextet-requires
     returns
     add-i-2
     loop2-less
