@@ -595,7 +595,7 @@ fn value(values: &[u8; 256], s: &[u8], i: usize) -> u8
     values[wide(s[i])]
 }
 
-// The size in units of the primitive of a fixed code or the small group at a unit, or 0.
+// The size in units of the item whose header is the unit at a position, or 0.
 pub fn sized_text(values: &[u8; 256], rows: &[u16; 192], s: &[u8], at: usize) -> usize
     ensures { λ r. ⌜ r ≡ sizedAt (now (rows .entry)) (sextetsBy (now (values .entry)) (now (s .entry))) at ⌝ }
 {

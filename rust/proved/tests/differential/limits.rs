@@ -45,6 +45,31 @@ fn at_a_limit(made: &[u8], form: Form, seed: u64) {
     }
 }
 
+/// Conversion goes by tables of pairs from 1,024 units of binary and 2,048 of
+/// text on, some units a turn: each length around these, and strangers in
+/// each place of the last units.
+#[test]
+fn conversion_around_its_tables() {
+    let mut random = Random::new(0x2048);
+    for units in (1_016..1_040).chain(2_040..2_064) {
+        let mut text = random.characters(4 * units);
+        for form in FORMS {
+            conversion(&form.of_text(&text), form);
+        }
+        for place in text.len() - 40..text.len() {
+            let known = std::mem::replace(&mut text[place], random.below(256) as u8);
+            conversion(&text, Form::Text);
+            text[place] = known;
+        }
+    }
+}
+
+fn conversion(made: &[u8], form: Form) {
+    if let Err(why) = judges::conversion(made, form) {
+        panic!("{form:?} of {} elements: {why}", made.len());
+    }
+}
+
 /// One item that fills the stream to the limit: a group of so many units, and
 /// a large value, each also counting one unit more than there is.
 #[test]
