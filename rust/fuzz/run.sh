@@ -1,5 +1,6 @@
 #!/usr/bin/env bash
 # Builds the fuzz target and runs it: bash rust/fuzz/run.sh SECONDS
+# LONGEST=16384 tries inputs of up to so many bytes (512), which conversion's tables ask for, and is slower.
 # What is found (an input on which the proved library and the oracle differ, or that touches memory beside a buffer) lies in
 # target/fuzz/found, and the script then fails. Last it prints the executions, the time used, and what the corpus reaches.
 set -euo pipefail
@@ -19,7 +20,7 @@ $tool dictionary >$work/words.dict
 echo "== fuzzing for $seconds seconds"
 status=0
 TIMEFORMAT='CPU seconds: %U'
-time $work/both -max_total_time="$seconds" -max_len=512 -entropic=0 -dict=$work/words.dict -print_final_stats=1 \
+time $work/both -max_total_time="$seconds" -max_len="${LONGEST:-512}" -entropic=0 -dict=$work/words.dict -print_final_stats=1 \
   -artifact_prefix=$work/found/ $work/live $work/seeds $work/kept >$work/log 2>&1 || status=$?
 grep -E '^Done|^stat::|panicked|ERROR' $work/log || true
 

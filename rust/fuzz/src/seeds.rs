@@ -1,5 +1,6 @@
 //! Inputs to start from: the papers' streams, an item of every code, groups
-//! around the depth limit, a primitive of every code to write, some states.
+//! around the depth limit, streams so long that conversion goes by its tables,
+//! a primitive of every code to write, some states.
 
 use crate::input::{Call, CALLS};
 use streams::damage::GENUS_CODES;
@@ -15,6 +16,9 @@ fn choice(call: Call, form: Form) -> u8 {
     place.unwrap_or(0) as u8 | u8::from(form == Form::Binary) << 3
 }
 
+/// A few units more than the most that conversion takes one by one.
+const LONG_UNITS: usize = 2_053;
+
 pub fn seeds() -> Vec<Vec<u8>> {
     let mut seeds = Vec::new();
     for text in texts() {
@@ -25,7 +29,9 @@ pub fn seeds() -> Vec<Vec<u8>> {
             }
         }
     }
+    let long = Random::new(2).characters(4 * LONG_UNITS);
     for form in FORMS {
+        seeds.push([&[choice(Call::Convert, form), 0], &form.of_text(&long)[..]].concat());
         seeds.extend(writes(form));
         seeds.extend(states(form));
     }
