@@ -1,5 +1,5 @@
 use native.Mathlib.Omega.{arith}
-use Rattle.convert.proofs.Laws.{read-triplet}
+use Rattle.laws.specs.Units.{read-triplet}
 use borrow.Author.Needs.{needs}
 use Rattle.reading.proofs.triplet_at.Statement.{statement}
 use Rattle.reading.proofs.triplet_at.Tie as tie
