@@ -1,13 +1,13 @@
--- The walk over a state that C lends: nineteen numbers, which are the sixteen ends, the number open, the position and the first-item
--- mark (0 or 1), in units. Assumes nothing.
-use Prim.Native.Nat.{ℕ}
-use mathlib.Core.List.{List, [], _∷_}
-use mathlib.Core.Bool.{Bool}
+-- The walk over a state that C lends: numbers, which are the ends of the groups open, as many as may be, the number open, the position
+-- and the first-item mark (0 or 1), in units. Assumes nothing.
+use Prim.Native.Nat.{ℕ, _+_}
+use mathlib.Core.List.{List, [], _∷_, _++_, map}
 use lib.ListN.{getD}
 use lib.Dec.{ltb, eqb}
 use Rattle.base.specs.Pick.{pick}
+use Rattle.base.specs.Lists.{upTo}
 use Rattle.format.specs.Alphabet.{charOf}
-use Rattle.format.specs.declared.CodeRow.{CodeRow}
+use Rattle.format.specs.Judging.{maxDepth}
 use Rattle.format.specs.declared.Kind.{Kind}
 use Rattle.format.specs.declared.Kind.the-variants.{Fixed, Variable, Group, Genus}
 use Rattle.walk.specs.declared.Walk.{Walk}
@@ -18,21 +18,28 @@ use Rattle.walk.specs.declared.BinaryItem.the-variants as B
 
 -- ---- the state as numbers
 
--- the sixteen first of a list
-unfoldable pub slotsOf : List ℕ → List ℕ
-slotsOf s =
-    getD s 0 0 ∷ getD s 1 0 ∷ getD s 2 0 ∷ getD s 3 0 ∷ getD s 4 0 ∷ getD s 5 0 ∷ getD s 6 0 ∷ getD s 7 0 ∷ getD s 8 0 ∷ getD s 9 0 ∷
-    getD s 10 0 ∷ getD s 11 0 ∷ getD s 12 0 ∷ getD s 13 0 ∷ getD s 14 0 ∷ getD s 15 0 ∷ []
+abbrev pub stateSize : ℕ
+stateSize = maxDepth + 3
 
--- a mark that is neither 0 nor 1 is no state's: it is taken for seventeen open, which is 13 over every stream
+-- one more than may be open, which is 13 over every stream
+abbrev pub tooMany : ℕ
+tooMany = maxDepth + 1
+
+-- as many of a list as may be open
+unfoldable pub slotsOf : List ℕ → List ℕ
+slotsOf s = map (λ i. getD s i 0) (upTo maxDepth)
+
+-- a mark that is neither 0 nor 1 is no state's
 unfoldable pub walkOf : List ℕ → Walk
-walkOf s = record { ends = slotsOf s; depth = pick (ltb 1 (getD s 18 0)) 17 (getD s 16 0); at = getD s 17 0; first = eqb (getD s 18 0) 1 }
+walkOf s = record {
+  ends = slotsOf s;
+  depth = pick (ltb 1 (getD s (maxDepth + 2) 0)) tooMany (getD s maxDepth 0);
+  at = getD s (maxDepth + 1) 0;
+  first = eqb (getD s (maxDepth + 2) 0) 1;
+}
 
 unfoldable pub stateOf : Walk → List ℕ
-stateOf w =
-    getD (w .ends) 0 0 ∷ getD (w .ends) 1 0 ∷ getD (w .ends) 2 0 ∷ getD (w .ends) 3 0 ∷ getD (w .ends) 4 0 ∷ getD (w .ends) 5 0 ∷
-    getD (w .ends) 6 0 ∷ getD (w .ends) 7 0 ∷ getD (w .ends) 8 0 ∷ getD (w .ends) 9 0 ∷ getD (w .ends) 10 0 ∷ getD (w .ends) 11 0 ∷
-    getD (w .ends) 12 0 ∷ getD (w .ends) 13 0 ∷ getD (w .ends) 14 0 ∷ getD (w .ends) 15 0 ∷ w .depth ∷ w .at ∷ pick (w .first) 1 0 ∷ []
+stateOf w = slotsOf (w .ends) ++ (w .depth ∷ w .at ∷ pick (w .first) 1 0 ∷ [])
 
 -- ---- an item's code as three numbers
 

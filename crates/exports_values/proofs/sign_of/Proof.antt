@@ -1,55 +1,42 @@
-use Rattle.exports.specs.Lent.{signOf}
+-- `sign_of` meets its contract. Assumes nothing.
+use Rattle.exports_values.specs.Lent.{signOf}
 use borrow.Author.Needs.{needs}
-use Rattle.exports.proofs.sign_of.Statement.{statement}
-use Rattle.exports.proofs.sign_of.Tie as tie
-use Rattle.exports.proofs.sign_of.Reads as reads
-use Rattle.exports.proofs.sign_of.Lts as lts
-use Rattle.exports.proofs.character_of.Reads as character-of-reads
+use Rattle.exports_values.proofs.sign_of.Statement.{statement}
+use Rattle.exports_values.proofs.sign_of.Tie as tie
 
--- src/lib.rt:357:21
 enum-known-kind : tie.Need-enum-known-kind
 enum-known-kind c = search needs
 
--- src/lib.rt:359:13
 character-of-requires : tie.Need-character-of-requires
 character-of-requires c κs = search needs
 
--- src/lib.rt:362:13
 enum-known-kind-2 : tie.Need-enum-known-kind-2
 enum-known-kind-2 c = search needs
 
--- src/lib.rt:365:14
 character-of-requires-2 : tie.Need-character-of-requires-2
 character-of-requires-2 c κs = search needs
 
--- src/lib.rt:366:23
 enum-known-kind-3 : tie.Need-enum-known-kind-3
 enum-known-kind-3 c = search needs
 
--- src/lib.rt:366:35
 character-of-requires-3 : tie.Need-character-of-requires-3
 character-of-requires-3 c κs = search needs
 
--- src/lib.rt:367:24
 enum-told : tie.Need-enum-told
 enum-told c = search needs
 
--- src/lib.rt:353:1
 returns : tie.Need-returns
 unfolding signOf
 returns c = rw (c .before .before .kind .given .1) (c .character-of .ensures)
 
--- src/lib.rt:353:1
 returns-2 : tie.Need-returns-2
 unfolding signOf
 returns-2 c = rw (c .before .before .kind2 .given .1) (c .character-of2 .ensures)
 
--- src/lib.rt:353:1
 returns-3 : tie.Need-returns-3
 unfolding signOf
 returns-3 c = rw (c .before .before .kind3 .given .1) (c .character-of3 .ensures)
 
--- src/lib.rt:353:1
 returns-4 : tie.Need-returns-4
 unfolding signOf
 returns-4 c = search needs

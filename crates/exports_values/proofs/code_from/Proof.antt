@@ -1,21 +1,17 @@
+-- `code_from` meets its contract. Assumes nothing.
 use borrow.Author.Tests.{eq-eqb, ne-eqb}
-use Rattle.exports.specs.Answers.{codeFrom}
-use Rattle.exports.proofs.code_from.Statement.{statement}
-use Rattle.exports.proofs.code_from.Tie as tie
-use Rattle.exports.proofs.code_from.Reads as reads
-use Rattle.exports.proofs.code_from.Lts as lts
+use Rattle.exports_values.specs.Answers.{codeFrom}
+use Rattle.exports_values.proofs.code_from.Statement.{statement}
+use Rattle.exports_values.proofs.code_from.Tie as tie
 
--- src/lib.rt:143:9
 returns : tie.Need-returns
 unfolding codeFrom
 returns c = rw (eq-eqb _ _ (c .if1 .taken))
 
--- src/lib.rt:146:9
 returns-2 : tie.Need-returns-2
 unfolding codeFrom
 returns-2 c = rw (ne-eqb _ _ (c .before .if1 .left), eq-eqb _ _ (c .if2 .taken))
 
--- src/lib.rt:139:1
 returns-3 : tie.Need-returns-3
 unfolding codeFrom
 returns-3 c = rw (ne-eqb _ _ (c .before .if1 .left), ne-eqb _ _ (c .if2 .left))

@@ -1,14 +1,11 @@
+-- `open_of` meets its contract. Assumes nothing.
 use borrow.Author.Tests.{lt-ltb, le-ltb}
-use Rattle.exports.proofs.open_of.Statement.{statement}
-use Rattle.exports.proofs.open_of.Tie as tie
-use Rattle.exports.proofs.open_of.Reads as reads
-use Rattle.exports.proofs.open_of.Lts as lts
+use Rattle.exports_values.proofs.open_of.Statement.{statement}
+use Rattle.exports_values.proofs.open_of.Tie as tie
 
--- src/lib.rt:289:1
 returns : tie.Need-returns
 returns c = rw (lt-ltb _ _ (c .if1 .taken))
 
--- src/lib.rt:289:1
 returns-2 : tie.Need-returns-2
 returns-2 c = rw (le-ltb _ _ (c .if1 .left))
 
