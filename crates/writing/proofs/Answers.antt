@@ -13,7 +13,7 @@ use Rattle.format.specs.Conversion.{toText}
 use Rattle.format.specs.Writing.{named, writing, textOutcome, binaryOutcome}
 use Rattle.format.specs.Writing.{writtenBytes, writeText, writeBinary, textItemLeft, binaryItemLeft}
 use Rattle.format.specs.Writing.Writing.{refused}
-use Rattle.writing.proofs.Plans.{Ready}
+use Rattle.writing_plan.proofs.Plans.{Ready}
 
 module _ (code : Code) (tag : List ℕ) (tags : ℕ) (raw d : List ℕ) where
   pub binary-refused : (m p : ℕ) → ((u room : ℕ) → writing u (named code) tag tags (length raw) room ≡ refused m p)

@@ -1,12 +1,12 @@
 use native.Mathlib.Omega.{arith}
-use Rattle.writing.proofs.Plans.{told}
+use Rattle.writing_plan.proofs.Plans.{told}
 use Rattle.writing.proofs.Answers.{binary-refused, binary-no-room, binary-written, start-fits}
 use borrow.Author.Needs.{needs}
 use Rattle.writing.proofs.write_binary.Statement.{statement}
 use Rattle.writing.proofs.write_binary.Tie as tie
 use Rattle.writing.proofs.write_binary.Reads as reads
 use Rattle.writing.proofs.write_binary.Lts as lts
-use Rattle.writing.proofs.plan_item.Reads as plan-item-reads
+use Rattle.writing_plan.proofs.plan_item.Reads as plan-item-reads
 use Rattle.writing.proofs.put_binary.Reads as put-binary-reads
 
 -- src/lib.rt:357:9

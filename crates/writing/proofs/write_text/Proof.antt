@@ -1,12 +1,12 @@
 use native.Mathlib.Omega.{arith}
-use Rattle.writing.proofs.Plans.{told}
+use Rattle.writing_plan.proofs.Plans.{told}
 use Rattle.writing.proofs.Answers.{text-refused, text-no-room, text-written, start-fits}
 use borrow.Author.Needs.{needs}
 use Rattle.writing.proofs.write_text.Statement.{statement}
 use Rattle.writing.proofs.write_text.Tie as tie
 use Rattle.writing.proofs.write_text.Reads as reads
 use Rattle.writing.proofs.write_text.Lts as lts
-use Rattle.writing.proofs.plan_item.Reads as plan-item-reads
+use Rattle.writing_plan.proofs.plan_item.Reads as plan-item-reads
 use Rattle.writing.proofs.put_text.Reads as put-text-reads
 
 -- src/lib.rt:378:9
