@@ -12,7 +12,10 @@ ghost use Prim.Native.Nat.{_+_, _*_, _≤_, _/_, _%_, min};
 ghost use lib.ListN.{length, take, drop};
 ghost use lib.Seq.{paste};
 ghost use Rattle.format.specs.Conversion.{toText};
-ghost use Rattle.format.specs.Writing.{writeText, textItemLeft, writeBinary, binaryItemLeft};
+ghost use Rattle.format.specs.Writing.{textOutcome, binaryOutcome, writeText, textItemLeft, writeBinary, binaryItemLeft};
+ghost use Rattle.writing_head.specs.Heads.{Sized};
+ghost use Rattle.writing_plan.specs.Plan.{roomFor};
+ghost use Rattle.writing.specs.Item.{planned, binaryIn, textIn};
 ghost use Rattle.writing.specs.Cursor.{writeTextAt, textLeftAt, writeBinaryAt, binaryLeftAt};
 
 // ---- the buffer: what stands before the raw value, and the raw value
@@ -53,6 +56,34 @@ fn put_text(head: [u8; 9], start: usize, raw: &[u8], out: &mut [u8])
     convert::binary_to_text(&raw[k..], &mut out[at..]);
 }
 
+// ---- an item of so many units, where there is room: 3
+
+fn binary_item(units: usize, head: [u8; 9], raw: &[u8], out: &mut [u8]) -> BinaryWritten
+    requires { ⌜ Sized (length (now raw)) units ⌝ }
+    ensures { λ r. ⌜ r ≡ binaryOutcome (roomFor 3 units (length (now (out .entry)))) ⌝ }
+    ensures { λ _. ⌜ now (out .exit) ≡ binaryIn (roomFor 3 units (length (now (out .entry)))) (planned units head (now (raw .entry))) (now (out .entry)) ⌝ }
+{
+    let size = units * 3;
+    if out.len() < size {
+        return BinaryWritten::Refused(3, 0);
+    }
+    put_binary(head, size - raw.len(), raw, out);
+    BinaryWritten::Written(BinaryOffset(size))
+}
+
+fn text_item(units: usize, head: [u8; 9], raw: &[u8], out: &mut [u8]) -> TextWritten
+    requires { ⌜ Sized (length (now raw)) units ⌝ }
+    ensures { λ r. ⌜ r ≡ textOutcome (roomFor 4 units (length (now (out .entry)))) ⌝ }
+    ensures { λ _. ⌜ now (out .exit) ≡ textIn (roomFor 4 units (length (now (out .entry)))) (planned units head (now (raw .entry))) (now (out .entry)) ⌝ }
+{
+    let chars = units * 4;
+    if out.len() < chars {
+        return TextWritten::Refused(3, 0);
+    }
+    put_text(head, units * 3 - raw.len(), raw, out);
+    TextWritten::Written(TextOffset(chars))
+}
+
 // ---- the calls: 6, 12, 5, 3
 
 // A primitive as binary, from the buffer's start.
@@ -71,13 +102,8 @@ pub fn write_binary(
     match planned {
         Planned::Refused(number, place) => BinaryWritten::Refused(number, place),
         Planned::Units(n) => {
-            let size = n * 3;
-            if out.len() < size {
-                return BinaryWritten::Refused(3, 0);
-            }
             let head = plan.head;
-            put_binary(head, size - raw.len(), raw, out);
-            BinaryWritten::Written(BinaryOffset(size))
+            binary_item(n, head, raw, out)
         }
     }
 }
@@ -92,13 +118,8 @@ pub fn write_text(code: Code, tag: [u8; 11], tags: usize, raw: &[u8], out: &mut 
     match planned {
         Planned::Refused(number, place) => TextWritten::Refused(number, place),
         Planned::Units(n) => {
-            let chars = n * 4;
-            if out.len() < chars {
-                return TextWritten::Refused(3, 0);
-            }
             let head = plan.head;
-            put_text(head, n * 3 - raw.len(), raw, out);
-            TextWritten::Written(TextOffset(chars))
+            text_item(n, head, raw, out)
         }
     }
 }

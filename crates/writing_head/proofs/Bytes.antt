@@ -28,7 +28,7 @@ use Rattle.format.specs.Writing.Named.{unknown, row, variable}
 use Rattle.laws.specs.Registry.{Sound}
 use Rattle.laws.specs.Units.{bytes-size}
 use Rattle.writing_code.specs.Names.{Able}
-use Rattle.writing_head.specs.Heads.{padTo, rowHead, variableSextets, variableHead, headSextets, headBytes}
+use Rattle.writing_head.specs.Heads.{padTo, rowHead, variableSextets, variableHead, headSextets, headBytes, Sized}
 use Rattle.writing_head.proofs.Heads.{code-length}
 
 -- ---- the first bytes of a row with a raw value
@@ -89,13 +89,6 @@ headed (C.Small letter) = headed-typed (isType (sextetOf letter)) (sextetOf lett
 headed (C.Large letter) = headed-typed (isType (sextetOf letter)) (sextetOf letter) 2
 
 -- ---- what an item that fits holds
-
--- its units k hold the raw bytes behind the first 3 k - raw ones, of at most nine
-pub record Sized (raw k : ℕ) : Type 0 where
-  pub some : 0 < k
-  pub few : k ≤ 1048576
-  pub whole : raw ≤ 3 * k
-  pub start : 3 * k ≤ raw + 9
 
 row-inside : (c : CodeRow) → Sound c → rawStart (Fixed c) 1 ≤ c .size / 4 * 3
 unfolding rawStart

@@ -1,5 +1,6 @@
--- The sextets that stand before a raw value and then zeros, three units of them, and their bytes. Assumes nothing.
-use Prim.Native.Nat.{ℕ, _+_, _-_, _/_, _%_}
+-- The sextets that stand before a raw value and then zeros, three units of them, and their bytes; and how an item is divided between
+-- them and the raw value. Assumes nothing.
+use Prim.Native.Nat.{ℕ, _+_, _-_, _*_, _/_, _%_, _<_, _≤_}
 use mathlib.Core.List.{List, [], _∷_, _++_, map}
 use lib.Dec.{eqb}
 use lib.ListN.{length, replicate}
@@ -37,3 +38,10 @@ headSextets (F.Named.variable t h) tag raw = variableHead t h raw
 
 unfoldable pub headBytes : F.Named → List ℕ → ℕ → List ℕ
 headBytes n tag raw = each 4 bytesOf 3 (headSextets n tag raw)
+
+-- its units k hold the raw bytes behind the first 3 k - raw ones, of at most nine
+pub record Sized (raw k : ℕ) : Type 0 where
+  pub some : 0 < k
+  pub few : k ≤ 1048576
+  pub whole : raw ≤ 3 * k
+  pub start : 3 * k ≤ raw + 9

@@ -5,19 +5,19 @@ use Prim.Native.Nat.{ℕ, _-_, _*_, _<_, _≤_}
 use borrow.Author.Tests.{ltb-false, eqb-true, eq-eqb, ne-eqb}
 use lib.Dec.{ltb, eqb}
 use lib.ListN.{length, take, replicate}
-use Rattle.base.specs.Pick.{pick, pick-by}
+use Rattle.base.specs.Pick.{pick-by}
 use Rattle.format.specs.declared.Code.{Code}
 use Rattle.format.specs.Writing.{Named, named, itemBytes, unitsOf, Writing, writing}
 use Rattle.format.specs.Writing.Writing.{refused, written}
 use Rattle.writing_code.specs.Names.{Able}
 use Rattle.writing_code.proofs.Names.{able}
-use Rattle.writing_head.specs.Heads.{headBytes}
-use Rattle.writing_head.proofs.Bytes.{Sized, sized, item-bytes}
+use Rattle.writing_head.specs.Heads.{headBytes, Sized}
+use Rattle.writing_head.proofs.Bytes.{sized, item-bytes}
 use Rattle.writing_plan.specs.declared.Refusal.{Refusal}
 use Rattle.writing_plan.specs.declared.Planned.{Planned}
 use Rattle.writing_plan.specs.declared.Planned.the-variants as P
 use Rattle.writing_plan.specs.declared.Plan.{Plan}
-use Rattle.writing_plan.specs.Plan.{refusalOf, planOf}
+use Rattle.writing_plan.specs.Plan.{refusalOf, planOf, roomFor}
 use Rattle.writing_plan.proofs.Refusals.{unrefused, by-refusal}
 
 -- ---- how it is made
@@ -38,7 +38,7 @@ unrefused-able code tag tags raw z = able code tags raw (unrefused (named code) 
 -- ---- what it says
 
 pub record Ready (n : Named) (tag : List ℕ) (tags raw k : ℕ) (head : List ℕ) : Type 0 where
-  pub answer : (u room : ℕ) → writing u n tag tags raw room ≡ pick (ltb room (k * u)) (refused 3 0) (written k)
+  pub answer : (u room : ℕ) → writing u n tag tags raw room ≡ roomFor u k room
   pub size : Sized raw k
   pub bytes : (xs : List ℕ) → length xs ≡ raw → itemBytes n (take tags tag) xs ≡ take (3 * k - raw) head ++ xs
 

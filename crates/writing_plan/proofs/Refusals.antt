@@ -3,7 +3,7 @@ use mathlib.Core.Path.{_≡_, refl}
 use mathlib.Core.List.{List}
 use mathlib.Core.Bool.{Bool, true, false}
 use mathlib.Core.Logic.{⊎-elim}
-use Prim.Native.Nat.{ℕ, _*_, _<_, _≤_}
+use Prim.Native.Nat.{ℕ, _<_, _≤_}
 use native.Mathlib.Omega.{arith}
 use borrow.Author.Tests.{lt-ltb, le-ltb}
 use lib.Dec.{ltb, eqb}
@@ -12,9 +12,9 @@ use Rattle.base.specs.Pick.{pick}
 use Rattle.base.specs.Cases.{whether}
 use Rattle.format.specs.Conversion.{firstStranger}
 use Rattle.format.specs.Writing.{Named, isNamed, isFit, unitsOf, Writing, writing}
-use Rattle.format.specs.Writing.Writing.{refused, written}
+use Rattle.format.specs.Writing.Writing.{refused}
 use Rattle.writing_plan.specs.declared.Refusal.{Refusal}
-use Rattle.writing_plan.specs.Plan.{refusal, refusalOf}
+use Rattle.writing_plan.specs.Plan.{refusal, refusalOf, roomFor}
 
 by-tests : (a b d : Bool) (i : ℕ) (w : Writing) →
     let r = pick a (pick b (pick d (refusal 5 i) (refusal 0 0)) (refusal 12 0)) (refusal 6 0) in
@@ -56,7 +56,7 @@ module _ (n : Named) (tag : List ℕ) (tags raw : ℕ) where
 
   -- refused, or 3 where there is no room, or written
   pub by-refusal : (u room : ℕ) → writing u n tag tags raw room
-      ≡ pick (eqb (refusalOf n tag tags raw .number) 0) (pick (ltb room (unitsOf n raw * u)) (refused 3 0) (written (unitsOf n raw)))
+      ≡ pick (eqb (refusalOf n tag tags raw .number) 0) (roomFor u (unitsOf n raw) room)
       (refused (refusalOf n tag tags raw .number) (refusalOf n tag tags raw .place))
   unfolding writing refusalOf
   by-refusal u room = by-tests (isNamed n) (isFit n tags raw) (ltb (firstStranger (take tags tag)) tags) (firstStranger (take tags tag)) _

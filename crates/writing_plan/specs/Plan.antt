@@ -1,5 +1,5 @@
 -- The plan of an item before its room is asked, as format's writing goes: refused or not. Assumes nothing.
-use Prim.Native.Nat.{ℕ}
+use Prim.Native.Nat.{ℕ, _*_}
 use mathlib.Core.List.{List}
 use lib.Dec.{ltb, eqb}
 use lib.ListN.{take, replicate}
@@ -31,3 +31,8 @@ planBy r n tag raw =
 
 unfoldable pub planOf : F.Named → List ℕ → ℕ → ℕ → Plan
 planOf n tag tags raw = planBy (refusalOf n tag tags raw) n (take tags tag) raw
+
+-- ---- what is asked last: 3, with u elements to the unit
+
+abbrev pub roomFor : ℕ → ℕ → ℕ → F.Writing
+roomFor u k room = pick (ltb room (k * u)) (F.Writing.refused 3 0) (F.Writing.written k)
