@@ -101,7 +101,7 @@ fn raw_size(c: CodeRow) -> usize
     ensures { λ r. ⌜ r ≡ rawSize c ⌝ }
 {
     let size = c.size;
-    let start = reading::fixed_start(c);
+    let start = reading_item::fixed_start(c);
     let full = wide(size) / 4 * 3;
     if start < full { full - start } else { 0 }
 }

@@ -6,7 +6,7 @@ ghost use mathlib.Core.Path.{_≡_};
 ghost use mathlib.Core.List.{map};
 ghost use Prim.Native.Nat.{_+_, _<_, _≤_, _%_};
 ghost use lib.Dec.{eqb};
-ghost use lib.ListN.{length, take};
+ghost use lib.ListN.{take};
 ghost use lib.Seq.{paste};
 ghost use Rattle.base.specs.Pick.{pick};
 ghost use Rattle.base.specs.Each.{each};

@@ -13,7 +13,6 @@ use Rattle.base.specs.Cases.{whether}
 use Rattle.format.specs.Conversion.{firstStranger}
 use Rattle.format.specs.Writing.{Named, isNamed, isFit, unitsOf, Writing, writing}
 use Rattle.format.specs.Writing.Writing.{refused}
-use Rattle.writing_plan.specs.declared.Refusal.{Refusal}
 use Rattle.writing_plan.specs.Plan.{refusal, refusalOf, roomFor}
 
 by-tests : (a b d : Bool) (i : ℕ) (w : Writing) →

@@ -16,7 +16,7 @@ use Rattle.framing.proofs.frame_head.Reads as frame-head-reads
 use Rattle.framing.proofs.text_head.Reads as text-head-reads
 use Rattle.judging.proofs.own_text.Reads as own-text-reads
 use Rattle.judging.proofs.within.Reads as within-reads
-use Rattle.reading.proofs.is_primitive.Reads as is-primitive-reads
+use Rattle.reading_item.proofs.is_primitive.Reads as is-primitive-reads
 use Rattle.judging.proofs.told.Reads as told-reads
 
 -- src/lib.rt:179:9

@@ -5,7 +5,7 @@ use Rattle.writing_code.proofs.raw_size.Statement.{statement}
 use Rattle.writing_code.proofs.raw_size.Tie as tie
 use Rattle.writing_code.proofs.raw_size.Reads as reads
 use Rattle.writing_code.proofs.raw_size.Lts as lts
-use Rattle.reading.proofs.fixed_start.Reads as fixed-start-reads
+use Rattle.reading_item.proofs.fixed_start.Reads as fixed-start-reads
 use Rattle.writing_code.proofs.wide.Reads as wide-reads
 
 fixed-start-requires : tie.Need-fixed-start-requires
