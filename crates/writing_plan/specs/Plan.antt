@@ -11,10 +11,10 @@ use Rattle.writing_plan.specs.declared.Refusal.{Refusal}
 use Rattle.writing_plan.specs.declared.Planned.the-variants as P
 use Rattle.writing_plan.specs.declared.Plan.{Plan}
 
--- 6, 12, 5; number 0 for none
 abbrev pub refusal : ℕ → ℕ → Refusal
 refusal m p = record { number = m; place = p }
 
+-- in this order 6, 12, 5; number 0 for none
 unfoldable pub refusalOf : F.Named → List ℕ → ℕ → ℕ → Refusal
 refusalOf n tag tags raw =
     pick (F.isNamed n)
@@ -24,6 +24,7 @@ refusalOf n tag tags raw =
     (refusal 12 0))
     (refusal 6 0)
 
+-- by the refusal: the item's size and first bytes where there is none
 abbrev pub planBy : Refusal → F.Named → List ℕ → ℕ → Plan
 planBy r n tag raw =
     pick (eqb (r .number) 0) (record { planned = P.Units (F.unitsOf n raw); head = headBytes n tag raw })

@@ -1,3 +1,4 @@
+-- `reading::binary_found` meets its contract: what primitive_of and tag_of say holds, since the part is read. Assumes nothing.
 use Rattle.reading.proofs.Answers.{binary-item}
 use borrow.Author.Needs.{needs}
 use Rattle.reading.proofs.binary_found.Statement.{statement}

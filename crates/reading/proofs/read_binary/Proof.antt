@@ -1,3 +1,4 @@
+-- `reading::read_binary` meets its contract: case by case, and the found item by its part. Assumes nothing.
 use mathlib.Core.Path.{sym, _∙_}
 use Rattle.judging.proofs.Laws.{to-end}
 use Rattle.reading.proofs.Answers.{binary-long, binary-past, binary-refused, binary-found}

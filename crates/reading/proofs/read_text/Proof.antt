@@ -1,3 +1,4 @@
+-- `reading::read_text` meets its contract: case by case, and the found item by its part. Assumes nothing.
 use mathlib.Core.Path.{sym, _∙_}
 use native.Mathlib.Omega.{arith}
 use Rattle.format.specs.Reading.{rawLeft}

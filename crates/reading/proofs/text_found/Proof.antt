@@ -1,3 +1,4 @@
+-- `reading::text_found` meets its contract: 3, or the item told and its raw value copied, since the part is read. Assumes nothing.
 use mathlib.Core.Path.{sym, _∙_}
 use native.Mathlib.Omega.{arith}
 use lib.Seq.{length-take-le}

@@ -1,3 +1,4 @@
+-- `reading_item::primitive_of` meets its contract: within the bounds nothing is cut off. Assumes nothing.
 use mathlib.Core.Path.{_≡_}
 use native.Mathlib.Omega.{arith}
 use Rattle.format.specs.Reading.{primitiveOf}

@@ -1,3 +1,4 @@
+-- `reading_item::row_tag` meets its contract: a row that has tag characters has them where they are read. Assumes nothing.
 use mathlib.Core.Path.{sym, _∙_}
 use native.Mathlib.Omega.{arith}
 use Rattle.reading_item.proofs.Tags.{no-tag-row, tag-padded}

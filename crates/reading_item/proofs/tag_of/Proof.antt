@@ -1,3 +1,4 @@
+-- `reading_item::tag_of` meets its contract: a row, or nothing. Assumes nothing.
 use mathlib.Core.Path.{refl}
 use Rattle.format.specs.Values.{tagOf}
 use Rattle.format.specs.Reading.{padded}

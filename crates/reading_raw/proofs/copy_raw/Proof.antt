@@ -1,3 +1,4 @@
+-- `reading_raw::copy_raw` meets its contract: whole units, or from within one. Assumes nothing.
 use Prim.Native.Nat.{_/_}
 use native.Mathlib.Omega.{arith}
 use Rattle.reading_raw.proofs.Copying.{copied-whole}

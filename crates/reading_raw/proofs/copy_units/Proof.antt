@@ -1,3 +1,4 @@
+-- `reading_raw::copy_units` meets its contract: a fit text is converted, where there is room. Assumes nothing.
 use Rattle.reading_raw.proofs.Copying.{put-units}
 use borrow.Author.Needs.{needs}
 use Rattle.reading_raw.proofs.copy_units.Statement.{statement}

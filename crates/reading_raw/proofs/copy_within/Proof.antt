@@ -1,3 +1,4 @@
+-- `reading_raw::copy_within` meets its contract: the last two bytes of a unit or the last one, and the units behind it. Assumes nothing.
 use Prim.Native.Nat.{_/_}
 use native.Mathlib.Omega.{arith}
 use lib.ListN.{length-set}

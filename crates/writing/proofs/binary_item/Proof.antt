@@ -1,3 +1,4 @@
+-- `writing::binary_item` meets its contract: 3, or the item put into its buffer. Assumes nothing.
 use Rattle.writing.proofs.Answers.{binary-no-room, binary-put}
 use borrow.Author.Needs.{needs}
 use Rattle.writing.proofs.binary_item.Statement.{statement}

@@ -1,3 +1,4 @@
+-- `writing::text_item` meets its contract: 3, or the item put into its buffer. Assumes nothing.
 use Rattle.writing.proofs.Answers.{text-no-room, text-put}
 use borrow.Author.Needs.{needs}
 use Rattle.writing.proofs.text_item.Statement.{statement}

@@ -1,3 +1,4 @@
+-- `writing::write_binary` meets its contract: refused as planned, or the item. Assumes nothing.
 use Rattle.writing_plan.proofs.Plans.{told}
 use Rattle.writing.proofs.Answers.{binary-refused, binary-done}
 use borrow.Author.Needs.{needs}

@@ -1,3 +1,4 @@
+-- `writing_code::count_for` meets its contract: one more than the whole triplets where there is a lead. Assumes nothing.
 use native.Mathlib.Omega.{arith}
 use Rattle.format.specs.Writing.{leadFor, countFor}
 use Rattle.writing_code.proofs.count_for.Statement.{statement}

@@ -1,3 +1,4 @@
+-- `writing_code::units_of` meets its contract: by the kind of the code. Assumes nothing.
 use Rattle.format.specs.Writing.{unitsOf}
 use Rattle.writing_code.specs.Names.{asNamed}
 use borrow.Author.Needs.{needs}

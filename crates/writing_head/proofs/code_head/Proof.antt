@@ -1,3 +1,4 @@
+-- `writing_head::code_head` meets its contract: by the length of the code. Assumes nothing.
 use Rattle.writing_head.proofs.Heads.{code-one, code-two, code-four}
 use borrow.Author.Needs.{needs}
 use Rattle.writing_head.proofs.code_head.Statement.{statement}

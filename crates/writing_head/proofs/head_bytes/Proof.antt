@@ -1,3 +1,4 @@
+-- `writing_head::head_bytes` meets its contract: its sextets, packed. Assumes nothing.
 use Rattle.writing_head.specs.Heads.{headBytes}
 use borrow.Author.Needs.{needs}
 use Rattle.writing_head.proofs.head_bytes.Statement.{statement}

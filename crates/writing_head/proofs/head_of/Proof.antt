@@ -1,3 +1,4 @@
+-- `writing_head::head_of` meets its contract: by the kind of the code. Assumes nothing.
 use mathlib.Core.Path.{refl}
 use Rattle.writing_code.specs.Names.{asNamed, Able}
 use Rattle.writing_head.specs.Heads.{headSextets, padTo}

@@ -1,3 +1,4 @@
+-- `writing_head::row_head` meets its contract: a sound row has room for its tag characters. Assumes nothing.
 use mathlib.Core.Path.{_∙_}
 use native.Mathlib.Omega.{arith}
 use Rattle.writing_head.proofs.Heads.{code-room, row-filled}

@@ -1,3 +1,4 @@
+-- `writing_head::variable_head` meets its contract: four digits, two of a small form. Assumes nothing.
 use Rattle.writing_head.proofs.Heads.{small-head, large-head}
 use borrow.Author.Needs.{needs}
 use Rattle.writing_head.proofs.variable_head.Statement.{statement}

@@ -1,3 +1,4 @@
+-- `writing_plan::plan_item` meets its contract: refused or not. Assumes nothing.
 use Rattle.writing_plan.proofs.Plans.{plan-refused, plan-made, unrefused-able}
 use borrow.Author.Needs.{needs}
 use Rattle.writing_plan.proofs.plan_item.Statement.{statement}

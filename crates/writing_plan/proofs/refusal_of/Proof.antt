@@ -1,3 +1,4 @@
+-- `writing_plan::refusal_of` meets its contract: the first test that fails. Assumes nothing.
 use mathlib.Core.Path.{sym, _∙_}
 use borrow.Author.Tests.{not-true, not-false}
 use Rattle.writing_plan.proofs.Refusals.{is-unknown, is-unfit, is-strange, is-none}

@@ -1,3 +1,4 @@
+-- `writing_plan::tag_stranger` meets its contract: past the eleven there is nothing to look at. Assumes nothing.
 use mathlib.Core.Path.{sym}
 use lib.Seq.{length-take-le, take-all}
 use borrow.Author.Needs.{needs}
