@@ -102,7 +102,7 @@ fn name_of(code: Code) -> Named
     match code {
         Code::Fixed { chars, letter } => {
             let l = alphabet::sextet(letter);
-            let op = registry::fixed(chars, l);
+            let op = registry_table::fixed(chars, l);
             row_of(op)
         }
         Code::Small { letter } => type_of(letter, 1),

@@ -5,7 +5,7 @@ use Rattle.writing.proofs.name_of.Tie as tie
 use Rattle.writing.proofs.name_of.Reads as reads
 use Rattle.writing.proofs.name_of.Lts as lts
 use Rattle.alphabet.proofs.sextet.Reads as sextet-reads
-use Rattle.registry.proofs.fixed.Reads as fixed-reads
+use Rattle.registry_table.proofs.fixed.Reads as fixed-reads
 use Rattle.writing.proofs.row_of.Reads as row-of-reads
 use Rattle.writing.proofs.type_of.Reads as type-of-reads
 

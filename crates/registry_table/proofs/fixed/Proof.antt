@@ -1,38 +1,27 @@
-use Rattle.registry.proofs.Laws.{no-code}
+-- `registry_table::fixed` meets its contract. No code has another number of characters. Assumes nothing.
+use Rattle.registry_table.proofs.Laws.{no-code}
 use borrow.Author.Needs.{needs}
-use Rattle.registry.proofs.fixed.Statement.{statement}
-use Rattle.registry.proofs.fixed.Tie as tie
-use Rattle.registry.proofs.fixed.Reads as reads
-use Rattle.registry.proofs.fixed.Lts as lts
-use Rattle.registry.proofs.one_aa.Reads as one-aa-reads
-use Rattle.registry.proofs.one_letter.Reads as one-letter-reads
-use Rattle.registry.proofs.zero_letter.Reads as zero-letter-reads
+use Rattle.registry_table.proofs.fixed.Statement.{statement}
+use Rattle.registry_table.proofs.fixed.Tie as tie
 
--- src/lib.rt:533:9
 one-letter-requires : tie.Need-one-letter-requires
 one-letter-requires c κs = search needs
 
--- src/lib.rt:533:9
 returns : tie.Need-returns
 returns c = rw (c .before .if1 .taken) (c .one-letter .ensures)
 
--- src/lib.rt:536:9
 zero-letter-requires : tie.Need-zero-letter-requires
 zero-letter-requires c κs = search needs
 
--- src/lib.rt:536:9
 returns-2 : tie.Need-returns-2
 returns-2 c = rw (c .before .if2 .taken) (c .zero-letter .ensures)
 
--- src/lib.rt:539:9
 one-aa-requires : tie.Need-one-aa-requires
 one-aa-requires c κs = search needs
 
--- src/lib.rt:539:9
 returns-3 : tie.Need-returns-3
 returns-3 c = rw (c .before .if3 .taken) (c .one-aa .ensures)
 
--- src/lib.rt:529:1
 returns-4 : tie.Need-returns-4
 returns-4 c = no-code _ _ (c .before .before .if1 .left) (c .before .if2 .left) (c .if3 .left)
 
