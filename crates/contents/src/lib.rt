@@ -21,7 +21,7 @@ pub fn next_text(part: &[u8], first: bool, levels: usize) -> Framed
         Framed::Item { kind, head, size } => {
             let own = judging::within(cs, size);
             let end = 4 * size;
-            let v = judging::own_text(kind, head, own, &part[..end], levels);
+            let v = judging::own_text(kind, head, size, own, &part[..end], levels);
             judging::told(framed, v)
         }
     }
@@ -39,7 +39,7 @@ pub fn next_binary(part: &[u8], first: bool, levels: usize) -> Framed
         } => framed,
         Framed::Item { kind, head, size } => {
             let own = judging::within(cs, size);
-            let v = judging::own_binary(kind, head, own, levels);
+            let v = judging::own_binary(kind, head, size, own, levels);
             judging::told(framed, v)
         }
     }

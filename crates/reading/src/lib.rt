@@ -188,7 +188,7 @@ fn read_text_part(part: &[u8]) -> Framed
             }
             let own = judging::within(cs, size);
             let end = 4 * size;
-            let v = judging::own_text(kind, head, own, &part[..end], 0);
+            let v = judging::own_text(kind, head, size, own, &part[..end], 0);
             judging::told(framed, v)
         }
     }
@@ -212,7 +212,7 @@ fn read_binary_part(part: &[u8]) -> Framed
                 };
             }
             let own = judging::within(cs, size);
-            let v = judging::own_binary(kind, head, own, 0);
+            let v = judging::own_binary(kind, head, size, own, 0);
             judging::told(framed, v)
         }
     }

@@ -69,7 +69,7 @@ returns-2 c =
     let e = next-text _ _ _ _ (f .before .before .before .text-head .ensures) (f .before .before .frame-next-head .ensures) in
     let g = next-lawful (f .before .before .before .before .before .args .first) (textSextets (f .before .before .before .before .before .args .part .now)) _ _ _ _ e (f .framed .given .1) in
     next-told (f .before .before .before .before .before .args .first) _ _ _ e _ _ _ (f .framed .given .1) _
-    (own-text-judged _ _ _ _ _ _ _ _ (f .before .before .before .text-head .ensures) (c .before .before .before .within .ensures) (c .before .own-text .ensures) (g .few) (g .shape)) _ (c .told .ensures)
+    (own-text-judged _ _ _ _ _ _ _ _ (f .before .before .before .text-head .ensures) (c .before .before .before .within .ensures) (c .before .own-text .ensures) (g .few) (g .shape) (omega (arith, g .room, text-units (f .before .before .before .before .before .args .part .now)))) _ (c .told .ensures)
 
 pub next-text-spec : {M : Type 1} → statement M
 next-text-spec =

@@ -82,7 +82,7 @@ returns-3 c =
     let e = framed-text _ _ _ (f .before .before .before .text-head .ensures) (f .before .before .frame-head .ensures) in
     let g = lawful (textSextets (f .before .before .before .before .before .args .part .now)) _ _ _ _ e (f .framed .given .1) in
     read-judged _ _ e _ _ _ (f .framed .given .1) (sym (c .before .before .before .before .before .is-primitive .ensures) ∙ not-false _ (c .before .before .before .before .if1 .left)) _
-    (own-text-judged _ _ _ _ _ _ 0 _ (f .before .before .before .text-head .ensures) (c .before .before .before .within .ensures) (c .before .own-text .ensures) (g .few) (g .shape)) _ (c .told .ensures)
+    (own-text-judged _ _ _ _ _ _ 0 _ (f .before .before .before .text-head .ensures) (c .before .before .before .within .ensures) (c .before .own-text .ensures) (g .few) (g .shape) (omega (arith, g .room, text-units (f .before .before .before .before .before .args .part .now)))) _ (c .told .ensures)
 
 pub read-text-part-spec : {M : Type 1} → statement M
 read-text-part-spec =
