@@ -172,7 +172,7 @@ fn passed_text(
     requires { ⌜ (now values ≡ sextetTable) × (now rows ≡ plainTable) × (at ≤ stop) ⌝ }
     ensures { λ r. ⌜ Passed (textSextets (now (s .entry))) clean at stop r ⌝ }
 {
-    let k = runs::plain_text(values, rows, s, at);
+    let k = runs_text::plain_text(values, rows, s, at);
     if clean < stop {
         if clean < at {
             return 0;
@@ -206,7 +206,7 @@ fn entered_text(
     if clean <= at {
         return 0;
     }
-    let g = runs::group_text(values, classes, s, at);
+    let g = runs_text::group_text(values, classes, s, at);
     if stop - at < g {
         return 0;
     }
@@ -283,7 +283,7 @@ fn level_text(
         } else {
             let g = entered_text(values, classes, s, clean, levels, i, stop);
             if 0 < g {
-                let marks = runs::marks_text(classes, s, i);
+                let marks = runs_text::marks_text(classes, s, i);
                 let v = level_text(
                     values,
                     classes,
@@ -338,9 +338,9 @@ fn nest_text(
     ensures { λ r. ⌜ r ≡ level (textSextets (now (s .entry))) maxDepth false at stop ⌝ }
 {
     if stop <= clean {
-        let d = runs::nested_text(values, classes, s, at + 1, stop, MAX_DEPTH - 1);
+        let d = runs_text::nested_text(values, classes, s, at + 1, stop, MAX_DEPTH - 1);
         let i = at + 1 + d;
-        if runs::plain_text(values, rows, s, i) == stop - i {
+        if runs_text::plain_text(values, rows, s, i) == stop - i {
             return Verdict::Accepted;
         }
     }
@@ -389,7 +389,7 @@ fn group_size_text(
     if clean <= at {
         return 0;
     }
-    let g = runs::group_text(values, classes, s, at);
+    let g = runs_text::group_text(values, classes, s, at);
     if s.len() / 4 - at < g {
         return 0;
     }
@@ -402,7 +402,7 @@ fn size_text(values: &[u8; 256], rows: &[u16; 192], s: &[u8], clean: usize, at: 
     ensures { λ r. ⌜ r ≡ sizeOf (frameRuled (textSextets (drop (4 * at) (now (s .entry))))) ⌝ }
 {
     if at < clean {
-        let m = runs::sized_text(values, rows, s, at);
+        let m = runs_text::sized_text(values, rows, s, at);
         if 0 < m {
             if m <= s.len() / 4 - at {
                 return m;
@@ -600,7 +600,7 @@ fn passed_binary(rows: &[u16; 192], s: &[u8], at: usize, stop: usize) -> usize
     requires { ⌜ (now rows ≡ plainTable) × (at ≤ stop) ⌝ }
     ensures { λ r. ⌜ Passed (binarySextets (now (s .entry))) stop at stop r ⌝ }
 {
-    let k = runs::plain_binary(rows, s, at);
+    let k = runs_binary::plain_binary(rows, s, at);
     if stop - at < k {
         return 0;
     }
@@ -614,7 +614,7 @@ fn entered_binary(s: &[u8], levels: usize, at: usize, stop: usize) -> usize
     if levels == 0 {
         return 0;
     }
-    let g = runs::group_binary(s, at);
+    let g = runs_binary::group_binary(s, at);
     if stop - at < g {
         return 0;
     }
@@ -675,7 +675,7 @@ fn level_binary(
         } else {
             let g = entered_binary(s, levels, i, stop);
             if 0 < g {
-                let marks = runs::marks_binary(s, i);
+                let marks = runs_binary::marks_binary(s, i);
                 let v = level_binary(rows, s, levels - 1, marks, i + 1, i + g);
                 match v {
                     Verdict::Refused { number, place } => {
@@ -711,9 +711,9 @@ fn nest_binary(rows: &[u16; 192], s: &[u8], at: usize, stop: usize) -> Verdict
     requires { ⌜ (now rows ≡ plainTable) × (3 * stop ≤ length (now s)) × (at < stop) × (length (now s) ≤ 3145728) × (groupAt (binarySextets (now s)) at ≡ stop - at) ⌝ }
     ensures { λ r. ⌜ r ≡ level (binarySextets (now (s .entry))) maxDepth false at stop ⌝ }
 {
-    let d = runs::nested_binary(s, at + 1, stop, MAX_DEPTH - 1);
+    let d = runs_binary::nested_binary(s, at + 1, stop, MAX_DEPTH - 1);
     let i = at + 1 + d;
-    if runs::plain_binary(rows, s, i) == stop - i {
+    if runs_binary::plain_binary(rows, s, i) == stop - i {
         return Verdict::Accepted;
     }
     level_binary(rows, s, MAX_DEPTH, false, at, stop)
@@ -742,7 +742,7 @@ fn group_size_binary(s: &[u8], at: usize) -> usize
     requires { ⌜ 3 * at ≤ length (now s) ⌝ }
     ensures { λ r. ⌜ Grouped (binarySextets (now (s .entry))) (at + 1) at r ⌝ }
 {
-    let g = runs::group_binary(s, at);
+    let g = runs_binary::group_binary(s, at);
     if s.len() / 3 - at < g {
         return 0;
     }
@@ -754,7 +754,7 @@ fn size_binary(rows: &[u16; 192], s: &[u8], at: usize) -> usize
     requires { ⌜ (now rows ≡ plainTable) × (3 * at ≤ length (now s)) ⌝ }
     ensures { λ r. ⌜ r ≡ sizeOf (frameRuled (binarySextets (drop (3 * at) (now (s .entry))))) ⌝ }
 {
-    let m = runs::sized_binary(rows, s, at);
+    let m = runs_binary::sized_binary(rows, s, at);
     if 0 < m {
         if m <= s.len() / 3 - at {
             return m;

@@ -24,7 +24,7 @@ use Rattle.contents.proofs.next_binary.Reads as next-binary-reads
 use Rattle.judging.proofs.told.Reads as told-reads
 use Rattle.report.proofs.entered_binary.Reads as entered-binary-reads
 use Rattle.report.proofs.passed_binary.Reads as passed-binary-reads
-use Rattle.runs.proofs.marks_binary.Reads as marks-binary-reads
+use Rattle.runs_binary.proofs.marks_binary.Reads as marks-binary-reads
 use Rattle.report.proofs.+item_binary+level_binary.{statement}
 use Rattle.report.proofs.+item_binary+level_binary.Tie.{close}
 

@@ -24,7 +24,7 @@ use Rattle.contents.proofs.next_text.Reads as next-text-reads
 use Rattle.judging.proofs.told.Reads as told-reads
 use Rattle.report.proofs.entered_text.Reads as entered-text-reads
 use Rattle.report.proofs.passed_text.Reads as passed-text-reads
-use Rattle.runs.proofs.marks_text.Reads as marks-text-reads
+use Rattle.runs_text.proofs.marks_text.Reads as marks-text-reads
 use Rattle.report.proofs.+item_text+level_text.{statement}
 use Rattle.report.proofs.+item_text+level_text.Tie.{close}
 

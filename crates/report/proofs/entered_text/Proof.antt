@@ -5,7 +5,7 @@ use Rattle.report.proofs.entered_text.Statement.{statement}
 use Rattle.report.proofs.entered_text.Tie as tie
 use Rattle.report.proofs.entered_text.Reads as reads
 use Rattle.report.proofs.entered_text.Lts as lts
-use Rattle.runs.proofs.group_text.Reads as group-text-reads
+use Rattle.runs_text.proofs.group_text.Reads as group-text-reads
 
 -- src/lib.rt:203:9
 returns : tie.Need-returns

@@ -8,7 +8,7 @@ use Rattle.report.proofs.group_size_binary.Statement.{statement}
 use Rattle.report.proofs.group_size_binary.Tie as tie
 use Rattle.report.proofs.group_size_binary.Reads as reads
 use Rattle.report.proofs.group_size_binary.Lts as lts
-use Rattle.runs.proofs.group_binary.Reads as group-binary-reads
+use Rattle.runs_binary.proofs.group_binary.Reads as group-binary-reads
 
 -- src/lib.rt:745:9
 group-binary-requires : tie.Need-group-binary-requires

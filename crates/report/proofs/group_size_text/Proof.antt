@@ -8,7 +8,7 @@ use Rattle.report.proofs.group_size_text.Statement.{statement}
 use Rattle.report.proofs.group_size_text.Tie as tie
 use Rattle.report.proofs.group_size_text.Reads as reads
 use Rattle.report.proofs.group_size_text.Lts as lts
-use Rattle.runs.proofs.group_text.Reads as group-text-reads
+use Rattle.runs_text.proofs.group_text.Reads as group-text-reads
 
 -- src/lib.rt:390:9
 returns : tie.Need-returns

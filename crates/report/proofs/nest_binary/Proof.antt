@@ -11,8 +11,8 @@ use Rattle.report.proofs.nest_binary.Tie as tie
 use Rattle.report.proofs.nest_binary.Reads as reads
 use Rattle.report.proofs.nest_binary.Lts as lts
 use Rattle.report.proofs.level_binary.Reads as level-binary-reads
-use Rattle.runs.proofs.nested_binary.Reads as nested-binary-reads
-use Rattle.runs.proofs.plain_binary.Reads as plain-binary-reads
+use Rattle.runs_binary.proofs.nested_binary.Reads as nested-binary-reads
+use Rattle.runs_binary.proofs.plain_binary.Reads as plain-binary-reads
 
 -- src/lib.rt:714:36
 add-nested-binary : tie.Need-add-nested-binary

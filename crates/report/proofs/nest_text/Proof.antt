@@ -11,8 +11,8 @@ use Rattle.report.proofs.nest_text.Tie as tie
 use Rattle.report.proofs.nest_text.Reads as reads
 use Rattle.report.proofs.nest_text.Lts as lts
 use Rattle.report.proofs.level_text.Reads as level-text-reads
-use Rattle.runs.proofs.nested_text.Reads as nested-text-reads
-use Rattle.runs.proofs.plain_text.Reads as plain-text-reads
+use Rattle.runs_text.proofs.nested_text.Reads as nested-text-reads
+use Rattle.runs_text.proofs.plain_text.Reads as plain-text-reads
 
 -- src/lib.rt:341:55
 add-nested-text : tie.Need-add-nested-text

@@ -5,7 +5,7 @@ use Rattle.report.proofs.passed_binary.Statement.{statement}
 use Rattle.report.proofs.passed_binary.Tie as tie
 use Rattle.report.proofs.passed_binary.Reads as reads
 use Rattle.report.proofs.passed_binary.Lts as lts
-use Rattle.runs.proofs.plain_binary.Reads as plain-binary-reads
+use Rattle.runs_binary.proofs.plain_binary.Reads as plain-binary-reads
 
 -- src/lib.rt:602:9
 plain-binary-requires : tie.Need-plain-binary-requires

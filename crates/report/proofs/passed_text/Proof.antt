@@ -6,7 +6,7 @@ use Rattle.report.proofs.passed_text.Statement.{statement}
 use Rattle.report.proofs.passed_text.Tie as tie
 use Rattle.report.proofs.passed_text.Reads as reads
 use Rattle.report.proofs.passed_text.Lts as lts
-use Rattle.runs.proofs.plain_text.Reads as plain-text-reads
+use Rattle.runs_text.proofs.plain_text.Reads as plain-text-reads
 
 -- src/lib.rt:174:9
 plain-text-requires : tie.Need-plain-text-requires

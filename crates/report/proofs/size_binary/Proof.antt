@@ -15,7 +15,7 @@ use Rattle.report.proofs.size_binary.Reads as reads
 use Rattle.report.proofs.size_binary.Lts as lts
 use Rattle.report.proofs.framed_binary.Reads as framed-binary-reads
 use Rattle.report.proofs.size_of.Reads as size-of-reads
-use Rattle.runs.proofs.sized_binary.Reads as sized-binary-reads
+use Rattle.runs_binary.proofs.sized_binary.Reads as sized-binary-reads
 
 -- src/lib.rt:757:9
 sized-binary-requires : tie.Need-sized-binary-requires

@@ -13,7 +13,7 @@ use Rattle.report.proofs.size_text.Reads as reads
 use Rattle.report.proofs.size_text.Lts as lts
 use Rattle.report.proofs.framed_text.Reads as framed-text-reads
 use Rattle.report.proofs.size_of.Reads as size-of-reads
-use Rattle.runs.proofs.sized_text.Reads as sized-text-reads
+use Rattle.runs_text.proofs.sized_text.Reads as sized-text-reads
 
 -- src/lib.rt:405:13
 sized-text-requires : tie.Need-sized-text-requires
