@@ -86,10 +86,19 @@ uint8_t cesr_write_text(uint8_t chars, uint8_t letter, const uint8_t tag[11], si
 uint8_t cesr_write_binary(uint8_t chars, uint8_t letter, const uint8_t tag[11], size_t tags, const uint8_t *raw, size_t raw_len,
                           uint8_t *out, size_t out_len, size_t *answer);
 
-/* The walk's state: the ends of at most sixteen open groups, outermost first, unused slots 0; the number open; the position; whether
- * the next item is first in an overrideable group (0 or 1; any other value is 13). Ends and position count units, in T and in B.
- * Nineteen zeros are the start of every stream. */
-enum cesr_state { CESR_STATE_ENDS = 0, CESR_STATE_OPEN = 16, CESR_STATE_POSITION = 17, CESR_STATE_FIRST = 18, CESR_STATE = 19 };
+/* At most so many groups are open. */
+#define CESR_MAX_DEPTH 16
+
+/* The walk's state, CESR_STATE numbers: the ends of the open groups, outermost first, unused slots 0; the number open; the position;
+ * whether the next item is first in an overrideable group (0 or 1; any other value is 13). Ends and position count units, in T and in
+ * B. Zeros alone are the start of every stream. */
+enum cesr_state {
+    CESR_STATE_ENDS = 0,
+    CESR_STATE_OPEN = CESR_MAX_DEPTH,
+    CESR_STATE_POSITION = CESR_MAX_DEPTH + 1,
+    CESR_STATE_FIRST = CESR_MAX_DEPTH + 2,
+    CESR_STATE = CESR_MAX_DEPTH + 3
+};
 
 /* What item holds after a step that yielded one. */
 enum cesr_item {
@@ -103,10 +112,10 @@ enum cesr_item {
 
 /* A step of the walk over a text: 0 with an item and the next state, 255 at the end, else the first refusal: 1, 13, then as the item is
  * framed and judged. *answer: the place of a refusal, else 0. At a refusal or the end state and item stay as they were. */
-uint8_t cesr_walk_text(const uint8_t *stream, size_t stream_len, size_t state[19], size_t item[6], size_t *answer);
+uint8_t cesr_walk_text(const uint8_t *stream, size_t stream_len, size_t state[CESR_STATE], size_t item[6], size_t *answer);
 
 /* The same over a binary. */
-uint8_t cesr_walk_binary(const uint8_t *stream, size_t stream_len, size_t state[19], size_t item[6], size_t *answer);
+uint8_t cesr_walk_binary(const uint8_t *stream, size_t stream_len, size_t state[CESR_STATE], size_t item[6], size_t *answer);
 
 #ifdef __cplusplus
 }

@@ -1,11 +1,9 @@
 // The public calls for C and Rust, on numbers and byte slices: a number, 0 for accepted, and what else there is to say behind
 // `answer`. Nothing is decided here.
+use exports_values::STATE;
 use format::BinaryFound;
 use format::BinaryOffset;
 use format::BinaryWritten;
-use format::Code;
-use format::Kind;
-use format::Primitive;
 use format::Reported;
 use format::TextFound;
 use format::TextOffset;
@@ -14,25 +12,21 @@ use format::ToBinary;
 use format::ToText;
 use walk::BinaryItem;
 use walk::TextItem;
-use walk::Walk;
 ghost use mathlib.Core.Path.{_≡_};
 ghost use lib.ListN.{length};
-ghost use lib.Dec.{ltb, eqb};
-ghost use Rattle.base.specs.Pick.{pick};
 ghost use Rattle.format.specs.Conversion.{textToBinary, toBinaryNumber, toBinaryValue, binaryLeft, binaryToText, toTextNumber, toTextValue, textLeft};
-ghost use Rattle.format.specs.Alphabet.{charOf};
 ghost use Rattle.format.specs.Units.{text, binary};
 ghost use Rattle.format.specs.Reading.{readText, readBinary, rawLeft};
 ghost use Rattle.format.specs.Writing.{writeText, textItemLeft, writeBinary, binaryItemLeft};
 ghost use Rattle.walk.specs.Walking.{textStep, binaryStep};
-ghost use Rattle.exports.specs.Answers.{charsOf, letterOf, codeFrom, infoOf};
-ghost use Rattle.exports.specs.Answers.{textFoundNumber, textFoundValue, textTagLeft, textInfoLeft};
-ghost use Rattle.exports.specs.Answers.{binaryFoundNumber, binaryFoundValue, binaryTagLeft, binaryInfoLeft};
-ghost use Rattle.exports.specs.Answers.{textWrittenNumber, textWrittenValue, binaryWrittenNumber, binaryWrittenValue};
+ghost use Rattle.exports_values.specs.Answers.{codeFrom};
+ghost use Rattle.exports_values.specs.Answers.{textFoundNumber, textFoundValue, textTagLeft, textInfoLeft};
+ghost use Rattle.exports_values.specs.Answers.{binaryFoundNumber, binaryFoundValue, binaryTagLeft, binaryInfoLeft};
+ghost use Rattle.exports_values.specs.Answers.{textWrittenNumber, textWrittenValue, binaryWrittenNumber, binaryWrittenValue};
 ghost use Rattle.format.specs.Report.{reportAnswer, reportNumber, reportValue, reportLeft};
-ghost use Rattle.exports.specs.Lent.{walkOf, stateOf, sortOf, signOf, leadOf, itemOf};
-ghost use Rattle.exports.specs.Lent.{textStepNumber, textStepValue, textYieldLeft, textStateLeft};
-ghost use Rattle.exports.specs.Lent.{binaryStepNumber, binaryStepValue, binaryYieldLeft, binaryStateLeft};
+ghost use Rattle.exports_values.specs.Lent.{walkOf};
+ghost use Rattle.exports_values.specs.Lent.{textStepNumber, textStepValue, textYieldLeft, textStateLeft};
+ghost use Rattle.exports_values.specs.Lent.{binaryStepNumber, binaryStepValue, binaryYieldLeft, binaryStateLeft};
 
 // answer: the length written, or the place in the text.
 #[no_mangle]
@@ -112,53 +106,6 @@ pub extern "C" fn cesr_report_binary(stream: &[u8], out: &mut [u8], answer: &mut
 
 // ---- reading and writing a primitive
 
-fn wide(x: u8) -> usize
-    ensures { λ r. ⌜ r ≡ x ⌝ }
-{
-    x as usize
-}
-
-fn chars_of(code: Code) -> usize
-    ensures { λ r. ⌜ r ≡ charsOf code ⌝ }
-{
-    match code {
-        Code::Fixed { chars, letter: _ } => wide(chars),
-        Code::Small { letter: _ } => 5,
-        Code::Large { letter: _ } => 6,
-    }
-}
-
-fn letter_of(code: Code) -> usize
-    ensures { λ r. ⌜ r ≡ letterOf code ⌝ }
-{
-    match code {
-        Code::Fixed { chars: _, letter } => wide(letter),
-        Code::Small { letter } => wide(letter),
-        Code::Large { letter } => wide(letter),
-    }
-}
-
-fn info_of(p: Primitive) -> [usize; 6]
-    ensures { λ r. ⌜ r ≡ infoOf p ⌝ }
-{
-    let code = p.code;
-    let chars = chars_of(code);
-    let letter = letter_of(code);
-    [chars, letter, p.size, p.start, p.raw, p.tags]
-}
-
-fn code_from(chars: u8, letter: u8) -> Code
-    ensures { λ r. ⌜ r ≡ codeFrom chars letter ⌝ }
-{
-    if chars == 5 {
-        return Code::Small { letter };
-    }
-    if chars == 6 {
-        return Code::Large { letter };
-    }
-    Code::Fixed { chars, letter }
-}
-
 // answer: the raw length, or the place in the text. A refused call writes to no other place.
 #[no_mangle]
 pub extern "C" fn cesr_read_text(
@@ -180,7 +127,7 @@ pub extern "C" fn cesr_read_text(
     let characters = read.tag;
     match found {
         TextFound::Found(p) => {
-            let numbers = info_of(p);
+            let numbers = exports_values::info_of(p);
             *tag = characters;
             *info = numbers;
             *answer = p.raw;
@@ -212,7 +159,7 @@ pub extern "C" fn cesr_read_binary(
     let characters = read.tag;
     match found {
         BinaryFound::Found(p) => {
-            let numbers = info_of(p);
+            let numbers = exports_values::info_of(p);
             *tag = characters;
             *info = numbers;
             *answer = p.raw;
@@ -240,7 +187,7 @@ pub extern "C" fn cesr_write_text(
     ensures { λ r. ⌜ now (answer .exit) ≡ textWrittenValue (writeText (codeFrom chars letter) (now (tag .entry)) tags (now (raw .entry)) (length (now (out .entry)))) ⌝ }
     ensures { λ r. ⌜ now (out .exit) ≡ textItemLeft (writeText (codeFrom chars letter) (now (tag .entry)) tags (now (raw .entry)) (length (now (out .entry)))) (codeFrom chars letter) (now (tag .entry)) tags (now (raw .entry)) (now (out .entry)) ⌝ }
 {
-    let code = code_from(chars, letter);
+    let code = exports_values::code_from(chars, letter);
     let characters = *tag;
     match writing::write_text(code, characters, tags, raw, out) {
         TextWritten::Written(n) => {
@@ -269,7 +216,7 @@ pub extern "C" fn cesr_write_binary(
     ensures { λ r. ⌜ now (answer .exit) ≡ binaryWrittenValue (writeBinary (codeFrom chars letter) (now (tag .entry)) tags (now (raw .entry)) (length (now (out .entry)))) ⌝ }
     ensures { λ r. ⌜ now (out .exit) ≡ binaryItemLeft (writeBinary (codeFrom chars letter) (now (tag .entry)) tags (now (raw .entry)) (length (now (out .entry)))) (codeFrom chars letter) (now (tag .entry)) tags (now (raw .entry)) (now (out .entry)) ⌝ }
 {
-    let code = code_from(chars, letter);
+    let code = exports_values::code_from(chars, letter);
     let characters = *tag;
     match writing::write_binary(code, characters, tags, raw, out) {
         BinaryWritten::Written(n) => {
@@ -283,157 +230,13 @@ pub extern "C" fn cesr_write_binary(
     }
 }
 
-// ---- the walk over a lent state. What turns states and items into numbers is public for programs that compare with these calls.
-
-// A mark that is neither 0 nor 1 counts as seventeen open, which fits no stream.
-fn open_of(depth: usize, mark: usize) -> usize
-    ensures { λ r. ⌜ r ≡ pick (ltb 1 mark) 17 depth ⌝ }
-{
-    if 1 < mark { 17 } else { depth }
-}
-
-pub fn walk_of(s: [usize; 19]) -> Walk
-    ensures { λ r. ⌜ r ≡ walkOf s ⌝ }
-{
-    let depth = open_of(s[16], s[18]);
-    Walk {
-        ends: [
-            s[0],
-            s[1],
-            s[2],
-            s[3],
-            s[4],
-            s[5],
-            s[6],
-            s[7],
-            s[8],
-            s[9],
-            s[10],
-            s[11],
-            s[12],
-            s[13],
-            s[14],
-            s[15],
-        ],
-        depth,
-        at: s[17],
-        first: s[18] == 1,
-    }
-}
-
-fn mark_of(first: bool) -> usize
-    ensures { λ r. ⌜ r ≡ pick first 1 0 ⌝ }
-{
-    if first { 1 } else { 0 }
-}
-
-pub fn state_of(w: Walk) -> [usize; 19]
-    ensures { λ r. ⌜ r ≡ stateOf w ⌝ }
-{
-    let e = w.ends;
-    let mark = mark_of(w.first);
-    [
-        e[0],
-        e[1],
-        e[2],
-        e[3],
-        e[4],
-        e[5],
-        e[6],
-        e[7],
-        e[8],
-        e[9],
-        e[10],
-        e[11],
-        e[12],
-        e[13],
-        e[14],
-        e[15],
-        w.depth,
-        w.at,
-        mark,
-    ]
-}
-
-// small where the header is one unit
-fn sized(head: usize, small: usize, large: usize) -> usize
-    ensures { λ r. ⌜ r ≡ pick (eqb head 1) small large ⌝ }
-{
-    if head == 1 { small } else { large }
-}
-
-fn sort_of(kind: Kind, head: usize) -> usize
-    ensures { λ r. ⌜ r ≡ sortOf kind head ⌝ }
-{
-    match kind {
-        Kind::Fixed(c) => {
-            let chars = c.chars;
-            wide(chars)
-        }
-        Kind::Variable {
-            letter: _,
-            lead: _,
-            count: _,
-        } => sized(head, 5, 6),
-        Kind::Group { letter: _ } => sized(head, 7, 8),
-        Kind::Genus => 9,
-    }
-}
-
-fn character_of(letter: u8) -> usize
-    ensures { λ r. ⌜ r ≡ charOf letter ⌝ }
-{
-    let c = alphabet::character(letter);
-    wide(c)
-}
-
-fn sign_of(kind: Kind) -> usize
-    ensures { λ r. ⌜ r ≡ signOf kind ⌝ }
-{
-    match kind {
-        Kind::Fixed(c) => {
-            let letter = c.letter;
-            character_of(letter)
-        }
-        Kind::Variable {
-            letter,
-            lead: _,
-            count: _,
-        } => character_of(letter),
-        Kind::Group { letter } => character_of(letter),
-        Kind::Genus => 0,
-    }
-}
-
-fn lead_of(kind: Kind) -> usize
-    ensures { λ r. ⌜ r ≡ leadOf kind ⌝ }
-{
-    match kind {
-        Kind::Fixed(_) => 0,
-        Kind::Variable {
-            letter: _,
-            lead,
-            count: _,
-        } => wide(lead),
-        Kind::Group { letter: _ } => 0,
-        Kind::Genus => 0,
-    }
-}
-
-pub fn item_of(offset: usize, size: usize, depth: usize, kind: Kind, head: usize) -> [usize; 6]
-    ensures { λ r. ⌜ r ≡ itemOf offset size depth kind head ⌝ }
-{
-    let sort = sort_of(kind, head);
-    let sign = sign_of(kind);
-    let lead = lead_of(kind);
-    [offset, size, depth, sort, sign, lead]
-}
+// ---- the walk over a lent state
 
 // answer: the place in the text of a refusal, else 0. The state and the item are written only where an item was found.
 #[no_mangle]
 pub extern "C" fn cesr_walk_text(
     stream: &[u8],
-    state: &mut [usize; 19],
+    state: &mut [usize; STATE],
     item: &mut [usize; 6],
     answer: &mut usize,
 ) -> u8
@@ -443,7 +246,7 @@ pub extern "C" fn cesr_walk_text(
     ensures { λ r. ⌜ now (state .exit) ≡ textStateLeft (textStep (now (stream .entry)) (walkOf (now (state .entry))) .found) (textStep (now (stream .entry)) (walkOf (now (state .entry))) .next) (now (state .entry)) ⌝ }
 {
     let numbers = *state;
-    let w = walk_of(numbers);
+    let w = exports_values::walk_of(numbers);
     let step = w.step_text(stream);
     let next = step.next;
     let found = step.found;
@@ -455,8 +258,8 @@ pub extern "C" fn cesr_walk_text(
             kind,
             head,
         } => {
-            let row = item_of(offset.0, size.0, depth, kind, head);
-            let after = state_of(next);
+            let row = exports_values::item_of(offset.0, size.0, depth, kind, head);
+            let after = exports_values::state_of(next);
             *item = row;
             *state = after;
             *answer = 0;
@@ -477,7 +280,7 @@ pub extern "C" fn cesr_walk_text(
 #[no_mangle]
 pub extern "C" fn cesr_walk_binary(
     stream: &[u8],
-    state: &mut [usize; 19],
+    state: &mut [usize; STATE],
     item: &mut [usize; 6],
     answer: &mut usize,
 ) -> u8
@@ -487,7 +290,7 @@ pub extern "C" fn cesr_walk_binary(
     ensures { λ r. ⌜ now (state .exit) ≡ binaryStateLeft (binaryStep (now (stream .entry)) (walkOf (now (state .entry))) .found) (binaryStep (now (stream .entry)) (walkOf (now (state .entry))) .next) (now (state .entry)) ⌝ }
 {
     let numbers = *state;
-    let w = walk_of(numbers);
+    let w = exports_values::walk_of(numbers);
     let step = w.step_binary(stream);
     let next = step.next;
     let found = step.found;
@@ -499,8 +302,8 @@ pub extern "C" fn cesr_walk_binary(
             kind,
             head,
         } => {
-            let row = item_of(offset.0, size.0, depth, kind, head);
-            let after = state_of(next);
+            let row = exports_values::item_of(offset.0, size.0, depth, kind, head);
+            let after = exports_values::state_of(next);
             *item = row;
             *state = after;
             *answer = 0;

@@ -5,6 +5,8 @@ use mathlib.Core.List.{List, map}
 use lib.ListN.{length, getD}
 use Rattle.base.specs.Digits.{numberOf, digitsOf}
 use Rattle.base.specs.Each.{each}
+use Rattle.format.specs.declared.Form.{Form}
+use Rattle.format.specs.declared.Form.the-variants.{Text, Binary}
 use Rattle.format.specs.Alphabet.{sextetOf, charOf}
 
 -- four sextets as three bytes, three bytes as four sextets: digits of one 24-bit number
@@ -46,3 +48,7 @@ text = record { unit = 4; limit = 4194304; sextets = textSextets }
 
 abbrev pub binary : Domain
 binary = record { unit = 3; limit = 3145728; sextets = binarySextets }
+
+abbrev pub domain : Form → Domain
+domain Text = text
+domain Binary = binary

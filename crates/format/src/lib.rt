@@ -1,5 +1,11 @@
 // The format's types. What they mean is defined in specs/, in document 01's order; there is no code here.
 
+// The form of a stream.
+pub enum Form {
+    Text,
+    Binary,
+}
+
 // A place or a length in a text stream, in characters.
 pub struct TextOffset(pub usize);
 

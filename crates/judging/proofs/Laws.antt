@@ -8,8 +8,8 @@ use Prim.Native.Nat.{ℕ, zero, suc, _+_, _-_, _*_, _/_, _<_, _≤_}
 use native.Mathlib.Nat.{zero-div}
 use native.Mathlib.Omega.{arith}
 use lib.Dec.{ltb, eqb}
-use lib.ListN.{length, getD, take, drop, length-drop, length-take, drop-of-length-le, List·getD-eq-default}
-use lib.Seq.{getD-take, take-all}
+use lib.ListN.{length, getD, take, drop, length-drop, length-take, length-map, drop-of-length-le, List·getD-eq-default}
+use lib.Seq.{getD-take, take-all, length-take-le}
 use borrow.Author.Tests.{lt-ltb, le-ltb}
 use Rattle.base.specs.Pick.{pick}
 use Rattle.base.specs.Cases.{lt-or-ge, whether}
@@ -130,15 +130,16 @@ unfolding groupOwn ownCheck behind
 own-group letter h zero s = refl
 own-group letter h (suc l) s = refl
 
--- what the code finds of an item's own sextets is what format's judging finds
-pub own-judged : (k : Kind) (h n l : ℕ) (s : List ℕ) → h ≤ 2 → Shaped k h n → ownBy k h (headOf s) (behind h s) l ≡ judgeKind k h s (ownCheck l)
+-- what the code finds of an item's own sextets, those of its n units, is what format's judging finds
+pub own-judged : (k : Kind) (h n l : ℕ) (s : List ℕ) → h ≤ 2 → length s ≡ 4 * n → Shaped k h n
+    → ownBy k h n (headOf s) (behind h s) l ≡ judgeKind k h s (ownCheck l)
 unfolding ownBy judgeKind fixedChecks variableChecks
-own-judged (Fixed c) h n l s few shape =
+own-judged (Fixed c) h n l s few long shape =
     let m : c .chars ≤ 4 = shape .0 .chars .1 in
     rw (zero-head s (c .chars) (zeroBitsOf c) (omega arith), prepad-head s (c .chars) (prepadOf c) (omega arith))
-own-judged (Variable t lead count) h n l s few shape = rw (zero-head s (4 * h) (8 * lead) (omega arith))
-own-judged (Group letter) h n l s few shape = own-group letter h l s
-own-judged Genus h n l s few shape = refl
+own-judged (Variable t lead count) h n l s few long shape = rw (zero-head s (4 * h) (8 * lead) (omega arith))
+own-judged (Group letter) h n l s few long shape = own-group letter h l s
+own-judged Genus h n l s few long shape = refl
 
 -- ---- an item's own checks, from what the code has at hand
 
@@ -146,16 +147,18 @@ own-cut : (s cs own : List ℕ) (n : ℕ) → cs ≡ headOf s → own ≡ headOf
 own-cut s cs own n e p = p ∙ rw e (within-head s n)
 
 pub own-text-judged : (part cs own : List ℕ) (k : Kind) (h n l : ℕ) (v : Verdict) → cs ≡ headOf (textSextets part) → own ≡ headOf (take (4 * n) cs)
-    → v ≡ ownBy k h own (behind h (textSextets (take (4 * n) part))) l → h ≤ 2 → Shaped k h n
+    → v ≡ ownBy k h n own (behind h (textSextets (take (4 * n) part))) l → h ≤ 2 → Shaped k h n → 4 * n ≤ length part
     → v ≡ judgeKind k h (take (4 * n) (textSextets part)) (ownCheck l)
 unfolding textSextets
-own-text-judged part cs own k h n l v e p w few shape =
-    w ∙ rw (own-cut (textSextets part) cs own n e p, map-take sextetOf (4 * n) part) (own-judged k h n l (take (4 * n) (textSextets part)) few shape)
+own-text-judged part cs own k h n l v e p w few shape room =
+    let long = length-take-le (4 * n) (textSextets part) (rw (length-map part sextetOf) room) in
+    w ∙ rw (own-cut (textSextets part) cs own n e p, map-take sextetOf (4 * n) part) (own-judged k h n l (take (4 * n) (textSextets part)) few long shape)
 
 pub own-binary-judged : (part cs own : List ℕ) (k : Kind) (h n l : ℕ) (v : Verdict) → cs ≡ headOf (binarySextets part)
-    → own ≡ headOf (take (4 * n) cs) → v ≡ ownBy k h own Accepted l → h ≤ 2 → Shaped k h n → n * 3 ≤ length part
+    → own ≡ headOf (take (4 * n) cs) → v ≡ ownBy k h n own Accepted l → h ≤ 2 → Shaped k h n → n * 3 ≤ length part
     → v ≡ judgeKind k h (take (4 * n) (binarySextets part)) (ownCheck l)
 own-binary-judged part cs own k h n l v e p w few shape room =
     let m : 4 * n ≡ n * 4 = omega arith in
     let b : behind h (take (4 * n) (binarySextets part)) ≡ Accepted = rw m (rw (binary-reader .taken part n room) at (behind-binary (take (n * 3) part) h)) in
-    w ∙ rw (own-cut (binarySextets part) cs own n e p, ← b) (own-judged k h n l (take (4 * n) (binarySextets part)) few shape)
+    let long = length-take-le (4 * n) (binarySextets part) (omega (arith, binary-reader .units part)) in
+    w ∙ rw (own-cut (binarySextets part) cs own n e p, ← b) (own-judged k h n l (take (4 * n) (binarySextets part)) few long shape)

@@ -26,11 +26,12 @@ unfoldable pub groupOwn : ℕ → Verdict → ℕ → Verdict
 groupOwn letter b zero = Refused 11 0
 groupOwn letter b (suc l) = pick (isOpaque letter) b Accepted
 
-unfoldable pub ownBy : Kind → ℕ → List ℕ → Verdict → ℕ → Verdict
-ownBy (Fixed c) h cs b l = andThen b (fixedChecks c cs)
-ownBy (Variable t lead count) h cs b l = andThen b (variableChecks lead count h cs)
-ownBy (Group letter) h cs b l = groupOwn letter b l
-ownBy Genus h cs b l = Accepted
+-- an item of n units, h of them its header
+unfoldable pub ownBy : Kind → ℕ → ℕ → List ℕ → Verdict → ℕ → Verdict
+ownBy (Fixed c) h n cs b l = andThen b (fixedChecks c cs)
+ownBy (Variable t lead count) h n cs b l = andThen b (variableChecks lead count h cs)
+ownBy (Group letter) h n cs b l = groupOwn letter b l
+ownBy Genus h n cs b l = Accepted
 
 -- an item after its verdict
 unfoldable pub toldBy : Framed → Verdict → Framed

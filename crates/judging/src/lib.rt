@@ -222,10 +222,10 @@ fn after(b: Verdict, v: Verdict) -> Verdict
     }
 }
 
-// The own checks of an item of a text: kind and header units as framed, its first sextets, its own characters, and how many more
-// groups may be entered.
-pub fn own_text(kind: Kind, h: usize, cs: [u8; 12], item: &[u8], levels: usize) -> Verdict
-    ensures { λ r. ⌜ r ≡ ownBy kind h cs (behind h (textSextets (now (item .entry)))) levels ⌝ }
+// The own checks of an item of a text: kind, header units and size n in units as framed, its first sextets, its own characters,
+// and how many more groups may be entered. No check asks for the size as yet.
+pub fn own_text(kind: Kind, h: usize, n: usize, cs: [u8; 12], item: &[u8], levels: usize) -> Verdict
+    ensures { λ r. ⌜ r ≡ ownBy kind h n cs (behind h (textSextets (now (item .entry)))) levels ⌝ }
 {
     match kind {
         Kind::Fixed(c) => {
@@ -258,8 +258,8 @@ pub fn own_text(kind: Kind, h: usize, cs: [u8; 12], item: &[u8], levels: usize) 
 }
 
 // The same of a binary, where every sextet is in the alphabet.
-pub fn own_binary(kind: Kind, h: usize, cs: [u8; 12], levels: usize) -> Verdict
-    ensures { λ r. ⌜ r ≡ ownBy kind h cs Verdict.Accepted levels ⌝ }
+pub fn own_binary(kind: Kind, h: usize, n: usize, cs: [u8; 12], levels: usize) -> Verdict
+    ensures { λ r. ⌜ r ≡ ownBy kind h n cs Verdict.Accepted levels ⌝ }
 {
     match kind {
         Kind::Fixed(c) => fixed_checks(c, cs),

@@ -8,7 +8,9 @@ use lib.Seq.{length-take-le}
 use Rattle.base.specs.Lists.{map-take, map-drop}
 use Rattle.base.specs.Each.{each, length-each, each-take, each-drop, each-front-part}
 use Rattle.format.specs.Alphabet.{sextetOf}
-use Rattle.format.specs.Units.{Domain, text, binary, textSextets, binarySextets, sextetsOf}
+use Rattle.format.specs.declared.Form.{Form}
+use Rattle.format.specs.declared.Form.the-variants.{Text, Binary}
+use Rattle.format.specs.Units.{Domain, domain, text, binary, textSextets, binarySextets, sextetsOf}
 use Rattle.laws.specs.Units.{sextets-size}
 
 -- as many units of sextets as of elements, and the sextets of whole units are theirs wherever they stand
@@ -66,3 +68,9 @@ plain = record { unit = 4; limit = 0; sextets = λ s. s }
 
 pub plain-reader : Reader plain
 plain-reader = record { pos = omega arith; units = λ s. refl; taken = λ s k h. refl; dropped = λ s k h. refl }
+
+-- ---- either form
+
+pub reader : (f : Form) → Reader (domain f)
+reader Text = text-reader
+reader Binary = binary-reader

@@ -35,6 +35,11 @@ unfolding shift andThen
 shift-then o Accepted w = refl
 shift-then o (Refused n p) w = refl
 
+pub shift-accepted : (o : ℕ) (v : Verdict) → shift o v ≡ Accepted → v ≡ Accepted
+unfolding shift
+shift-accepted o Accepted e = refl
+shift-accepted o (Refused m p) e = let z : _≡_ {A = ℕ} 0 1 = cc in absurd (omega arith)
+
 pub then-accepts : (v : Verdict) → andThen v Accepted ≡ v
 unfolding andThen
 then-accepts Accepted = refl
@@ -168,3 +173,23 @@ level-item s l first at stop k h n long le e =
       o,
       part-drop s at n stop,
     )
+
+-- ---- items accepted whole
+
+-- the item from a unit on ends in front of stop, has r units and is accepted, where l groups may be entered
+pub record Taken (s : List ℕ) (l : ℕ) (first : Bool) (at stop r : ℕ) : Type 0 where
+  pub kind : Kind
+  pub head : ℕ
+  pub framed : frameNext first (part s at stop) ≡ Item kind head r
+  pub judged : judgeKind kind head (part s at (at + r)) (group l) ≡ Accepted
+
+module _ (s : List ℕ) (l : ℕ) (first : Bool) (at stop r : ℕ) (long : 4 * stop ≤ length s) (le : at ≤ stop) (t : Taken s l first at stop r) where
+  pub taken-sizes : (0 < r) × (at + r ≤ stop)
+  taken-sizes =
+      let b = item-sizes (part s at stop) (t .kind) (t .head) r (any-item first (part s at stop) (t .kind) (t .head) r (t .framed)) in
+      (omega (arith, b .0, b .1), omega (arith, b .2, part-length s at stop long))
+
+  -- it leaves the rest
+  pub taken-level : level s l first at stop ≡ level s l false (at + r) stop
+  unfolding andThen shift
+  taken-level = level-item s l first at stop (t .kind) (t .head) r long le (t .framed) ∙ rw (t .judged)

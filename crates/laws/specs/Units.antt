@@ -1,9 +1,10 @@
 -- A unit there and back. Both ways are one law, there-and-back of base, at 64 ^ 4 = 256 ^ 3. Assumes nothing.
-use Prim.Native.Nat.{ℕ, _<_}
+use Prim.Native.Nat.{ℕ, _+_, _<_, _≤_}
 use mathlib.Core.Path.{_≡_, refl, ap, _∙_}
 use mathlib.Core.List.{List, [], _∷_, map}
 use lib.Dec.{lit<}
-use lib.ListN.{length, getD, length-map}
+use lib.ListN.{length, getD, take, drop, length-map}
+use Rattle.base.specs.Each.{take4}
 use Rattle.base.specs.Lists.{getD-table}
 use Rattle.base.specs.Digits.{Below, none, more, digitsOf, numberOf, length-digits, digits-below, there-and-back, map-back}
 use Rattle.format.specs.Alphabet.{sextetOf, charOf}
@@ -80,6 +81,12 @@ map-below f g b e (x ∷ l) (more p r) = rw (e x p, map-below f g b e l r)
 pub triplet-by : (q : List ℕ) → Below 256 q → tripletBy sextetTable q ≡ tripletOf q
 unfolding tripletBy tripletOf sextetTable
 triplet-by q h = ap bytesOf (map-below (λ c. getD sextetTable c 0) sextetOf 256 (λ c p. getD-table sextetOf 256 c p) q h)
+
+-- four bytes of a stream, read by the table
+pub read-triplet : (values s : List ℕ) (at : ℕ) → values ≡ sextetTable → at + 4 ≤ length s → ((i : ℕ) → getD s i 0 < 256) → (r : List ℕ)
+    → r ≡ tripletBy values (getD s at 0 ∷ getD s (at + 1) 0 ∷ getD s (at + 2) 0 ∷ getD s (at + 3) 0 ∷ []) → r ≡ tripletOf (take 4 (drop at s))
+read-triplet values s at e h f r p =
+    rw (take4 s at h) (rw e at p ∙ triplet-by _ (more (f at) (more (f (at + 1)) (more (f (at + 2)) (more (f (at + 3)) none)))))
 
 pub quadlet-by : (t : List ℕ) → quadletBy characterTable t ≡ quadletOf t
 unfolding quadletBy quadletOf characterTable

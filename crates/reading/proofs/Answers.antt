@@ -1,15 +1,14 @@
 -- The answers of the reading calls, case by case, and what an accepted read says of the item. Assumes nothing.
 use mathlib.Core.Path.{_≡_, refl, sym, ap, _∙_, subst}
 use mathlib.Core.Bool.{Bool, true, false}
-use mathlib.Core.List.{List, [], _∷_, _++_, map}
+use mathlib.Core.List.{List, map}
 use mathlib.Core.Logic.{⊎-elim}
-use Prim.Native.Nat.{ℕ, zero, suc, _+_, _-_, _*_, _/_, _%_, _<_, _≤_}
+use Prim.Native.Nat.{ℕ, _+_, _*_, _/_, _%_, _<_, _≤_}
 use native.Mathlib.Omega.{arith}
-use lib.Dec.{ltb, eqb}
-use lib.ListN.{length, getD, take, drop, replicate, length-drop, length-take, length-map, drop-of-length-le}
+use lib.Dec.{eqb}
+use lib.ListN.{length, take, drop, length-drop, drop-of-length-le}
 use lib.Seq.{length-take-le, getD-take, getD-drop, ext-getD}
 use borrow.Author.Tests.{lt-ltb, le-ltb, ltb-true, eqb-true, eqb-false}
-use Rattle.base.specs.Pick.{pick, pick-by}
 use Rattle.base.specs.Cases.{whether, lt-or-ge}
 use Rattle.base.specs.Each.{each}
 use Rattle.format.specs.declared.CodeRow.{CodeRow}
@@ -20,26 +19,24 @@ use Rattle.format.specs.declared.Framed.the-variants.{Item, Unframed}
 use Rattle.format.specs.declared.Verdict.{Verdict}
 use Rattle.format.specs.declared.Verdict.the-variants.{Accepted, Refused}
 use Rattle.format.specs.declared.Primitive.{Primitive}
-use Rattle.format.specs.declared.BinaryFound.{BinaryFound}
 use Rattle.format.specs.declared.BinaryFound.the-variants as B
 use Rattle.format.specs.declared.BinaryRead.{BinaryRead}
 use Rattle.format.specs.Alphabet.{charOf}
-use Rattle.format.specs.Units.{textSextets, binarySextets}
-use Rattle.format.specs.Offsets.{binaryOffset}
+use Rattle.format.specs.Units.{binarySextets}
 use Rattle.format.specs.Registry.{opening, prepadOf}
 use Rattle.format.specs.Framing.{frameWith, frame, sextet}
 use Rattle.format.specs.Judging.{andThen, unless, behind, hasLead, judgeKind, ownCheck}
 use Rattle.format.specs.Values.{rawStart, tagOf}
-use Rattle.format.specs.Reading.{Reading, isPrimitive, primitiveOf, judged, readFramed, reading, from, placeFrom, padded, noTag}
-use Rattle.format.specs.Reading.{binaryAnswer, readBinary, partAt}
+use Rattle.format.specs.Reading.{Reading, isPrimitive, primitiveOf, judged, readFramed, reading, from, placeFrom, padded}
+use Rattle.format.specs.Reading.{binaryAnswer, readBinary}
 use Rattle.format.specs.Reading.Reading.{refused, found}
 use Rattle.laws.specs.Framing.{Lawful, Good, Shaped, frame-good}
-use Rattle.laws.specs.Domains.{binary-reader}
 use Rattle.laws.specs.Values.{Led, raw-inside}
 use Rattle.framing.specs.Heads.{headOf}
-use Rattle.framing.proofs.Laws.{head-at, head-length}
+use Rattle.framing.proofs.Laws.{head-at, head-length, binary-units}
 use Rattle.judging.proofs.Laws.{within-head}
-use Rattle.reading.specs.Outcome.{outcome, tagFrom, Taggable, noBinary}
+use Rattle.reading_item.specs.Tags.{Taggable}
+use Rattle.reading.specs.Outcome.{outcome, noBinary}
 
 -- ---- what reading found
 
@@ -121,20 +118,6 @@ taggable-of Genus h n s = tt
 pub taggable : (s : List ℕ) (k : Kind) (h n : ℕ) → Accepts s k h n → Taggable k
 taggable s k h n a = taggable-of k h n (accepts-lawful s k h n a .shape)
 
-pub tag-padded : (cs : List ℕ) (c : CodeRow) (start : ℕ) → length cs ≡ 12 → Taggable (Fixed c) → (c .tag ≡ 0 → ⊥) → start ≡ c .size - c .tag
-    → tagFrom cs start (c .tag) ≡ padded (tagOf (Fixed c) cs)
-unfolding tagFrom padded tagOf
-tag-padded cs c start l f t e =
-    let g = f t in
-    let z : start ≡ c .chars + prepadOf c = omega (arith, g .0) in
-    let m : length (map charOf (take (c .tag) (drop start cs))) ≡ c .tag =
-    length-map (take (c .tag) (drop start cs)) charOf ∙ length-take-le (c .tag) (drop start cs) (omega (arith, length-drop start cs, g .0, g .1)) in
-    rw (← z, m)
-
-pub no-tag-row : (cs : List ℕ) (c : CodeRow) → c .tag ≡ 0 → 0 ∷ 0 ∷ 0 ∷ 0 ∷ 0 ∷ 0 ∷ 0 ∷ 0 ∷ 0 ∷ 0 ∷ 0 ∷ [] ≡ padded (tagOf (Fixed c) cs)
-unfolding padded tagOf
-no-tag-row cs c e = rw e
-
 tag-there : (s : List ℕ) (start m : ℕ) → start + m ≤ 12 → start + m ≤ length s → take m (drop start (headOf s)) ≡ take m (drop start s)
 tag-there s start m a b =
     let l = length-take-le m (drop start (headOf s)) (omega (arith, length-drop start (headOf s), head-length s)) in
@@ -158,11 +141,33 @@ tag-head (Group l) h n s shape r = refl
 tag-head Genus h n s shape r = refl
 
 -- the tag characters of the item, by the first sextets of the part
-pub tag-own : (s cs own : List ℕ) (k : Kind) (h n : ℕ) → Accepts s k h n → cs ≡ headOf s → own ≡ headOf (take (4 * n) cs)
+tag-own : (s cs own : List ℕ) (k : Kind) (h n : ℕ) → Accepts s k h n → cs ≡ headOf s → own ≡ headOf (take (4 * n) cs)
     → padded (tagOf k own) ≡ padded (tagOf k (take (4 * n) s))
 tag-own s cs own k h n a e p =
     let g = accepts-lawful s k h n a in
     rw (p, e, within-head s n) (ap padded (tag-head k h n (take (4 * n) s) (g .shape) (omega (arith, g .room, length-take-le (4 * n) s (omega (arith, g .room))))))
+
+-- ---- what is told of the item that a part begins with
+
+pub record Inside (s : List ℕ) (k : Kind) (h n : ℕ) : Type 0 where
+  pub few : h ≤ 2
+  pub room : n ≤ length s / 4
+  pub tags : Taggable k
+  pub start : rawStart k h ≤ 3 * n
+
+pub inside : (s : List ℕ) (k : Kind) (h n : ℕ) → outcome (reading s) ≡ Item k h n → Inside s k h n
+inside s k h n e =
+    let a = accepts s k h n (is-found (reading s) k h n e) in
+    let g = accepts-lawful s k h n a in
+    record { few = g .few; room = g .room; tags = taggable s k h n a; start = starts-inside s k h n a }
+
+module _ (s : List ℕ) (k : Kind) (h n : ℕ) (e : outcome (reading s) ≡ Item k h n) where
+  pub told-primitive : length s / 4 ≤ 1048576 → (p : Primitive) → (h ≤ 2 → n ≤ 1048576 → p ≡ primitiveOf k h n) → p ≡ primitiveOf k h n
+  told-primitive l p f = let i = inside s k h n e in f (i .few) (omega (arith, i .room))
+
+  pub told-tag : (cs own t : List ℕ) → cs ≡ headOf s → own ≡ headOf (take (4 * n) cs) → (Taggable k → t ≡ padded (tagOf k own))
+      → t ≡ padded (tagOf k (take (4 * n) s))
+  told-tag cs own t a b f = f (inside s k h n e .tags) ∙ tag-own s cs own k h n (accepts s k h n (is-found (reading s) k h n e)) a b
 
 -- ---- binary
 
@@ -184,24 +189,17 @@ module _ (s : List ℕ) (at : ℕ) where
     binary-refused m p e = rw (le-ltb 3145728 (length s) l, is-refused (reading (binarySextets (drop at s))) m p e)
 
     pub binary-found : (k : Kind) (h n : ℕ) → outcome (reading (binarySextets (drop at s))) ≡ Item k h n → (r : BinaryRead)
-        → r ≡ record { found = B.Found (primitiveOf k h n); tag = padded (tagOf k (take (4 * n) (binarySextets (drop at s)))) } → r ≡ readBinary s at
+        → r ≡ binaryAnswer 0 (found k h n) (binarySextets (drop at s)) → r ≡ readBinary s at
     unfolding readBinary from binaryAnswer
     binary-found k h n e r q = rw (le-ltb 3145728 (length s) l, is-found (reading (binarySextets (drop at s))) k h n e) q
 
-pub record Inside (s : List ℕ) (k : Kind) (h n : ℕ) : Type 0 where
-  pub few : h ≤ 2
-  pub room : n ≤ length s / 4
-  pub tags : Taggable k
-  pub start : rawStart k h ≤ 3 * n
-
-pub inside : (s : List ℕ) (k : Kind) (h n : ℕ) → outcome (reading s) ≡ Item k h n → Inside s k h n
-inside s k h n e =
-    let a = accepts s k h n (is-found (reading s) k h n e) in
-    let g = accepts-lawful s k h n a in
-    record { few = g .few; room = g .room; tags = taggable s k h n a; start = starts-inside s k h n a }
-
-pub part-units : (s : List ℕ) (at : ℕ) → length (binarySextets (drop at s)) / 4 ≡ (length s - at) / 3
-part-units s at = binary-reader .units (drop at s) ∙ ap (λ (n : ℕ). n / 3) (length-drop at s)
+pub binary-item : (part : List ℕ) (k : Kind) (h n : ℕ) → outcome (reading (binarySextets part)) ≡ Item k h n → length part ≤ 3145728
+    → (p : Primitive) (cs own t : List ℕ) → (h ≤ 2 → n ≤ 1048576 → p ≡ primitiveOf k h n) → cs ≡ headOf (binarySextets part) → own ≡ headOf (take (4 * n) cs)
+    → (Taggable k → t ≡ padded (tagOf k own)) → record { found = B.Found p; tag = t } ≡ binaryAnswer 0 (found k h n) (binarySextets part)
+unfolding binaryAnswer
+binary-item part k h n e l p cs own t f a b g =
+    let s = binarySextets part in
+    rw (told-primitive s k h n e (omega (arith, binary-units part)) p f, told-tag s k h n e cs own t a b g)
 
 out-found : (r : Reading) (k : Kind) (h n : ℕ) → r ≡ found k h n → outcome r ≡ Item k h n
 unfolding outcome
@@ -214,7 +212,7 @@ found-in s at (refused m q) p e f l = let z : _≡_ {A = ℕ} 0 1 = cc in absurd
 found-in s at (found k h n) p e f l =
     let i = inside (binarySextets (drop at s)) k h n (out-found _ k h n e) in
     let q : p ≡ primitiveOf k h n = cc in
-    rw q (omega (arith, i .room, i .start, part-units s at))
+    rw q (omega (arith, i .room, i .start, binary-units (drop at s), length-drop at s))
 
 past-none : (s : List ℕ) (at : ℕ) (p : Primitive) → length s ≤ at → readBinary s at .found ≡ B.Found p → ⊥
 past-none s at p l e =

@@ -1,30 +1,26 @@
 -- Where a refusal's place can lie, and that an accepted text is in the alphabet. Assumes nothing.
-use mathlib.Core.Path.{_≡_, refl, sym, ap, _∙_, subst}
-use mathlib.Core.Bool.{Bool, true, false}
+use mathlib.Core.Path.{_≡_, refl, subst}
+use mathlib.Core.Bool.{true}
 use mathlib.Core.List.{List, [], _∷_}
 use mathlib.Core.Logic.{⊎-elim}
-use Prim.Native.Nat.{ℕ, zero, suc, _+_, _-_, _*_, _/_, _<_, _≤_}
+use Prim.Native.Nat.{ℕ, _+_, _-_, _*_, _/_, _<_, _≤_}
 use native.Mathlib.Omega.{arith}
-use lib.Dec.{ltb}
-use lib.ListN.{length, getD, take, drop, length-drop, length-take}
+use lib.ListN.{length, take, drop, length-drop, length-take}
 use lib.Seq.{getD-drop, getD-take}
-use borrow.Author.Tests.{lt-ltb, le-ltb, ltb-true}
-use Rattle.base.specs.Pick.{pick, pick-by}
+use borrow.Author.Tests.{lt-ltb, le-ltb}
 use Rattle.base.specs.Cases.{lt-or-ge, whether}
 use Rattle.base.specs.Digits.{Below, none, more, below-at, below-all}
 use Rattle.format.specs.declared.Kind.{Kind}
 use Rattle.format.specs.declared.Kind.the-variants.{Fixed, Variable, Group, Genus}
-use Rattle.format.specs.declared.Opening.{Opening}
-use Rattle.format.specs.declared.Opening.the-variants.{Unknown, Short, LargeVariable, LargeGroup, Version}
 use Rattle.format.specs.declared.Framed.{Framed}
 use Rattle.format.specs.declared.Framed.the-variants.{Item, Unframed}
 use Rattle.format.specs.declared.Verdict.{Verdict}
 use Rattle.format.specs.declared.Verdict.the-variants.{Accepted, Refused}
 use Rattle.format.specs.Registry.{opening}
-use Rattle.format.specs.Framing.{fit, known, second, headed, frameWith, frame, sextet}
-use Rattle.format.specs.Judging.{shift, andThen, unless, scan, behind, judgeKind, ownCheck}
-use Rattle.format.specs.Reading.{Reading, isPrimitive, judged, readFramed, reading}
-use Rattle.format.specs.Reading.Reading.{refused, found}
+use Rattle.format.specs.Framing.{frameWith, frame, sextet}
+use Rattle.format.specs.Judging.{shift, andThen, scan, behind, judgeKind, ownCheck}
+use Rattle.format.specs.Reading.{isPrimitive, judged, readFramed, reading}
+use Rattle.format.specs.Reading.Reading.{refused}
 use Rattle.laws.specs.Framing.{Lawful, Good, frame-good}
 use Rattle.judging.proofs.Bounds.{Head, frame-head, Near, own-near}
 

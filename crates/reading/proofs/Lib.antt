@@ -1,5 +1,4 @@
 pub mod Laws
 pub mod Bounds
 pub mod Answers
-pub mod Copying
 pub mod Texts

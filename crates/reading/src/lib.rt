@@ -2,170 +2,19 @@
 use format::BinaryFound;
 use format::BinaryOffset;
 use format::BinaryRead;
-use format::Code;
-use format::CodeRow;
 use format::Framed;
 use format::Kind;
-use format::Primitive;
 use format::TextFound;
 use format::TextOffset;
 use format::TextRead;
-use format::ToBinary;
 ghost use mathlib.Core.Path.{_≡_};
-ghost use Rattle.format.specs.declared.Kind.the-variants as Kind;
-ghost use mathlib.Core.List.{_++_, map};
-ghost use Prim.Native.Nat.{_+_, _-_, _*_, _<_, _≤_, _/_, _%_};
-ghost use lib.ListN.{length, take, drop};
-ghost use Rattle.base.specs.Digits.{Below};
-ghost use Rattle.format.specs.Alphabet.{charOf};
-ghost use Rattle.format.specs.Units.{tripletOf, textSextets, binarySextets};
-ghost use Rattle.format.specs.Conversion.{toBinary};
-ghost use Rattle.format.specs.Registry.{zeroBitsOf, prepadOf};
-ghost use Rattle.format.specs.Values.{rawStart, tagOf};
-ghost use Rattle.format.specs.Reading.{codeOf, isPrimitive, tagsOf, primitiveOf, reading, padded, readText, rawLeft, readBinary, partAt};
-ghost use Rattle.reading.specs.Outcome.{outcome, tagFrom, Taggable, noBinary, noText, Fit, unitsInto};
-
-fn wide(x: u8) -> usize
-    ensures { λ r. ⌜ (r ≡ x) × (r < 256) ⌝ }
-{
-    x as usize
-}
-
-// ---- a framed primitive in a caller's words
-
-fn is_primitive(kind: Kind) -> bool
-    ensures { λ r. ⌜ r ≡ isPrimitive kind ⌝ }
-{
-    match kind {
-        Kind::Fixed(_) => true,
-        Kind::Variable {
-            letter: _,
-            lead: _,
-            count: _,
-        } => true,
-        Kind::Group { letter: _ } => false,
-        Kind::Genus => false,
-    }
-}
-
-fn code_of(kind: Kind, h: usize) -> Code
-    ensures { λ r. ⌜ r ≡ codeOf kind h ⌝ }
-{
-    match kind {
-        Kind::Fixed(c) => {
-            let letter = c.letter;
-            Code::Fixed {
-                chars: c.chars,
-                letter: alphabet::character(letter),
-            }
-        }
-        Kind::Variable {
-            letter,
-            lead: _,
-            count: _,
-        } => {
-            let t = alphabet::character(letter);
-            if h == 1 {
-                Code::Small { letter: t }
-            } else {
-                Code::Large { letter: t }
-            }
-        }
-        Kind::Group { letter: _ } => Code::Fixed {
-            chars: 0,
-            letter: 0,
-        },
-        Kind::Genus => Code::Fixed {
-            chars: 0,
-            letter: 0,
-        },
-    }
-}
-
-fn tags_of(kind: Kind) -> usize
-    ensures { λ r. ⌜ r ≡ tagsOf kind ⌝ }
-{
-    match kind {
-        Kind::Fixed(c) => {
-            let tag = c.tag;
-            wide(tag)
-        }
-        Kind::Variable {
-            letter: _,
-            lead: _,
-            count: _,
-        } => 0,
-        Kind::Group { letter: _ } => 0,
-        Kind::Genus => 0,
-    }
-}
-
-pub fn fixed_start(c: CodeRow) -> usize
-    ensures { λ r. ⌜ (r ≡ rawStart (Kind.Fixed c) 1) × (r < 1000) ⌝ }
-{
-    let chars = c.chars;
-    let pad = c.pad;
-    let lead = c.lead;
-    let size = c.size;
-    if c.tag == 0 {
-        (6 * wide(chars) + (2 * wide(pad) + 8 * wide(lead))) / 8
-    } else {
-        wide(size) / 4 * 3
-    }
-}
-
-fn raw_start(kind: Kind, h: usize) -> usize
-    requires { ⌜ h ≤ 2 ⌝ }
-    ensures { λ r. ⌜ (r ≡ rawStart kind h) × (r < 1000) ⌝ }
-{
-    match kind {
-        Kind::Fixed(c) => fixed_start(c),
-        Kind::Variable {
-            letter: _,
-            lead,
-            count: _,
-        } => 3 * h + wide(lead),
-        Kind::Group { letter: _ } => 3 * h,
-        Kind::Genus => 3 * h,
-    }
-}
-
-fn left(total: usize, start: usize) -> usize
-    ensures { λ r. ⌜ r ≡ total - start ⌝ }
-{
-    if start <= total { total - start } else { 0 }
-}
-
-fn primitive_of(kind: Kind, h: usize, n: usize) -> Primitive
-    requires { ⌜ (h ≤ 2) × (n ≤ 1048576) ⌝ }
-    ensures { λ r. ⌜ r ≡ primitiveOf kind h n ⌝ }
-{
-    let start = raw_start(kind, h);
-    let raw = left(3 * n, start);
-    let code = code_of(kind, h);
-    let tags = tags_of(kind);
-    Primitive {
-        code,
-        size: n,
-        start,
-        raw,
-        tags,
-    }
-}
-
-// The tag characters from a place of the first sextets on, and then zeros.
-fn tag_from(cs: [u8; 12], start: usize, count: usize) -> [u8; 11]
-    requires { ⌜ (start + count ≤ 12) × (count ≤ 11) ⌝ }
-    ensures { λ r. ⌜ r ≡ tagFrom cs start count ⌝ }
-{
-    let mut tag = [0u8; 11];
-    let mut i = 0;
-    while i < count {
-        tag[i] = alphabet::character(cs[start + i]);
-        i += 1;
-    }
-    tag
-}
+ghost use Prim.Native.Nat.{_≤_};
+ghost use lib.ListN.{length};
+ghost use Rattle.format.specs.declared.Framed.the-variants.{Item};
+ghost use Rattle.format.specs.Units.{textSextets, binarySextets};
+ghost use Rattle.format.specs.Reading.{reading, textAnswer, readText, rawLeft, binaryAnswer, readBinary, partAt};
+ghost use Rattle.format.specs.Reading.Reading.{found};
+ghost use Rattle.reading.specs.Outcome.{outcome, noBinary, noText};
 
 // ---- framing, 14, judging: one for each form, with the place in sextets
 
@@ -180,7 +29,7 @@ fn read_text_part(part: &[u8]) -> Framed
             place: _,
         } => framed,
         Framed::Item { kind, head, size } => {
-            if !is_primitive(kind) {
+            if !reading_item::is_primitive(kind) {
                 return Framed::Unframed {
                     number: 14,
                     place: 0,
@@ -188,7 +37,7 @@ fn read_text_part(part: &[u8]) -> Framed
             }
             let own = judging::within(cs, size);
             let end = 4 * size;
-            let v = judging::own_text(kind, head, own, &part[..end], 0);
+            let v = judging::own_text(kind, head, size, own, &part[..end], 0);
             judging::told(framed, v)
         }
     }
@@ -205,43 +54,20 @@ fn read_binary_part(part: &[u8]) -> Framed
             place: _,
         } => framed,
         Framed::Item { kind, head, size } => {
-            if !is_primitive(kind) {
+            if !reading_item::is_primitive(kind) {
                 return Framed::Unframed {
                     number: 14,
                     place: 0,
                 };
             }
             let own = judging::within(cs, size);
-            let v = judging::own_binary(kind, head, own, 0);
+            let v = judging::own_binary(kind, head, size, own, 0);
             judging::told(framed, v)
         }
     }
 }
 
-// ---- what is answered
-
-fn tag_of(kind: Kind, cs: [u8; 12]) -> [u8; 11]
-    requires { ⌜ Taggable kind ⌝ }
-    ensures { λ r. ⌜ r ≡ padded (tagOf kind cs) ⌝ }
-{
-    match kind {
-        Kind::Fixed(c) => {
-            let tag = c.tag;
-            let size = c.size;
-            if tag == 0 {
-                return [0; 11];
-            }
-            tag_from(cs, wide(size) - wide(tag), wide(tag))
-        }
-        Kind::Variable {
-            letter: _,
-            lead: _,
-            count: _,
-        } => [0; 11],
-        Kind::Group { letter: _ } => [0; 11],
-        Kind::Genus => [0; 11],
-    }
-}
+// ---- binary: the raw value is told by its place
 
 fn no_binary(number: u8, place: usize) -> BinaryRead
     ensures { λ r. ⌜ r ≡ noBinary number place ⌝ }
@@ -249,6 +75,21 @@ fn no_binary(number: u8, place: usize) -> BinaryRead
     BinaryRead {
         found: BinaryFound::Refused(number, BinaryOffset(place)),
         tag: [0; 11],
+    }
+}
+
+// The item that a part begins with.
+fn binary_found(part: &[u8], kind: Kind, head: usize, size: usize) -> BinaryRead
+    requires { ⌜ (outcome (reading (binarySextets (now part))) ≡ Item kind head size) × (length (now part) ≤ 3145728) ⌝ }
+    ensures { λ r. ⌜ r ≡ binaryAnswer 0 (found kind head size) (binarySextets (now (part .entry))) ⌝ }
+{
+    let p = reading_item::primitive_of(kind, head, size);
+    let cs = framing::binary_head(part);
+    let own = judging::within(cs, size);
+    let tag = reading_item::tag_of(kind, own);
+    BinaryRead {
+        found: BinaryFound::Found(p),
+        tag,
     }
 }
 
@@ -266,16 +107,7 @@ pub fn read_binary(s: &[u8], at: BinaryOffset) -> BinaryRead
     let part = &s[from..];
     match read_binary_part(part) {
         Framed::Unframed { number, place } => no_binary(number, from + (place / 4 * 3 + place % 4)),
-        Framed::Item { kind, head, size } => {
-            let cs = framing::binary_head(part);
-            let own = judging::within(cs, size);
-            let p = primitive_of(kind, head, size);
-            let tag = tag_of(kind, own);
-            BinaryRead {
-                found: BinaryFound::Found(p),
-                tag,
-            }
-        }
+        Framed::Item { kind, head, size } => binary_found(part, kind, head, size),
     }
 }
 
@@ -299,55 +131,33 @@ pub fn raw_binary(s: &[u8], at: BinaryOffset) -> &[u8]
 
 // ---- text: the raw value is copied out
 
-// The bytes of a text's units from a character on, into a buffer from a place on. All of it is known to be fit.
-fn copy_units(item: &[u8], from: usize, out: &mut [u8], to: usize)
-    requires { ⌜ Fit (now item) ⌝ }
-    requires { ⌜ (from % 4 ≡ 0) × (from ≤ length (now item)) × (to + (length (now item) - from) / 4 * 3 ≤ length (now out)) ⌝ }
-    ensures { λ _. ⌜ now (out .exit) ≡ unitsInto (now (item .entry)) from (now (out .entry)) to ⌝ }
-{
-    convert::text_to_binary(&item[from..], &mut out[to..]);
-}
-
-fn triplet_at(item: &[u8], at: usize) -> [u8; 3]
-    requires { ⌜ at + 4 ≤ length (now item) ⌝ }
-    ensures { λ r. ⌜ r ≡ tripletOf (take 4 (drop at (now (item .entry)))) ⌝ }
-{
-    let values = alphabet::sextets();
-    units::triplet(
-        &values,
-        [item[at], item[at + 1], item[at + 2], item[at + 3]],
-    )
-}
-
-// The bytes of an item from one of them on, which may stand within a unit.
-fn copy_raw(item: &[u8], start: usize, out: &mut [u8])
-    requires { ⌜ Fit (now item) ⌝ }
-    requires { ⌜ (start ≤ length (now item) / 4 * 3) × (length (now item) / 4 * 3 - start ≤ length (now out)) ⌝ }
-    ensures { λ _. ⌜ now (out .exit) ≡ drop start (toBinary (now (item .entry))) ++ drop (length (now (item .entry)) / 4 * 3 - start) (now (out .entry)) ⌝ }
-{
-    let unit = start / 3 * 4;
-    let skip = start % 3;
-    if skip == 0 {
-        copy_units(item, unit, out, 0);
-        return;
-    }
-    let t = triplet_at(item, unit);
-    if skip == 1 {
-        out[0] = t[1];
-        out[1] = t[2];
-        copy_units(item, unit + 4, out, 2);
-        return;
-    }
-    out[0] = t[2];
-    copy_units(item, unit + 4, out, 1);
-}
-
 fn no_text(number: u8, place: usize) -> TextRead
     ensures { λ r. ⌜ r ≡ noText number place ⌝ }
 {
     TextRead {
         found: TextFound::Refused(number, TextOffset(place)),
         tag: [0; 11],
+    }
+}
+
+// The item that a part begins with, where there is room for its raw value: 3.
+fn text_found(part: &[u8], kind: Kind, head: usize, size: usize, out: &mut [u8]) -> TextRead
+    requires { ⌜ (outcome (reading (textSextets (now part))) ≡ Item kind head size) × (length (now part) ≤ 4194304) ⌝ }
+    ensures { λ r. ⌜ r ≡ textAnswer 0 (found kind head size) (textSextets (now (part .entry))) (length (now (out .entry))) ⌝ }
+    ensures { λ r. ⌜ now (out .exit) ≡ rawLeft (r .found) (now (part .entry)) 0 (now (out .entry)) ⌝ }
+{
+    let p = reading_item::primitive_of(kind, head, size);
+    if out.len() < p.raw {
+        return no_text(3, 0);
+    }
+    let cs = framing::text_head(part);
+    let own = judging::within(cs, size);
+    let tag = reading_item::tag_of(kind, own);
+    let end = 4 * size;
+    reading_raw::copy_raw(&part[..end], p.start, out);
+    TextRead {
+        found: TextFound::Found(p),
+        tag,
     }
 }
 
@@ -366,20 +176,6 @@ pub fn read_text(s: &[u8], at: TextOffset, out: &mut [u8]) -> TextRead
     let part = &s[from..];
     match read_text_part(part) {
         Framed::Unframed { number, place } => no_text(number, from + place),
-        Framed::Item { kind, head, size } => {
-            let p = primitive_of(kind, head, size);
-            if out.len() < p.raw {
-                return no_text(3, 0);
-            }
-            let cs = framing::text_head(part);
-            let own = judging::within(cs, size);
-            let tag = tag_of(kind, own);
-            let end = 4 * size;
-            copy_raw(&part[..end], p.start, out);
-            TextRead {
-                found: TextFound::Found(p),
-                tag,
-            }
-        }
+        Framed::Item { kind, head, size } => text_found(part, kind, head, size, out),
     }
 }

@@ -27,7 +27,7 @@ use Rattle.format.specs.Framing.{sextet, fit, headed, frameWith, ruled, frame, 
 use Rattle.format.specs.Judging.{shift, andThen, unless, scan, behind, zeroBits, prepadRight, judgeKind, ownCheck, inTurn, contents, group, judge}
 use Rattle.laws.specs.Framing.{Known, known-next}
 use Rattle.laws.specs.Scan.{scan-below}
-use Rattle.laws.specs.Levels.{then-accepts, part, part-length, part-drop, part-take, frameNext, shift-shift, level, level-end, level-item}
+use Rattle.laws.specs.Levels.{shift-accepted, then-accepts, part, part-length, part-drop, part-take, frameNext, shift-shift, level, level-end, level-item, Taken, taken-level}
 use Rattle.runs.specs.Plain.{plainTable, sizedOf, plainOf, groupOf, unitBy, sizedAt, plainAt, groupAt, letterAt, nested}
 use Rattle.runs.specs.Opened.{Opens, Plain, plain-opens, sized-opens, group-opens}
 
@@ -177,17 +177,38 @@ module _ (s : List ℕ) (l : ℕ) (stop : ℕ) (long : 4 * stop ≤ length s) wh
   in-part : (at n : ℕ) → at + n ≤ stop → n ≤ length (part s at stop) / 4
   in-part at n h = omega (arith, part-length s at stop long)
 
-  -- a plain primitive leaves the rest
-  pub plain-level : (first : Bool) (at k to : ℕ) → plainAt plainTable s at ≡ k → 0 < k → at + k ≤ stop → Clear s at to → at + k ≤ to
-      → level s l first at stop ≡ level s l false (at + k) stop
-  unfolding andThen shift
-  plain-level first at k to e p h b r =
+  -- a plain primitive is accepted whole, and leaves the rest
+  pub plain-taken : (first : Bool) (at k to : ℕ) → plainAt plainTable s at ≡ k → 0 < k → at + k ≤ stop → Clear s at to → at + k ≤ to
+      → Taken s l first at stop k
+  plain-taken first at k to e p h b r =
       let x : List ℕ = part s at stop in
       let q = plain-frames x k (part-head s at stop to b (omega arith) (omega arith)) (told-part (plainOf plainTable) s at stop k e p (omega arith)) p (in-part at k h) in
       let same : (i : ℕ) → i < 4 → sextet (part s at (at + k)) i ≡ sextet x i =
       λ i j. part-at s at (at + k) i (omega arith) ∙ sym (part-at s at stop i (omega arith)) in
-      level-item s l first at stop (q .plain .told .kind) 1 k long (omega arith) (q .framed first)
-      ∙ rw (q .plain .accepts (part s at (at + k)) (same 1 (omega arith)) (same 2 (omega arith)) (clear-part s at to at (at + k) b (omega arith) r) (group l))
+      record {
+        kind = q .plain .told .kind;
+        head = 1;
+        framed = q .framed first;
+        judged = q .plain .accepts (part s at (at + k)) (same 1 (omega arith)) (same 2 (omega arith)) (clear-part s at to at (at + k) b (omega arith) r) (group l);
+      }
+
+  pub plain-level : (first : Bool) (at k to : ℕ) → plainAt plainTable s at ≡ k → 0 < k → at + k ≤ stop → Clear s at to → at + k ≤ to
+      → level s l first at stop ≡ level s l false (at + k) stop
+  plain-level first at k to e p h b r = taken-level s l first at stop k long (omega arith) (plain-taken first at k to e p h b r)
+
+  -- a small group is accepted whole where its contents are, one level further in
+  pub group-taken : (first : Bool) (at n to : ℕ) → groupAt s at ≡ n → 0 < n → at + n ≤ stop → 0 < l → Clear s at to → at < to
+      → level s (l - 1) (isOverrideable (letterAt s at)) (at + 1) (at + n) ≡ Accepted → Taken s l first at stop n
+  group-taken first at n to e p h d b r v =
+      let x : List ℕ = part s at stop in
+      let q = group-frames x n (part-head s at stop to b (omega arith) r) (told-part groupOf s at stop n e p (omega arith)) p (in-part at n h) in
+      let y : sextet x 1 ≡ letterAt s at = part-at s at stop 1 (omega arith) in
+      record {
+        kind = Group (sextet x 1);
+        head = 1;
+        framed = q .framed first;
+        judged = shift-accepted (4 * at) _ (inside-group s at n l (sextet x 1) d (q .clear) ∙ rw y v);
+      }
 
   -- a small group's contents come first, one level further in
   pub group-level : (first : Bool) (at n to : ℕ) → groupAt s at ≡ n → 0 < n → at + n ≤ stop → 0 < l → Clear s at to → at < to

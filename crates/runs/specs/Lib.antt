@@ -3,3 +3,5 @@ pub mod Opened
 pub mod Levels
 pub mod Tables
 pub mod Runs
+pub mod Units
+pub mod Nesting

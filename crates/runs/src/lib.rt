@@ -1,11 +1,9 @@
-// What a first unit alone decides, read from either form: the size of a primitive of a fixed code or of a small group, whether the
-// primitive is accepted if its characters are known, and which small groups stand one in the other. Nothing here asks whether a
-// character is known: the callers do, once for many items. The tables are lent, since naming a constant copies it.
+// What a first unit alone decides, as four sextets: the size of a primitive of a fixed code or of a small group, and whether the
+// primitive is accepted if its characters are known. Nothing here asks whether a character is known: the callers do, once for many
+// items. The tables are lent, since naming a constant copies it.
 ghost use mathlib.Core.Path.{_≡_};
-ghost use Prim.Native.Nat.{_+_, _-_, _*_, _/_, _≤_, _<_};
-ghost use lib.ListN.{length, getD};
-ghost use Rattle.format.specs.Units.{binarySextets};
-ghost use Rattle.runs.specs.Plain.{plainTable, classTable, rowOf, rowAA, typed, lettered, limited, sizedOf, plainOf, opensBy, sizedAt, plainAt, groupAt, groupBy, marksAt, marksBy, nestedAt, sextetsBy};
+ghost use Prim.Native.Nat.{_+_, _-_, _*_, _<_};
+ghost use Rattle.runs.specs.Plain.{plainTable, classTable, rowOf, rowAA, typed, lettered, limited, sizedOf, plainOf};
 
 const ROWS: [u16; 192] = [
     1035,
@@ -521,7 +519,8 @@ fn row_aa(rows: &[u16; 192], b: u8, c: u8, d: u8) -> usize
     0
 }
 
-fn counted(c: u8, d: u8) -> usize
+// One unit, and as many as two digits say.
+pub fn counted(c: u8, d: u8) -> usize
     ensures { λ r. ⌜ r ≡ 1 + (c * 64 + d) ⌝ }
 {
     1 + (wide(c) * 64 + wide(d))
@@ -544,7 +543,8 @@ fn lettered(b: u8, c: u8, d: u8) -> usize
     if b < 29 { counted(c, d) } else { 0 }
 }
 
-fn sized(rows: &[u16; 192], a: u8, b: u8, c: u8, d: u8) -> usize
+// The size in units of an item whose header is the unit, or 0.
+pub fn sized(rows: &[u16; 192], a: u8, b: u8, c: u8, d: u8) -> usize
     ensures { λ r. ⌜ r ≡ sizedOf (now (rows .entry)) a b c d ⌝ }
 {
     if a < 52 {
@@ -571,7 +571,8 @@ fn limited(row: usize, x: u8) -> usize
     if wide(x) < row / 64 { row % 64 } else { 0 }
 }
 
-fn plain(rows: &[u16; 192], a: u8, b: u8, c: u8, d: u8) -> usize
+// The same of a plain primitive.
+pub fn plain(rows: &[u16; 192], a: u8, b: u8, c: u8, d: u8) -> usize
     ensures { λ r. ⌜ r ≡ plainOf (now (rows .entry)) a b c d ⌝ }
 {
     if a < 52 {
@@ -586,224 +587,9 @@ fn plain(rows: &[u16; 192], a: u8, b: u8, c: u8, d: u8) -> usize
     if a == 56 { typed(b, c, d) } else { 0 }
 }
 
-// ---- a unit of a text
-
-fn value(values: &[u8; 256], s: &[u8], i: usize) -> u8
-    requires { ⌜ i < length (now s) ⌝ }
-    ensures { λ r. ⌜ r ≡ getD (sextetsBy (now (values .entry)) (now (s .entry))) i 0 ⌝ }
-{
-    values[wide(s[i])]
-}
-
-// The size in units of the item whose header is the unit at a position, or 0.
-pub fn sized_text(values: &[u8; 256], rows: &[u16; 192], s: &[u8], at: usize) -> usize
-    ensures { λ r. ⌜ r ≡ sizedAt (now (rows .entry)) (sextetsBy (now (values .entry)) (now (s .entry))) at ⌝ }
-{
-    if s.len() / 4 <= at {
-        return 0;
-    }
-    let i = 4 * at;
-    sized(
-        rows,
-        value(values, s, i),
-        value(values, s, i + 1),
-        value(values, s, i + 2),
-        value(values, s, i + 3),
-    )
-}
-
-// The same of a plain primitive.
-pub fn plain_text(values: &[u8; 256], rows: &[u16; 192], s: &[u8], at: usize) -> usize
-    ensures { λ r. ⌜ r ≡ plainAt (now (rows .entry)) (sextetsBy (now (values .entry)) (now (s .entry))) at ⌝ }
-{
-    if s.len() / 4 <= at {
-        return 0;
-    }
-    let i = 4 * at;
-    plain(
-        rows,
-        value(values, s, i),
-        value(values, s, i + 1),
-        value(values, s, i + 2),
-        value(values, s, i + 3),
-    )
-}
-
-// By the characters themselves, which saves look-ups: 45 is `-`.
-fn group_in_text(values: &[u8; 256], classes: &[u8; 256], s: &[u8], at: usize) -> usize
-    requires { ⌜ at < length (now s) / 4 ⌝ }
-    ensures { λ r. ⌜ r ≡ groupBy (now (values .entry)) (now (classes .entry)) (now (s .entry)) at ⌝ }
-{
-    let i = 4 * at;
-    if s[i] != 45 {
-        return 0;
-    }
-    if 1 < classes[wide(s[i + 1])] {
-        return 0;
-    }
-    1 + (wide(values[wide(s[i + 2])]) * 64 + wide(values[wide(s[i + 3])]))
-}
-
-// The size in units of the small group at a unit whose contents are items, or 0.
-pub fn group_text(values: &[u8; 256], classes: &[u8; 256], s: &[u8], at: usize) -> usize
-    ensures { λ r. ⌜ r ≡ groupBy (now (values .entry)) (now (classes .entry)) (now (s .entry)) at ⌝ }
-{
-    if s.len() / 4 <= at {
-        return 0;
-    }
-    group_in_text(values, classes, s, at)
-}
-
-// Whether 7 is asked of the first item of the small group at a unit.
-pub fn marks_text(classes: &[u8; 256], s: &[u8], at: usize) -> bool
-    ensures { λ r. ⌜ r ≡ marksBy (now (classes .entry)) (now (s .entry)) at ⌝ }
-{
-    if s.len() / 4 <= at {
-        return false;
-    }
-    classes[wide(s[4 * at + 1])] == 1
-}
-
-fn beyond(x: usize, y: usize) -> usize
+// How far a number is beyond another; 0 where it is not.
+pub fn beyond(x: usize, y: usize) -> usize
     ensures { λ r. ⌜ r ≡ x - y ⌝ }
 {
     if y < x { x - y } else { 0 }
-}
-
-// How many small groups, of so many at most, stand one in the other from a unit on, each all that is left up to another unit.
-pub fn nested_text(
-    values: &[u8; 256],
-    classes: &[u8; 256],
-    s: &[u8],
-    at: usize,
-    stop: usize,
-    most: usize,
-) -> usize
-    ensures { λ r. ⌜ r ≡ nestedAt (groupBy (now (values .entry)) (now (classes .entry)) (now (s .entry))) (length (now (s .entry)) / 4) stop most at ⌝ }
-{
-    if s.len() / 4 < stop {
-        return 0;
-    }
-    let all = beyond(stop, at);
-    let low = beyond(all, most);
-    let mut left = all;
-    while low < left {
-        if group_in_text(values, classes, s, stop - left) != left {
-            return all - left;
-        }
-        left = left - 1;
-    }
-    all - left
-}
-
-// ---- a unit of a binary, sextet by sextet or byte by byte
-
-pub fn sized_binary(rows: &[u16; 192], s: &[u8], at: usize) -> usize
-    ensures { λ r. ⌜ r ≡ sizedAt (now (rows .entry)) (binarySextets (now (s .entry))) at ⌝ }
-{
-    if s.len() / 3 <= at {
-        return 0;
-    }
-    let i = 3 * at;
-    let x = s[i];
-    let y = s[i + 1];
-    let z = s[i + 2];
-    sized(
-        rows,
-        x / 4,
-        x % 4 * 16 + y / 16,
-        y % 16 * 4 + z / 64,
-        z % 64,
-    )
-}
-
-pub fn plain_binary(rows: &[u16; 192], s: &[u8], at: usize) -> usize
-    ensures { λ r. ⌜ r ≡ plainAt (now (rows .entry)) (binarySextets (now (s .entry))) at ⌝ }
-{
-    if s.len() / 3 <= at {
-        return 0;
-    }
-    let i = 3 * at;
-    let x = s[i];
-    let y = s[i + 1];
-    let z = s[i + 2];
-    plain(
-        rows,
-        x / 4,
-        x % 4 * 16 + y / 16,
-        y % 16 * 4 + z / 64,
-        z % 64,
-    )
-}
-
-// A group whose contents are items, by its first two sextets.
-fn is_open(a: usize, b: usize) -> bool
-    ensures { λ r. ⌜ r ≡ opensBy a b ⌝ }
-{
-    if a != 62 {
-        return false;
-    }
-    if 28 < b {
-        return false;
-    }
-    if b == 10 {
-        return false;
-    }
-    b != 11
-}
-
-// The count byte by byte, which saves steps.
-fn group_in_binary(s: &[u8], at: usize) -> usize
-    requires { ⌜ at < length (now s) / 3 ⌝ }
-    ensures { λ r. ⌜ r ≡ groupAt (binarySextets (now (s .entry))) at ⌝ }
-{
-    let i = 3 * at;
-    let x = wide(s[i]);
-    let y = wide(s[i + 1]);
-    let z = wide(s[i + 2]);
-    if is_open(x / 4, x % 4 * 16 + y / 16) {
-        1 + (y % 16 * 256 + z)
-    } else {
-        0
-    }
-}
-
-pub fn group_binary(s: &[u8], at: usize) -> usize
-    ensures { λ r. ⌜ r ≡ groupAt (binarySextets (now (s .entry))) at ⌝ }
-{
-    if s.len() / 3 <= at {
-        return 0;
-    }
-    group_in_binary(s, at)
-}
-
-pub fn marks_binary(s: &[u8], at: usize) -> bool
-    ensures { λ r. ⌜ r ≡ marksAt (binarySextets (now (s .entry))) at ⌝ }
-{
-    if s.len() / 3 <= at {
-        return false;
-    }
-    let i = 3 * at;
-    let x = s[i];
-    let y = s[i + 1];
-    x % 4 * 16 + y / 16 < 3
-}
-
-// As in text.
-pub fn nested_binary(s: &[u8], at: usize, stop: usize, most: usize) -> usize
-    ensures { λ r. ⌜ r ≡ nestedAt (groupAt (binarySextets (now (s .entry)))) (length (now (s .entry)) / 3) stop most at ⌝ }
-{
-    if s.len() / 3 < stop {
-        return 0;
-    }
-    let all = beyond(stop, at);
-    let low = beyond(all, most);
-    let mut left = all;
-    while low < left {
-        if group_in_binary(s, stop - left) != left {
-            return all - left;
-        }
-        left = left - 1;
-    }
-    all - left
 }

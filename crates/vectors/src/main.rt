@@ -5,8 +5,10 @@
 // the number (0: accepted), the length or place, and the whole lent buffer in hexadecimal, which held AA before. To read a primitive
 // the input is the offset (2 bytes) and the stream, and the line goes on with the tag places and the six numbers of the item. To write
 // one it is chars, letter and number of tag characters (1 byte each), eleven tag places and the raw value. For a step of the walk it
-// is the nineteen numbers of the state (1 byte each) and the stream; the line has the state and the item's numbers afterwards. A step is
+// is the numbers of the state (1 byte each) and the stream; the line has the state and the item's numbers afterwards. A step is
 // made again through a reader, call 11 for a text and 12 for a binary, and a third line counts the items that are left from there on.
+use exports_values::MARK;
+use exports_values::STATE;
 use libc::STDIN_FILENO;
 use reader::BinaryEnd;
 use reader::TextEnd;
@@ -18,6 +20,7 @@ use walk::Walk;
 ghost use mathlib.Core.Path.{_≡_};
 ghost use Prim.Native.Nat.{_≤_};
 ghost use lib.ListN.{length};
+ghost use Rattle.exports_values.specs.Lent.{stateSize};
 
 fn show(call: u8, number: u8, value: usize, out: &[u8]) {
     recorded::show_answer(call, number, value);
@@ -93,14 +96,14 @@ fn write_from(call: u8, src: &[u8], out: &mut [u8]) {
 
 // ---- a step of the walk
 
-fn show_step(call: u8, number: u8, value: usize, state: [usize; 19], item: [usize; 6]) {
+fn show_step(call: u8, number: u8, value: usize, state: [usize; STATE], item: [usize; 6]) {
     recorded::show_answer(call, number, value);
     recorded::show_numbers(&state);
     recorded::show_numbers(&item);
     recorded::end_line();
 }
 
-fn step(call: u8, stream: &[u8], before: [usize; 19]) {
+fn step(call: u8, stream: &[u8], before: [usize; STATE]) {
     let mut value = 0;
     let mut state = before;
     let mut item: [usize; 6] = [170; 6];
@@ -117,7 +120,7 @@ fn step(call: u8, stream: &[u8], before: [usize; 19]) {
 fn read_step_text(stream: &[u8], before: Walk) {
     let step = reader::step_text(stream, before);
     let found = step.found;
-    let state = exports::state_of(step.next);
+    let state = exports_values::state_of(step.next);
     match found {
         TextItem::Item {
             offset,
@@ -126,7 +129,7 @@ fn read_step_text(stream: &[u8], before: Walk) {
             kind,
             head,
         } => {
-            let item = exports::item_of(offset.0, size.0, depth, kind, head);
+            let item = exports_values::item_of(offset.0, size.0, depth, kind, head);
             show_step(11, 0, 0, state, item);
         }
         TextItem::Refused { number, place } => show_step(11, number, place.0, state, [170; 6]),
@@ -138,7 +141,7 @@ fn read_step_text(stream: &[u8], before: Walk) {
 fn read_step_binary(stream: &[u8], before: Walk) {
     let step = reader::step_binary(stream, before);
     let found = step.found;
-    let state = exports::state_of(step.next);
+    let state = exports_values::state_of(step.next);
     match found {
         BinaryItem::Item {
             offset,
@@ -147,7 +150,7 @@ fn read_step_binary(stream: &[u8], before: Walk) {
             kind,
             head,
         } => {
-            let item = exports::item_of(offset.0, size.0, depth, kind, head);
+            let item = exports_values::item_of(offset.0, size.0, depth, kind, head);
             show_step(12, 0, 0, state, item);
         }
         BinaryItem::Refused { number, place } => show_step(12, number, place.0, state, [170; 6]),
@@ -183,11 +186,11 @@ fn rest(call: u8, stream: &[u8], before: Walk) {
 }
 
 // A mark that is neither 0 nor 1 is no reader's.
-fn through_reader(call: u8, stream: &[u8], before: [usize; 19]) {
-    if 1 < before[18] {
+fn through_reader(call: u8, stream: &[u8], before: [usize; STATE]) {
+    if 1 < before[MARK] {
         return;
     }
-    let walk = exports::walk_of(before);
+    let walk = exports_values::walk_of(before);
     if call == 9 {
         read_step_text(stream, walk);
     } else {
@@ -197,12 +200,12 @@ fn through_reader(call: u8, stream: &[u8], before: [usize; 19]) {
 }
 
 // A walk's state, a number a byte.
-fn state_from(src: &[u8]) -> [usize; 19]
-    requires { ⌜ 19 ≤ length (now src) ⌝ }
+fn state_from(src: &[u8]) -> [usize; STATE]
+    requires { ⌜ stateSize ≤ length (now src) ⌝ }
 {
-    let mut state: [usize; 19] = [0; 19];
+    let mut state: [usize; STATE] = [0; STATE];
     let mut i = 0;
-    while i < 19 {
+    while i < STATE {
         state[i] = wide(src[i]);
         i += 1;
     }
@@ -211,9 +214,9 @@ fn state_from(src: &[u8]) -> [usize; 19]
 
 fn step_from(call: u8, src: &[u8]) {
     let n = src.len();
-    if 19 <= n {
+    if STATE <= n {
         let before = state_from(src);
-        let stream = &src[19..n];
+        let stream = &src[STATE..n];
         step(call, stream, before);
         through_reader(call, stream, before);
     }

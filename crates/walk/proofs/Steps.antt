@@ -90,7 +90,8 @@ own-verdict : (f : Framed) (s cs : List ℕ) (b v : Verdict) (l : ℕ) → cs �
 unfolding ownOf behindOf verdictOf
 own-verdict (Unframed m p) s cs b v l e g q t = t
 own-verdict (Item k h n) s cs b v l e g q t =
-    t ∙ rw (e, q, within-head s n) (own-judged k h n l (take (4 * n) s) (g .0) (g .3))
+    let long = length-take-le (4 * n) s (omega (arith, g .2)) in
+    t ∙ rw (e, q, within-head s n) (own-judged k h n l (take (4 * n) s) (g .0) long (g .3))
 
 -- in a binary every sextet is in the alphabet
 pub clean : (f : Framed) (xs : List ℕ) → Fair (binarySextets xs) f → Accepted ≡ behindOf f (binarySextets xs)

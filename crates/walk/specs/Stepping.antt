@@ -66,7 +66,7 @@ frameHead w at len =
 -- a framed item's own checks, by the first sextets of a part that it stands first in; b: the verdict on the alphabet behind its header
 unfoldable pub ownOf : Framed → List ℕ → Verdict → ℕ → Verdict
 ownOf (Unframed m p) cs b l = Accepted
-ownOf (Item k h n) cs b l = ownBy k h (headOf (take (4 * n) cs)) b l
+ownOf (Item k h n) cs b l = ownBy k h n (headOf (take (4 * n) cs)) b l
 
 -- that verdict
 unfoldable pub behindOf : Framed → List ℕ → Verdict

@@ -182,7 +182,7 @@ fn verdict_text(framed: Framed, cs: [u8; 12], part: &[u8], levels: usize) -> Ver
         Framed::Item { kind, head, size } => {
             let own = judging::within(cs, size);
             let to = 4 * size;
-            judging::own_text(kind, head, own, &part[..to], levels)
+            judging::own_text(kind, head, size, own, &part[..to], levels)
         }
         Framed::Unframed {
             number: _,
@@ -197,7 +197,7 @@ fn verdict_binary(framed: Framed, cs: [u8; 12], levels: usize) -> Verdict
     match framed {
         Framed::Item { kind, head, size } => {
             let own = judging::within(cs, size);
-            judging::own_binary(kind, head, own, levels)
+            judging::own_binary(kind, head, size, own, levels)
         }
         Framed::Unframed {
             number: _,

@@ -1,13 +1,14 @@
--- 1 and 13 are given for nothing else: what framing and judging refuse has a number from 4 to 11. Assumes nothing.
+-- 1 and 13 are given for nothing else: what framing and judging refuse has a number from 4 on, and not 13. Assumes nothing.
 use Prim.Native.Nat.{ℕ, zero, suc, _+_, _*_, _/_, _≤_, _<_}
 use mathlib.Core.Path.{_≡_, refl, ap, subst}
 use mathlib.Core.List.{List, [], _∷_}
-use mathlib.Core.Bool.{Bool, true, false}
+use mathlib.Core.Bool.{Bool, true, false, not}
 use native.Mathlib.Omega.{arith}
 use lib.ListN.{length}
-use lib.Dec.{ltb}
+use lib.Dec.{T, ltb, eqb}
 use borrow.Author.Tests.{lt-ltb, le-ltb}
 use Rattle.base.specs.Pick.{pick-by}
+use Rattle.base.specs.Table.{both}
 use Rattle.format.specs.declared.Kind.{Kind}
 use Rattle.format.specs.declared.Kind.the-variants.{Fixed, Variable, Group, Genus}
 use Rattle.format.specs.declared.Opening.{Opening}
@@ -29,8 +30,9 @@ use Rattle.walk_claims.specs.Words.{unitsIn, tailOf}
 use Rattle.laws.specs.Levels.{part, frameNext}
 use Rattle.walk_claims.specs.Steps.{asked, step-by, in-by}
 
+-- a test, so that `tt` answers it of any number that framing or judging gives
 abbrev Own : ℕ → Type 0
-Own n = (3 < n) × (n < 12)
+Own n = T (both (ltb 3 n) (not (eqb n 13)))
 
 -- ---- framing
 
@@ -40,17 +42,17 @@ Framing (Unframed n p) = Own n
 
 fit-own : (k : Kind) (h n len : ℕ) → Framing (fit k h n len)
 unfolding fit
-fit-own k h n len = pick-by Framing (ltb len n) _ _ (λ _. (omega arith, omega arith)) (λ _. tt)
+fit-own k h n len = pick-by Framing (ltb len n) _ _ (λ _. tt) (λ _. tt)
 
 second-own : (at : ℕ → ℕ) (len : ℕ) (k : Kind) (n : ℕ) → Framing (second at len (fit k 2 n len))
 unfolding second
 second-own at len k n =
-    pick-by Framing (ltb len 2) _ _ (λ _. (omega arith, omega arith))
-    (λ _. known-by Framing at 4 _ (λ j b. (omega arith, omega arith)) (λ _. fit-own k 2 n len))
+    pick-by Framing (ltb len 2) _ _ (λ _. tt)
+    (λ _. known-by Framing at 4 _ (λ j b. tt) (λ _. fit-own k 2 n len))
 
 headed-own : (o : Opening) (at : ℕ → ℕ) (len : ℕ) → Framing (headed o at len)
 unfolding headed
-headed-own Unknown at len = (omega arith, omega arith)
+headed-own Unknown at len = tt
 headed-own (Short k n) at len = fit-own k 1 n len
 headed-own (LargeVariable t l) at len = second-own at len _ _
 headed-own (LargeGroup l d) at len = second-own at len _ _
@@ -59,8 +61,8 @@ headed-own Version at len = second-own at len _ _
 frame-own : (s : List ℕ) → Framing (frame s)
 unfolding frame frameWith
 frame-own s =
-    pick-by Framing (ltb (length s / 4) 1) _ _ (λ _. (omega arith, omega arith))
-    (λ _. known-by Framing (sextet s) 0 _ (λ j b. (omega arith, omega arith)) (λ _. headed-own _ (sextet s) _))
+    pick-by Framing (ltb (length s / 4) 1) _ _ (λ _. tt)
+    (λ _. known-by Framing (sextet s) 0 _ (λ j b. tt) (λ _. headed-own _ (sextet s) _))
 
 ruled-own : (at : ℕ → ℕ) (r : Framed) → Framing r → Framing (ruled at r)
 unfolding ruled
@@ -68,7 +70,7 @@ ruled-own at (Unframed n p) f = f
 ruled-own at (Item (Fixed c) h n) f = tt
 ruled-own at (Item (Variable t l m) h n) f = tt
 ruled-own at (Item (Group l) h n) f = tt
-ruled-own at (Item Genus h n) f = pick-by Framing (isOurs at) (Item Genus h n) (Unframed 7 0) (λ _. tt) (λ _. (omega arith, omega arith))
+ruled-own at (Item Genus h n) f = pick-by Framing (isOurs at) (Item Genus h n) (Unframed 7 0) (λ _. tt) (λ _. tt)
 
 next-own : (first : Bool) (s : List ℕ) → Framing (frameNext first s)
 unfolding frameRuled
@@ -99,17 +101,17 @@ unless-own n false o = o
 scan-own : (s : List ℕ) → Judging (scan s)
 unfolding scan
 scan-own [] = tt
-scan-own (x ∷ s) = pick-by Judging (ltb x 64) _ _ (λ _. shift-own 1 (scan s) (scan-own s)) (λ _. (omega arith, omega arith))
+scan-own (x ∷ s) = pick-by Judging (ltb x 64) _ _ (λ _. shift-own 1 (scan s) (scan-own s)) (λ _. tt)
 
 kind-own : (k : Kind) (h l : ℕ) (s : List ℕ) → Judging (judgeKind k h s (ownCheck l))
 unfolding judgeKind behind ownCheck
 kind-own (Fixed c) h l s =
     then-own _ _ (shift-own (4 * h) _ (scan-own _))
-    (then-own _ _ (unless-own 8 _ (omega arith, omega arith)) (unless-own 10 _ (omega arith, omega arith)))
+    (then-own _ _ (unless-own 8 _ tt) (unless-own 10 _ tt))
 kind-own (Variable t v c) h l s =
     then-own _ _ (shift-own (4 * h) _ (scan-own _))
-    (then-own _ _ (unless-own 9 _ (omega arith, omega arith)) (unless-own 8 _ (omega arith, omega arith)))
-kind-own (Group letter) h zero s = (omega arith, omega arith)
+    (then-own _ _ (unless-own 9 _ tt) (unless-own 8 _ tt))
+kind-own (Group letter) h zero s = tt
 kind-own (Group letter) h (suc l) s = pick-by Judging (isOpaque letter) _ _ (λ _. shift-own (4 * h) _ (scan-own _)) (λ _. tt)
 kind-own Genus h l s = tt
 
@@ -123,7 +125,7 @@ Numbered d xs w F.End = Unit {0}
 
 module _ (d : Domain) (xs : List ℕ) (w : Walk) where
   own-numbered : (m : ℕ) → Own m → Numbered d xs w (F.Refused m 0)
-  own-numbered m o = (λ e. absurd (omega arith), λ e. absurd (omega arith))
+  own-numbered m o = (λ e. absurd (rw e at o), λ e. absurd (rw e at o))
 
   pub numbered : Numbered d xs w (stepIn d xs w .found)
   unfolding foundIn
@@ -131,7 +133,7 @@ module _ (d : Domain) (xs : List ℕ) (w : Walk) where
       in-by d xs w (λ r. Numbered d xs w (r .found)) (λ l. (λ _. l, λ e. absurd (omega arith)))
       (λ l u. (λ e. absurd (omega arith), λ _. (l, u)))
       (λ l _. step-by (d .sextets xs) (unitsIn d xs) (tailOf d xs) w (λ r. Numbered d xs w (foundIn (d .unit) (r .found)))
-      (λ _ _. own-numbered 4 (omega arith, omega arith)) (λ _ _. tt)
+      (λ _ _. own-numbered 4 tt) (λ _ _. tt)
       (λ m p _ e. own-numbered m (subst Framing e (next-own (asked w) (part (d .sextets xs) (w .at) (stopOf w (unitsIn d xs))))))
       (λ k h m q p _ _ e. own-numbered q (subst Judging e (kind-own k h _ _)))
       (λ k h m _ _ _. tt))

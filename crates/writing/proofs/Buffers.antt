@@ -6,7 +6,6 @@ use native.Mathlib.Omega.{arith}
 use lib.ListN.{length, take, drop, length-append, length-drop, drop-of-length-le}
 use lib.Seq.{paste, take-paste, length-paste-head, take-at, drop-at, take-all, take-append-add, drop-append-add, drop-drop, length-take-le}
 use Rattle.format.specs.declared.ToText.{ToText}
-use Rattle.format.specs.declared.ToText.the-variants as T
 use Rattle.format.specs.Conversion.{toText, binaryToText, textLeft}
 use Rattle.laws.specs.Conversion.{text-joins, length-to-text}
 use Rattle.convert.proofs.Answers.{binary-converted}

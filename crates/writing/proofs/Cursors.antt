@@ -4,11 +4,8 @@ use mathlib.Core.List.{List, [], _++_, append-nil}
 use mathlib.Core.Logic.{⊎-elim}
 use Prim.Native.Nat.{ℕ, _+_, _-_, _*_, _<_, _≤_, min}
 use native.Mathlib.Omega.{arith}
-use borrow.Author.Tests.{ltb-false}
-use lib.Dec.{ltb}
 use lib.ListN.{length, take, drop, length-drop, drop-of-length-le}
 use lib.Seq.{take-all}
-use Rattle.base.specs.Pick.{pick-by}
 use Rattle.base.specs.Cases.{lt-or-ge}
 use Rattle.format.specs.declared.Code.{Code}
 use Rattle.format.specs.declared.TextOffset.{TextOffset}
@@ -18,31 +15,14 @@ use Rattle.format.specs.declared.TextWritten.the-variants as T
 use Rattle.format.specs.declared.BinaryWritten.{BinaryWritten}
 use Rattle.format.specs.declared.BinaryWritten.the-variants as B
 use Rattle.format.specs.Offsets.{textOffset, binaryOffset}
-use Rattle.format.specs.Conversion.{firstStranger}
-use Rattle.format.specs.Writing.{named, isNamed, isFit, unitsOf, Writing, writing}
+use Rattle.format.specs.Writing.{Writing}
 use Rattle.format.specs.Writing.{textOutcome, binaryOutcome, writeText, writeBinary, textItemLeft, binaryItemLeft}
 use Rattle.format.specs.Writing.Writing.{refused, written}
 use Rattle.judging.proofs.Laws.{to-end}
 use Rattle.writing.specs.Cursor.{textFrom, binaryFrom, writeTextAt, writeBinaryAt, textLeftAt, binaryLeftAt}
-use Rattle.writing.proofs.Names.{able, headed}
-use Rattle.writing.proofs.Plans.{sized}
+use Rattle.writing_plan.proofs.Plans.{Held, held}
 
 -- ---- what is written is there, and within the room
-
-abbrev Held : ℕ → ℕ → Writing → Type 0
-Held u room (refused m p) = Unit {0}
-Held u room (written k) = (k * u ≤ room) × (0 < k)
-
-held : (u : ℕ) (code : Code) (tag : List ℕ) (tags raw room : ℕ) → Held u room (writing u (named code) tag tags raw room)
-unfolding writing
-held u code tag tags raw room =
-    pick-by (Held u room) (isNamed (named code)) _ _
-    (λ _. pick-by (Held u room) (isFit (named code) tags raw) _ _
-    (λ b. pick-by (Held u room) (ltb (firstStranger (take tags tag)) tags) _ _ (λ _. tt)
-    (λ _. pick-by (Held u room) (ltb room (unitsOf (named code) raw * u)) _ _ (λ _. tt)
-    (λ h. (ltb-false _ _ h, sized (named code) tags raw (able code tags raw b) (headed code) .some))))
-    (λ _. tt))
-    (λ _. tt)
 
 binary-some : (w : Writing) (room : ℕ) (n : BinaryOffset) → Held 3 room w → binaryOutcome w ≡ B.Written n → (n .0 ≤ room) × (0 < n .0)
 unfolding binaryOutcome

@@ -1,6 +1,3 @@
-pub mod Heads
-pub mod Names
-pub mod Plans
 pub mod Buffers
 pub mod Answers
 pub mod Cursors

@@ -4,7 +4,7 @@
 use oracle::registry::Code;
 use oracle::walk::{step, Found, Walk};
 use oracle::Form;
-use proved::{Item, Refusal, State};
+use proved::{Item, Refusal, State, STATE, STATE_FIRST, STATE_OPEN, STATE_POSITION};
 
 /// chars, letter and lead bytes, as `include/cesr.h` numbers them.
 pub fn code(code: Code) -> (usize, usize, usize) {
@@ -66,19 +66,19 @@ fn in_elements(state: &State, unit: usize) -> Option<Walk> {
     for (end, units) in walk.ends.iter_mut().zip(state) {
         *end = units.saturating_mul(unit);
     }
-    walk.open = state[16];
-    walk.position = state[17].saturating_mul(unit);
-    walk.first = state[18] == 1;
-    (state[18] < 2).then_some(walk)
+    walk.open = state[STATE_OPEN];
+    walk.position = state[STATE_POSITION].saturating_mul(unit);
+    walk.first = state[STATE_FIRST] == 1;
+    (state[STATE_FIRST] < 2).then_some(walk)
 }
 
 fn in_units(walk: &Walk, unit: usize) -> State {
-    let mut state = [0; 19];
+    let mut state = [0; STATE];
     for (units, end) in state.iter_mut().zip(walk.ends) {
         *units = end / unit;
     }
-    state[16] = walk.open;
-    state[17] = walk.position / unit;
-    state[18] = usize::from(walk.first);
+    state[STATE_OPEN] = walk.open;
+    state[STATE_POSITION] = walk.position / unit;
+    state[STATE_FIRST] = usize::from(walk.first);
     state
 }

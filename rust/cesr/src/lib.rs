@@ -70,6 +70,7 @@ pub use code::{Code, Head, ParseCodeError};
 pub use convert::{to_binary, to_binary_into, to_text, to_text_into};
 pub use form::{Form, ParseFormError};
 pub use primitive::{read, read_binary, read_text_into, write, write_into, Primitive, Tag};
+pub use proved::{STATE, STATE_POSITION};
 pub use refusal::{Number, Refusal};
 pub use report::{
     judge, judge_into, Item, Items, RefusalRow, Refusals, Remainder, Report, Verdict,

@@ -1,9 +1,10 @@
 //! The walk through a stream's items at all depths.
 
 use crate::{read, Code, Form, Head, Number, Refusal};
+use proved::STATE;
 
-/// The walk's state between two steps: the ends of sixteen open groups,
-/// outermost first, unused ones 0; the number open; the position; whether the
+/// The walk's state between two steps: the ends of the open groups, sixteen at
+/// most, outermost first, unused ones 0; the number open; the position; whether the
 /// next item is first in an overrideable group, 0 or 1. Ends and position
 /// count units, so the same stream has the same states in both forms.
 ///
@@ -14,20 +15,20 @@ pub struct State(proved::State);
 
 impl State {
     /// A state by its numbers.
-    pub const fn new(numbers: [usize; 19]) -> State {
+    pub const fn new(numbers: [usize; STATE]) -> State {
         State(numbers)
     }
 
     /// At so many units, with no group open.
     pub(crate) fn at(units: usize) -> State {
-        let mut numbers = [0; 19];
+        let mut numbers = [0; STATE];
         let [.., position, _] = &mut numbers;
         *position = units;
         State(numbers)
     }
 
     /// The state's numbers.
-    pub const fn numbers(&self) -> &[usize; 19] {
+    pub const fn numbers(&self) -> &[usize; STATE] {
         &self.0
     }
 }
@@ -170,7 +171,7 @@ pub fn item_at(form: Form, stream: &[u8], at: usize) -> Result<Step, Refusal> {
 /// takes all of it.
 fn within_a_group(form: Form, stream: &[u8], at: usize) -> Option<Result<Step, Refusal>> {
     let rest = stream.get(at..)?;
-    let mut numbers = [0; 19];
+    let mut numbers = [0; STATE];
     let [end, .., open, _, _] = &mut numbers;
     *end = form.units(rest.len());
     *open = 1;

@@ -4,7 +4,7 @@
 
 use cesr::{
     item_at, judge, judge_into, read, read_text_into, to_binary, to_binary_into, to_text,
-    to_text_into, write, write_into, Form, Number, Report, State, Verdict, Walk,
+    to_text_into, write, write_into, Form, Number, Report, State, Verdict, Walk, STATE,
 };
 use streams::generate::any_deck;
 use streams::item::stream;
@@ -176,7 +176,7 @@ fn nothing_panics_on_any_number() {
             let _ = read(form, stream, at);
             let _ = item_at(form, stream, at);
         }
-        let mut numbers = [0; 19];
+        let mut numbers = [0; STATE];
         for number in &mut numbers {
             *number = *random.pick(&[0, 1, 2, 16, 17, stream.len(), usize::MAX]);
         }

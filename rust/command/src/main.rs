@@ -71,8 +71,8 @@ fn done(task: Task) -> Standing {
     }
 }
 
-/// Says what went wrong on standard error; if even that fails, the exit status
-/// still tells.
+/// Says what went wrong on standard error, in one piece, so that what somebody
+/// types does not come between; if even that fails, the exit status still tells.
 fn complain(message: &str) {
-    let _ = writeln!(io::stderr(), "cesr: {message}");
+    let _ = io::stderr().write_all(format!("cesr: {message}\n").as_bytes());
 }

@@ -4,7 +4,7 @@
 use crate::fence::{Edge, Fence, LONGEST};
 use crate::input::{Call, Front, Room};
 use crate::long;
-use proved::{Primitive, Refusal, State, Tag};
+use proved::{Primitive, Refusal, State, Tag, STATE};
 use std::cell::RefCell;
 use streams::Form;
 
@@ -51,20 +51,20 @@ pub fn one(input: &[u8]) {
                 read(memory, form, room, front.0, at);
             }
             Call::Write => write(memory, form, room, front),
-            Call::Walk => drop(walk(memory, form, front.0, [0; 19], usize::MAX)),
+            Call::Walk => drop(walk(memory, form, front.0, [0; STATE], usize::MAX)),
             Call::WalkFrom => {
                 let state = front.state();
                 walk(memory, form, front.0, state, 20);
             }
             Call::ReadItems => {
-                for at in walk(memory, form, front.0, [0; 19], 40) {
+                for at in walk(memory, form, front.0, [0; STATE], 40) {
                     read(memory, form, room, front.0, at);
                 }
             }
             Call::All => {
                 report(memory, form, room, front.0);
                 convert(memory, form, room, front.0);
-                walk(memory, form, front.0, [0; 19], usize::MAX);
+                walk(memory, form, front.0, [0; STATE], usize::MAX);
             }
         }
     });

@@ -8,7 +8,7 @@
 //! | then | the stream, or the raw value |
 
 use crate::fence::{Edge, LONGEST};
-use proved::{State, Tag};
+use proved::{State, Tag, MAX_DEPTH, STATE, STATE_FIRST, STATE_OPEN, STATE_POSITION};
 use streams::Form;
 
 /// Which call is tried.
@@ -107,14 +107,14 @@ impl Front<'_> {
 
     /// The number open, the position, the mark, and how many ends follow.
     pub fn state(&mut self) -> State {
-        let mut state = [0; 19];
-        state[16] = match self.byte() {
+        let mut state = [0; STATE];
+        state[STATE_OPEN] = match self.byte() {
             255 => usize::MAX,
             open => usize::from(open),
         };
-        state[17] = self.number();
-        state[18] = usize::from(self.byte());
-        let ends = usize::from(self.byte() % 17);
+        state[STATE_POSITION] = self.number();
+        state[STATE_FIRST] = usize::from(self.byte());
+        let ends = usize::from(self.byte()) % (MAX_DEPTH + 1);
         state[..ends].fill_with(|| self.number());
         state
     }

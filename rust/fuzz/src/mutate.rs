@@ -3,6 +3,7 @@
 
 use crate::input::{Call, Front};
 use crate::seeds::writes;
+use proved::MAX_DEPTH;
 use streams::damage::damage;
 use streams::generate::{any_item, TOP};
 use streams::item::stream;
@@ -77,7 +78,7 @@ fn replaced(input: &mut [u8], from: usize, made: &[u8]) -> Option<usize> {
 /// apart; or one that has one byte wrong.
 fn another_state(random: &mut Random, form: Form, stream: &[u8]) -> Vec<u8> {
     let units = stream.len() / form.unit();
-    let open = random.below(17);
+    let open = random.below(MAX_DEPTH + 1);
     let mut ends = Vec::new();
     let mut end = units;
     for _ in 0..open {

@@ -7,6 +7,7 @@ mod common;
 
 use common::papers::{DIGESTS_OF_001, NUMBER, POST_PADDED_OF_001, SAD_PATHS, SHORTS_OF_002};
 use oracle::convert;
+use oracle::judge::MOST_GROUPS;
 use oracle::primitive::{self, Named, Primitive, Tag};
 use oracle::refusal::Refusal;
 use oracle::registry::{Code, FIXED, VARIABLE};
@@ -26,6 +27,9 @@ const WRITE_TEXT: u8 = 7;
 const WRITE_BINARY: u8 = 8;
 const WALK_TEXT: u8 = 9;
 const WALK_BINARY: u8 = 10;
+
+/// A walk's state: the ends, the number open, the position and the mark.
+const STATE: usize = MOST_GROUPS + 3;
 
 /// A call with its input and the room lent.
 struct Record {
@@ -71,8 +75,8 @@ impl Record {
     /// A step: the state in units and the item's six numbers; then the same
     /// as a reader's, and how many items are left and what stops the walk.
     fn step_lines(&self, form: Form, unit: usize) -> String {
-        let (before, stream) = self.input.split_at(19);
-        if before[18] > 1 {
+        let (before, stream) = self.input.split_at(STATE);
+        if before[STATE - 1] > 1 {
             return self.no_mark(before);
         }
         let from = state_of(before, unit);
@@ -191,15 +195,16 @@ fn rest(from: Walk, stream: &[u8], form: Form) -> (usize, (u8, usize)) {
     }
 }
 
-/// Nineteen numbers in units as a state in the stream's own measure.
+/// A state in units as one in the stream's own measure.
 fn state_of(numbers: &[u8], unit: usize) -> Walk {
     let mut walk = Walk::start();
     for (end, number) in walk.ends.iter_mut().zip(numbers) {
         *end = usize::from(*number) * unit;
     }
-    walk.open = numbers[16].into();
-    walk.position = usize::from(numbers[17]) * unit;
-    walk.first = numbers[18] == 1;
+    let behind = &numbers[MOST_GROUPS..];
+    walk.open = behind[0].into();
+    walk.position = usize::from(behind[1]) * unit;
+    walk.first = behind[2] == 1;
     walk
 }
 
@@ -574,12 +579,12 @@ fn examples(records: &mut Vec<Record>) {
     // 001's count of items, and 003's of units.
     for text in [NUMBER, &NUMBER.replace("-EAB", "-EAG")] {
         report_both(records, 53, text.as_bytes());
-        walk_both(records, [0; 19], text.as_bytes());
+        walk_both(records, [0; STATE], text.as_bytes());
     }
 }
 
 /// Every step over a text and its binary, to the end or a refusal.
-fn walk_both(records: &mut Vec<Record>, from: [u8; 19], text: &[u8]) {
+fn walk_both(records: &mut Vec<Record>, from: [u8; STATE], text: &[u8]) {
     let binary = in_binary(text);
     for (call, stream, unit) in [
         (WALK_TEXT, Some(text), 4),
@@ -600,16 +605,16 @@ fn walk_both(records: &mut Vec<Record>, from: [u8; 19], text: &[u8]) {
 }
 
 /// A state: ends, position, mark.
-fn state(ends: &[u8], at: u8, first: u8) -> [u8; 19] {
-    let mut numbers = [0; 19];
+fn state(ends: &[u8], at: u8, first: u8) -> [u8; STATE] {
+    let mut numbers = [0; STATE];
     numbers[..ends.len()].copy_from_slice(ends);
-    numbers[16..].copy_from_slice(&[ends.len() as u8, at, first]);
+    numbers[MOST_GROUPS..].copy_from_slice(&[ends.len() as u8, at, first]);
     numbers
 }
 
 fn walks(records: &mut Vec<Record>) {
-    walk_both(records, [0; 19], &nested(16, 'A'));
-    walk_both(records, [0; 19], &nested(17, 'J'));
+    walk_both(records, [0; STATE], &nested(MOST_GROUPS, 'A'));
+    walk_both(records, [0; STATE], &nested(MOST_GROUPS + 1, 'J'));
     for text in [
         &b""[..],
         b"-AAB-AAAMAAB",
@@ -619,12 +624,12 @@ fn walks(records: &mut Vec<Record>) {
         b"-JAC-_AAABAA",
         b"--AAAAAC-_AAACAA5BABAGhp",
     ] {
-        walk_both(records, [0; 19], text);
+        walk_both(records, [0; STATE], text);
     }
-    let mut many = state(&[3; 16], 0, 0);
-    many[16] = 17;
+    let mut many = state(&[3; MOST_GROUPS], 0, 0);
+    many[MOST_GROUPS] = MOST_GROUPS as u8 + 1;
     let mut slot = state(&[3], 0, 0);
-    slot[15] = 1;
+    slot[MOST_GROUPS - 1] = 1;
     for from in [
         many,
         slot,

@@ -8,7 +8,9 @@
 mod declared;
 mod walk;
 
-pub use walk::{walk_binary, walk_text, Item, State};
+pub use walk::{
+    walk_binary, walk_text, Item, State, MAX_DEPTH, STATE, STATE_FIRST, STATE_OPEN, STATE_POSITION,
+};
 
 /// A refused call: 01's number, and the place in the stream's own measure.
 #[derive(Clone, Copy, Debug, PartialEq, Eq)]

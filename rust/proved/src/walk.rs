@@ -2,10 +2,20 @@
 
 use crate::{declared, Refusal};
 
-/// Sixteen ends of open groups, the number open, the position, and the
-/// first-item mark, 0 or 1; ends and position in units. Nineteen zeros are the
-/// start of every stream.
-pub type State = [usize; 19];
+/// At most so many groups are open.
+pub const MAX_DEPTH: usize = 16;
+
+/// Where a state has the number open, the position and the first-item mark, and
+/// how many numbers it has.
+pub const STATE_OPEN: usize = MAX_DEPTH;
+pub const STATE_POSITION: usize = MAX_DEPTH + 1;
+pub const STATE_FIRST: usize = MAX_DEPTH + 2;
+pub const STATE: usize = MAX_DEPTH + 3;
+
+/// The ends of open groups, the number open, the position, and the first-item
+/// mark, 0 or 1; ends and position in units. Zeros alone are the start of every
+/// stream.
+pub type State = [usize; STATE];
 
 /// Offset and size in the stream's own measure, depth, and the code: chars as
 /// in `Info` or 7 for a small group, 8 for a large one, 9 for a genus/version;

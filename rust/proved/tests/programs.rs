@@ -1,7 +1,7 @@
 //! The two programs beside the oracle, at lengths around 8,192: the report on
 //! standard output, or the single byte 01 for a longer stream.
 //!
-//! They are built by `rt check report_text report_binary`; then:
+//! They are built by `rt check program_text program_binary`; then:
 //! `cargo test --release --test programs -- --ignored`
 
 use oracle::report::write_report;
@@ -14,8 +14,8 @@ use streams::{decks, Form, Random};
 /// What the program writes for a stream.
 fn judged(form: Form, stream: &[u8]) -> Vec<u8> {
     let name = match form {
-        Form::Text => "report_text",
-        Form::Binary => "report_binary",
+        Form::Text => "program_text",
+        Form::Binary => "program_binary",
     };
     let folder = Path::new(env!("CARGO_MANIFEST_DIR")).join("../../target/bin");
     let mut child = Command::new(folder.join(name))

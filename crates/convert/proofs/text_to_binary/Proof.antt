@@ -1,68 +1,56 @@
-use mathlib.Core.Path.{_≡_, refl, sym}
-use Prim.Native.Nat.{_*_, _/_}
+-- `text_to_binary` meets its contract. Assumes nothing.
+use mathlib.Core.Path.{refl, sym, _∙_}
 use native.Mathlib.Omega.{arith}
-use lib.ListN.{length}
-use Rattle.format.specs.Conversion.{binaryLeft, toBinary}
-use Rattle.laws.specs.Conversion.{all-known}
+use Rattle.format.specs.Conversion.{binaryLeft}
+use Rattle.convert_pack.proofs.Left.{stranger-left, no-room-left, written-left}
 use Rattle.convert.proofs.Answers.{text-long, text-torn, text-stranger, text-no-room, text-converted}
 use borrow.Author.Needs.{needs}
 use Rattle.convert.proofs.text_to_binary.Statement.{statement}
 use Rattle.convert.proofs.text_to_binary.Tie as tie
-use Rattle.convert.proofs.text_to_binary.Reads as reads
-use Rattle.convert.proofs.text_to_binary.Lts as lts
-use Rattle.alphabet.proofs.first_stranger.Reads as first-stranger-reads
-use Rattle.alphabet.proofs.sextets.Reads as sextets-reads
-use Rattle.convert.proofs.to_binary.Reads as to-binary-reads
 
--- src/lib.rt:52:9
 returns : tie.Need-returns
 unfolding binaryLeft
-returns c = (sym (text-long _ _ (search needs)), refl)
+returns c = (sym (text-long _ _ (omega arith)), refl)
 
--- src/lib.rt:55:9
 returns-2 : tie.Need-returns-2
 unfolding binaryLeft
-returns-2 c = (sym (text-torn _ _ (search needs) (search needs)), refl)
+returns-2 c = (sym (text-torn _ _ (omega arith) (omega arith)), refl)
 
--- src/lib.rt:57:9
-first-stranger-requires : tie.Need-first-stranger-requires
-first-stranger-requires c κs = search needs
-
--- src/lib.rt:59:9
-returns-3 : tie.Need-returns-3
-unfolding binaryLeft
-returns-3 c = (sym (text-stranger _ _ (search needs) (search needs) _ (search needs) (search needs)), refl)
-
--- src/lib.rt:62:16
-mul-size : tie.Need-mul-size
-mul-size c = search needs
-
--- src/lib.rt:64:9
-returns-4 : tie.Need-returns-4
-unfolding binaryLeft
-returns-4 c = (sym (text-no-room _ _ (search needs) (search needs) (c .before .before .first-stranger .result) (search needs) (search needs) (search needs)), refl)
-
--- src/lib.rt:66:18
-sextets-requires : tie.Need-sextets-requires
-sextets-requires c κs = search needs
-
--- src/lib.rt:67:5
 to-binary-requires : tie.Need-to-binary-requires
-to-binary-requires c κs = (search needs, search needs, all-known _ (search needs), search needs)
+to-binary-requires c κs = search needs
 
--- src/lib.rt:46:1
 same-length : tie.Need-same-length
 same-length c = search needs
 
--- src/lib.rt:46:1
+returns-3 : tie.Need-returns-3
+unfolding binaryLeft
+returns-3 c =
+    let b = c .before .before .before .to-binary in
+    (sym (text-stranger _ _ (omega arith) (omega arith) _ (b .ensures .0) (omega arith)), b .ensures .1 ∙ stranger-left _ _ (omega arith))
+
+mul-size : tie.Need-mul-size
+mul-size c = search needs
+
+same-length-2 : tie.Need-same-length-2
+same-length-2 c = search needs
+
+returns-4 : tie.Need-returns-4
+unfolding binaryLeft
+returns-4 c =
+    let b = c .before .before .before .before .to-binary in (
+      sym (text-no-room _ _ (omega arith) (omega arith) _ (b .ensures .0) (omega arith) (omega arith)),
+      b .ensures .1 ∙ no-room-left _ _ (omega arith) (omega arith),
+    )
+
+same-length-3 : tie.Need-same-length-3
+same-length-3 c = search needs
+
 returns-5 : tie.Need-returns-5
-unfolding binaryLeft toBinary
+unfolding binaryLeft
 returns-5 c =
-    let f = c .before .before .before .before .before .before .before .before in
-    let n = length (f .before .before .before .before .before .args .src .now) / 4 in
-    let m : n * 3 ≡ 3 * n = omega arith in (
-      sym (text-converted _ _ (search needs) (search needs) (f .first-stranger .result) (search needs) (search needs) (search needs)),
-      rw m (c .before .before .to-binary .ensures),
+    let b = c .before .before .before .before .to-binary in (
+      sym (text-converted _ _ (omega arith) (omega arith) _ (b .ensures .0) (omega arith) (omega arith)),
+      b .ensures .1 ∙ written-left _ _ (omega arith) (omega arith),
     )
 
 pub text-to-binary-spec : {M : Type 1} → statement M
@@ -71,11 +59,11 @@ text-to-binary-spec =
     (tie.spec
     returns
     returns-2
-    first-stranger-requires
-    returns-3
-    mul-size
-    returns-4
-    sextets-requires
     to-binary-requires
     same-length
+    returns-3
+    mul-size
+    same-length-2
+    returns-4
+    same-length-3
     returns-5)

@@ -1,29 +1,21 @@
-use Rattle.exports.specs.Answers.{binaryFoundNumber, binaryFoundValue, binaryTagLeft, binaryInfoLeft}
+-- `cesr_read_binary` meets its contract. Assumes nothing.
+use Rattle.exports_values.specs.Answers.{binaryFoundNumber, binaryFoundValue, binaryTagLeft, binaryInfoLeft}
 use borrow.Author.Needs.{needs}
 use Rattle.exports.proofs.cesr_read_binary.Statement.{statement}
 use Rattle.exports.proofs.cesr_read_binary.Tie as tie
-use Rattle.exports.proofs.cesr_read_binary.Reads as reads
-use Rattle.exports.proofs.cesr_read_binary.Lts as lts
-use Rattle.exports.proofs.info_of.Reads as info-of-reads
-use Rattle.reading.proofs.read_binary.Reads as read-binary-reads
 
--- src/lib.rt:199:9
 read-binary-requires : tie.Need-read-binary-requires
 read-binary-requires c κs = search needs
 
--- src/lib.rt:203:28
 enum-known-found : tie.Need-enum-known-found
 enum-known-found c = search needs
 
--- src/lib.rt:204:17
 info-of-requires : tie.Need-info-of-requires
 info-of-requires c κs = search needs
 
--- src/lib.rt:210:30
 enum-known-found-2 : tie.Need-enum-known-found-2
 enum-known-found-2 c = search needs
 
--- src/lib.rt:186:1
 returns : tie.Need-returns
 unfolding binaryFoundNumber binaryFoundValue binaryTagLeft binaryInfoLeft
 returns c =
@@ -31,7 +23,6 @@ returns c =
     let g = c .before .before .found .given .1 in
     rw (← (t .ensures)) (rw g, (rw g, (rw g, rw g (c .info-of .ensures))))
 
--- src/lib.rt:186:1
 returns-2 : tie.Need-returns-2
 unfolding binaryFoundNumber binaryFoundValue binaryTagLeft binaryInfoLeft
 returns-2 c =

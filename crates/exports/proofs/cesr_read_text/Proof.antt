@@ -1,33 +1,24 @@
-use Rattle.exports.specs.Answers.{textFoundNumber, textFoundValue, textTagLeft, textInfoLeft}
+-- `cesr_read_text` meets its contract. Assumes nothing.
+use Rattle.exports_values.specs.Answers.{textFoundNumber, textFoundValue, textTagLeft, textInfoLeft}
 use borrow.Author.Needs.{needs}
 use Rattle.exports.proofs.cesr_read_text.Statement.{statement}
 use Rattle.exports.proofs.cesr_read_text.Tie as tie
-use Rattle.exports.proofs.cesr_read_text.Reads as reads
-use Rattle.exports.proofs.cesr_read_text.Lts as lts
-use Rattle.exports.proofs.info_of.Reads as info-of-reads
-use Rattle.reading.proofs.read_text.Reads as read-text-reads
 
--- src/lib.rt:167:9
 read-text-requires : tie.Need-read-text-requires
 read-text-requires c κs = search needs
 
--- src/lib.rt:171:26
 enum-known-found : tie.Need-enum-known-found
 enum-known-found c = search needs
 
--- src/lib.rt:172:17
 info-of-requires : tie.Need-info-of-requires
 info-of-requires c κs = search needs
 
--- src/lib.rt:178:28
 enum-known-found-2 : tie.Need-enum-known-found-2
 enum-known-found-2 c = search needs
 
--- src/lib.rt:152:1
 same-length : tie.Need-same-length
 same-length c = search needs
 
--- src/lib.rt:152:1
 returns : tie.Need-returns
 unfolding textFoundNumber textFoundValue textTagLeft textInfoLeft
 returns c =
@@ -35,11 +26,9 @@ returns c =
     let g = c .before .before .found .given .1 in
     rw (← (t .ensures .0)) (rw g, (rw g, (t .ensures .1, (rw g, rw g (c .info-of .ensures)))))
 
--- src/lib.rt:152:1
 same-length-2 : tie.Need-same-length-2
 same-length-2 c = search needs
 
--- src/lib.rt:152:1
 returns-2 : tie.Need-returns-2
 unfolding textFoundNumber textFoundValue textTagLeft textInfoLeft
 returns-2 c =

@@ -1,30 +1,23 @@
+-- `cesr_text_to_binary` meets its contract. Assumes nothing.
 use mathlib.Core.Path.{ap, sym, _∙_}
 use Rattle.format.specs.declared.ToBinary.{ToBinary}
 use Rattle.format.specs.Conversion.{toBinaryNumber, toBinaryValue, binaryLeft}
 use borrow.Author.Needs.{needs}
 use Rattle.exports.proofs.cesr_text_to_binary.Statement.{statement}
 use Rattle.exports.proofs.cesr_text_to_binary.Tie as tie
-use Rattle.exports.proofs.cesr_text_to_binary.Reads as reads
-use Rattle.exports.proofs.cesr_text_to_binary.Lts as lts
-use Rattle.convert.proofs.text_to_binary.Reads as text-to-binary-reads
 
--- src/lib.rt:16:11
 text-to-binary-requires : tie.Need-text-to-binary-requires
 text-to-binary-requires c κs = search needs
 
--- src/lib.rt:17:27
 enum-known-n : tie.Need-enum-known-n
 enum-known-n c = search needs
 
--- src/lib.rt:21:27
 enum-known-number : tie.Need-enum-known-number
 enum-known-number c = search needs
 
--- src/lib.rt:10:1
 same-length : tie.Need-same-length
 same-length c = search needs
 
--- src/lib.rt:10:1
 returns : tie.Need-returns
 unfolding toBinaryNumber toBinaryValue
 returns c =
@@ -37,11 +30,9 @@ returns c =
       ),
     )
 
--- src/lib.rt:10:1
 same-length-2 : tie.Need-same-length-2
 same-length-2 c = search needs
 
--- src/lib.rt:10:1
 returns-2 : tie.Need-returns-2
 unfolding toBinaryNumber toBinaryValue
 returns-2 c =

@@ -15,7 +15,7 @@ use Rattle.framing.proofs.binary_head.Reads as binary-head-reads
 use Rattle.framing.proofs.frame_head.Reads as frame-head-reads
 use Rattle.judging.proofs.own_binary.Reads as own-binary-reads
 use Rattle.judging.proofs.within.Reads as within-reads
-use Rattle.reading.proofs.is_primitive.Reads as is-primitive-reads
+use Rattle.reading_item.proofs.is_primitive.Reads as is-primitive-reads
 use Rattle.judging.proofs.told.Reads as told-reads
 
 -- src/lib.rt:204:9

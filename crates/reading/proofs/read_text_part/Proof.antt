@@ -16,7 +16,7 @@ use Rattle.framing.proofs.frame_head.Reads as frame-head-reads
 use Rattle.framing.proofs.text_head.Reads as text-head-reads
 use Rattle.judging.proofs.own_text.Reads as own-text-reads
 use Rattle.judging.proofs.within.Reads as within-reads
-use Rattle.reading.proofs.is_primitive.Reads as is-primitive-reads
+use Rattle.reading_item.proofs.is_primitive.Reads as is-primitive-reads
 use Rattle.judging.proofs.told.Reads as told-reads
 
 -- src/lib.rt:179:9
@@ -82,7 +82,7 @@ returns-3 c =
     let e = framed-text _ _ _ (f .before .before .before .text-head .ensures) (f .before .before .frame-head .ensures) in
     let g = lawful (textSextets (f .before .before .before .before .before .args .part .now)) _ _ _ _ e (f .framed .given .1) in
     read-judged _ _ e _ _ _ (f .framed .given .1) (sym (c .before .before .before .before .before .is-primitive .ensures) ∙ not-false _ (c .before .before .before .before .if1 .left)) _
-    (own-text-judged _ _ _ _ _ _ 0 _ (f .before .before .before .text-head .ensures) (c .before .before .before .within .ensures) (c .before .own-text .ensures) (g .few) (g .shape)) _ (c .told .ensures)
+    (own-text-judged _ _ _ _ _ _ 0 _ (f .before .before .before .text-head .ensures) (c .before .before .before .within .ensures) (c .before .own-text .ensures) (g .few) (g .shape) (omega (arith, g .room, text-units (f .before .before .before .before .before .args .part .now)))) _ (c .told .ensures)
 
 pub read-text-part-spec : {M : Type 1} → statement M
 read-text-part-spec =

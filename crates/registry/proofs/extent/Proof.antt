@@ -1,81 +1,61 @@
+-- `registry::extent` meets its contract. Assumes nothing.
 use Rattle.format.specs.Registry.{extent}
 use borrow.Author.Needs.{needs}
 use Rattle.registry.proofs.extent.Statement.{statement}
 use Rattle.registry.proofs.extent.Tie as tie
-use Rattle.registry.proofs.extent.Reads as reads
-use Rattle.registry.proofs.extent.Lts as lts
-use Rattle.registry.proofs.number.Reads as number-reads
-use Rattle.registry.proofs.wide.Reads as wide-reads
 
--- src/lib.rt:642:29
 enum-told : tie.Need-enum-told
 enum-told c = search needs
 
--- src/lib.rt:643:35
 enum-known-op : tie.Need-enum-known-op
 enum-known-op c = search needs
 
--- src/lib.rt:644:62
 enum-told-2 : tie.Need-enum-told-2
 enum-told-2 c = search needs
 
--- src/lib.rt:644:62
 number-requires : tie.Need-number-requires
 number-requires c κs = search needs
 
--- src/lib.rt:644:58
 add-result : tie.Need-add-result
 add-result c = search needs
 
--- src/lib.rt:645:42
 enum-known-op-2 : tie.Need-enum-known-op-2
 enum-known-op-2 c = search needs
 
--- src/lib.rt:646:17
 wide-requires : tie.Need-wide-requires
 wide-requires c κs = search needs
 
--- src/lib.rt:647:18
 mul-result : tie.Need-mul-result
 mul-result c = search needs
 
--- src/lib.rt:647:36
 number-requires-2 : tie.Need-number-requires-2
 number-requires-2 c κs = search needs
 
--- src/lib.rt:647:18
 add-result-2 : tie.Need-add-result-2
 add-result-2 c = search needs
 
--- src/lib.rt:647:13
 add-result-3 : tie.Need-add-result-3
 add-result-3 c = search needs
 
--- src/lib.rt:649:29
 enum-told-3 : tie.Need-enum-told-3
 enum-told-3 c = search needs
 
--- src/lib.rt:638:1
 returns : tie.Need-returns
 unfolding extent
 returns c = rw (c .enum-told .given .1)
 
--- src/lib.rt:638:1
 returns-2 : tie.Need-returns-2
 unfolding extent
 returns-2 c = rw (c .before .op .given .1)
 
--- src/lib.rt:638:1
 returns-3 : tie.Need-returns-3
 unfolding extent
 returns-3 c = rw (c .before .enum-told2 .given .1, c .number .ensures .0)
 
--- src/lib.rt:638:1
 returns-4 : tie.Need-returns-4
 unfolding extent
 returns-4 c = rw (c .before .before .before .op2 .given .1, c .before .wide .ensures .0, c .number2 .ensures .0)
 
--- src/lib.rt:638:1
 returns-5 : tie.Need-returns-5
 unfolding extent
 returns-5 c = rw (c .enum-told3 .given .1)

@@ -1,51 +1,40 @@
+-- `registry::header_units` meets its contract. Assumes nothing.
 use Rattle.format.specs.Registry.{headerUnits}
 use borrow.Author.Needs.{needs}
 use Rattle.registry.proofs.header_units.Statement.{statement}
 use Rattle.registry.proofs.header_units.Tie as tie
-use Rattle.registry.proofs.header_units.Reads as reads
-use Rattle.registry.proofs.header_units.Lts as lts
 
--- src/lib.rt:619:29
 enum-told : tie.Need-enum-told
 enum-told c = search needs
 
--- src/lib.rt:620:48
 enum-told-2 : tie.Need-enum-told-2
 enum-told-2 c = search needs
 
--- src/lib.rt:621:58
 enum-told-3 : tie.Need-enum-told-3
 enum-told-3 c = search needs
 
--- src/lib.rt:625:14
 enum-told-4 : tie.Need-enum-told-4
 enum-told-4 c = search needs
 
--- src/lib.rt:626:29
 enum-told-5 : tie.Need-enum-told-5
 enum-told-5 c = search needs
 
--- src/lib.rt:615:1
 returns : tie.Need-returns
 unfolding headerUnits
 returns c = rw (c .enum-told .given .1)
 
--- src/lib.rt:615:1
 returns-2 : tie.Need-returns-2
 unfolding headerUnits
 returns-2 c = rw (c .enum-told2 .given .1)
 
--- src/lib.rt:615:1
 returns-3 : tie.Need-returns-3
 unfolding headerUnits
 returns-3 c = rw (c .enum-told3 .given .1)
 
--- src/lib.rt:615:1
 returns-4 : tie.Need-returns-4
 unfolding headerUnits
 returns-4 c = rw (c .enum-told4 .given .1)
 
--- src/lib.rt:615:1
 returns-5 : tie.Need-returns-5
 unfolding headerUnits
 returns-5 c = rw (c .enum-told5 .given .1)

@@ -1,86 +1,61 @@
+-- `registry::opening` meets its contract. A law for each range of the first sextet. Assumes nothing.
 use mathlib.Core.Path.{sym, _∙_}
 use Rattle.registry.proofs.Laws.{opened-letter, opened-zero, opened-one, opened-two, opened-small, opened-large, opened-group, opened-past}
 use borrow.Author.Needs.{needs}
 use Rattle.registry.proofs.opening.Statement.{statement}
 use Rattle.registry.proofs.opening.Tie as tie
-use Rattle.registry.proofs.opening.Reads as reads
-use Rattle.registry.proofs.opening.Lts as lts
-use Rattle.registry.proofs.group.Reads as group-reads
-use Rattle.registry.proofs.large_variable.Reads as large-variable-reads
-use Rattle.registry.proofs.one_letter.Reads as one-letter-reads
-use Rattle.registry.proofs.pad0.Reads as pad0-reads
-use Rattle.registry.proofs.small_variable.Reads as small-variable-reads
-use Rattle.registry.proofs.zero_letter.Reads as zero-letter-reads
 
--- src/lib.rt:604:13
 array-read-a : tie.Need-array-read-a
 array-read-a c = search needs
 
--- src/lib.rt:605:13
 array-read-b : tie.Need-array-read-b
 array-read-b c = search needs
 
--- src/lib.rt:606:13
 array-read-c : tie.Need-array-read-c
 array-read-c c = search needs
 
--- src/lib.rt:607:13
 array-read-d : tie.Need-array-read-d
 array-read-d c = search needs
 
--- src/lib.rt:609:9
 one-letter-requires : tie.Need-one-letter-requires
 one-letter-requires c κs = search needs
 
--- src/lib.rt:609:9
 returns : tie.Need-returns
 returns c = c .one-letter .ensures ∙ sym (opened-letter _ _ _ _ (search needs))
 
--- src/lib.rt:612:9
 zero-letter-requires : tie.Need-zero-letter-requires
 zero-letter-requires c κs = search needs
 
--- src/lib.rt:612:9
 returns-2 : tie.Need-returns-2
 returns-2 c = c .zero-letter .ensures ∙ sym (opened-zero _ _ _ _ (search needs))
 
--- src/lib.rt:615:9
 pad0-requires : tie.Need-pad0-requires
 pad0-requires c κs = search needs
 
--- src/lib.rt:615:9
 returns-3 : tie.Need-returns-3
 returns-3 c = c .pad0 .ensures ∙ sym (opened-one _ _ _ _ (search needs))
 
--- src/lib.rt:618:9
 returns-4 : tie.Need-returns-4
 returns-4 c = sym (opened-two _ _ _ _ (search needs) (search needs))
 
--- src/lib.rt:621:9
 small-variable-requires : tie.Need-small-variable-requires
 small-variable-requires c κs = search needs
 
--- src/lib.rt:621:9
 returns-5 : tie.Need-returns-5
 returns-5 c = c .small-variable .ensures ∙ sym (opened-small _ _ _ _ (search needs) (search needs))
 
--- src/lib.rt:624:9
 large-variable-requires : tie.Need-large-variable-requires
 large-variable-requires c κs = search needs
 
--- src/lib.rt:624:9
 returns-6 : tie.Need-returns-6
 returns-6 c = c .large-variable .ensures ∙ sym (opened-large _ _ _ _ (search needs) (search needs))
 
--- src/lib.rt:627:9
 group-requires : tie.Need-group-requires
 group-requires c κs = search needs
 
--- src/lib.rt:627:9
 returns-7 : tie.Need-returns-7
 returns-7 c = c .group .ensures ∙ sym (opened-group _ _ _ _ (search needs))
 
--- src/lib.rt:601:1
 returns-8 : tie.Need-returns-8
 returns-8 c = sym (opened-past _ _ _ _ (search needs))
 

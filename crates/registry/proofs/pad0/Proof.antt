@@ -1,27 +1,21 @@
+-- `registry::pad0` meets its contract. Assumes nothing.
 use borrow.Author.Tests.{eq-eqb, ne-eqb}
 use Rattle.registry.specs.Parts.{pad0Opening}
 use borrow.Author.Needs.{needs}
 use Rattle.registry.proofs.pad0.Statement.{statement}
 use Rattle.registry.proofs.pad0.Tie as tie
-use Rattle.registry.proofs.pad0.Reads as reads
-use Rattle.registry.proofs.pad0.Lts as lts
-use Rattle.registry.proofs.one_aa.Reads as one-aa-reads
 
--- src/lib.rt:533:13
 one-aa-requires : tie.Need-one-aa-requires
 one-aa-requires c κs = search needs
 
--- src/lib.rt:533:13
 returns : tie.Need-returns
 unfolding pad0Opening
 returns c = simp (eq-eqb _ _ (c .before .before .if1 .taken), eq-eqb _ _ (c .before .if2 .taken), c .one-aa .ensures)
 
--- src/lib.rt:528:1
 returns-2 : tie.Need-returns-2
 unfolding pad0Opening
 returns-2 c = simp (eq-eqb _ _ (c .before .if1 .taken), ne-eqb _ _ (c .if2 .left))
 
--- src/lib.rt:528:1
 returns-3 : tie.Need-returns-3
 unfolding pad0Opening
 returns-3 c = simp (ne-eqb _ _ (c .if1 .left))

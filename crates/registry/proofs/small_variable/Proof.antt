@@ -1,43 +1,32 @@
+-- `registry::small_variable` meets its contract. Assumes nothing.
 use mathlib.Core.Path.{sym, _∙_}
 use Rattle.registry.specs.Parts.{smallVariable}
 use borrow.Author.Needs.{needs}
 use Rattle.registry.proofs.small_variable.Statement.{statement}
 use Rattle.registry.proofs.small_variable.Tie as tie
-use Rattle.registry.proofs.small_variable.Reads as reads
-use Rattle.registry.proofs.small_variable.Lts as lts
-use Rattle.registry.proofs.is_type.Reads as is-type-reads
-use Rattle.registry.proofs.wide.Reads as wide-reads
 
--- src/lib.rt:530:8
 is-type-requires : tie.Need-is-type-requires
 is-type-requires c κs = search needs
 
--- src/lib.rt:531:17
 wide-requires : tie.Need-wide-requires
 wide-requires c κs = search needs
 
--- src/lib.rt:531:17
 mul-n : tie.Need-mul-n
 mul-n c = search needs
 
--- src/lib.rt:531:32
 wide-requires-2 : tie.Need-wide-requires-2
 wide-requires-2 c κs = search needs
 
--- src/lib.rt:531:17
 add-n : tie.Need-add-n
 add-n c = search needs
 
--- src/lib.rt:538:19
 add-t8 : tie.Need-add-t8
 add-t8 c = search needs
 
--- src/lib.rt:527:1
 returns : tie.Need-returns
 unfolding smallVariable
 returns c = simp (sym (c .before .before .before .is-type .ensures) ∙ c .before .before .if1 .taken, c .wide2 .ensures .0, c .before .wide .ensures .0)
 
--- src/lib.rt:527:1
 returns-2 : tie.Need-returns-2
 unfolding smallVariable
 returns-2 c = simp (sym (c .before .is-type .ensures) ∙ c .if1 .left)

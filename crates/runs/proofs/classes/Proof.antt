@@ -1,10 +1,8 @@
+-- `runs::classes` meets its contract. The table is the definition's, by one computed test. Assumes nothing.
 use Rattle.runs.proofs.Laws.{classes-are}
 use Rattle.runs.proofs.classes.Statement.{statement}
 use Rattle.runs.proofs.classes.Tie as tie
-use Rattle.runs.proofs.classes.Reads as reads
-use Rattle.runs.proofs.classes.Lts as lts
 
--- src/lib.rt:474:1
 returns : tie.Need-returns
 returns c = classes-are
 

@@ -1,23 +1,18 @@
-use borrow.Author.Tests.{lt-ltb, le-ltb, eq-eqb, ne-eqb, ltb-true}
+-- `runs::lettered` meets its contract. Assumes nothing.
+use borrow.Author.Tests.{lt-ltb, le-ltb}
 use Rattle.runs.specs.Plain.{lettered}
 use Rattle.format.specs.Registry.{isGroup}
 use borrow.Author.Needs.{needs}
 use Rattle.runs.proofs.lettered.Statement.{statement}
 use Rattle.runs.proofs.lettered.Tie as tie
-use Rattle.runs.proofs.lettered.Reads as reads
-use Rattle.runs.proofs.lettered.Lts as lts
-use Rattle.runs.proofs.counted.Reads as counted-reads
 
--- src/lib.rt:544:17
 counted-requires : tie.Need-counted-requires
 counted-requires c κs = search needs
 
--- src/lib.rt:541:1
 returns : tie.Need-returns
 unfolding lettered isGroup
 returns c = rw (lt-ltb _ _ (c .before .if1 .taken)) (c .counted .ensures)
 
--- src/lib.rt:541:1
 returns-2 : tie.Need-returns-2
 unfolding lettered isGroup
 returns-2 c = rw (le-ltb _ _ (c .if1 .left))

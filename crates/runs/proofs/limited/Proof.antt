@@ -1,22 +1,17 @@
+-- `runs::limited` meets its contract. Assumes nothing.
 use borrow.Author.Tests.{lt-ltb, le-ltb}
 use Rattle.runs.specs.Plain.{limited}
 use borrow.Author.Needs.{needs}
 use Rattle.runs.proofs.limited.Statement.{statement}
 use Rattle.runs.proofs.limited.Tie as tie
-use Rattle.runs.proofs.limited.Reads as reads
-use Rattle.runs.proofs.limited.Lts as lts
-use Rattle.runs.proofs.wide.Reads as wide-reads
 
--- src/lib.rt:205:8
 wide-requires : tie.Need-wide-requires
 wide-requires c κs = search needs
 
--- src/lib.rt:202:1
 returns : tie.Need-returns
 unfolding limited
 returns c = rw (lt-ltb _ _ (rw (c .before .wide .ensures .0) at (c .if1 .taken)))
 
--- src/lib.rt:202:1
 returns-2 : tie.Need-returns-2
 unfolding limited
 returns-2 c = rw (le-ltb _ _ (rw (c .before .wide .ensures .0) at (c .if1 .left)))

@@ -1,45 +1,33 @@
-use borrow.Author.Tests.{lt-ltb, le-ltb, eq-eqb, ne-eqb, ltb-true}
+-- `runs::row_of` meets its contract. Assumes nothing.
+use borrow.Author.Tests.{lt-ltb, le-ltb}
 use Rattle.runs.specs.Plain.{rowOf}
-use mathlib.Core.Path.{_≡_, refl, sym, ap, _∙_}
 use native.Mathlib.Omega.{arith}
 use borrow.Author.Needs.{needs}
 use Rattle.runs.proofs.row_of.Statement.{statement}
 use Rattle.runs.proofs.row_of.Tie as tie
-use Rattle.runs.proofs.row_of.Reads as reads
-use Rattle.runs.proofs.row_of.Lts as lts
-use Rattle.runs.proofs.wide.Reads as wide-reads
-use Rattle.runs.proofs.wide16.Reads as wide16-reads
 
--- src/lib.rt:500:28
 mul-wide16 : tie.Need-mul-wide16
 mul-wide16 c = search needs
 
--- src/lib.rt:500:40
 wide-requires : tie.Need-wide-requires
 wide-requires c κs = search needs
 
--- src/lib.rt:500:28
 add-wide16 : tie.Need-add-wide16
 add-wide16 c = search needs
 
--- src/lib.rt:500:23
 mul-wide16-2 : tie.Need-mul-wide16-2
 mul-wide16-2 c = search needs
 
--- src/lib.rt:500:23
 element-copy-out-wide16 : tie.Need-element-copy-out-wide16
 element-copy-out-wide16 c = search needs
 
--- src/lib.rt:500:9
 wide16-requires : tie.Need-wide16-requires
 wide16-requires c κs = search needs
 
--- src/lib.rt:500:9
 returns : tie.Need-returns
 unfolding rowOf
 returns c = (rw (lt-ltb _ _ (c .before .before .before .if1 .taken), ← (c .before .before .wide .ensures .0)) (c .wide16 .ensures .0), c .wide16 .ensures .1)
 
--- src/lib.rt:495:1
 returns-2 : tie.Need-returns-2
 unfolding rowOf
 returns-2 c = (rw (le-ltb _ _ (c .if1 .left)), omega arith)

@@ -1,10 +1,8 @@
+-- `runs::rows` meets its contract. The table is the definition's, by one computed test. Assumes nothing.
 use Rattle.runs.proofs.Laws.{table-is}
 use Rattle.runs.proofs.rows.Statement.{statement}
 use Rattle.runs.proofs.rows.Tie as tie
-use Rattle.runs.proofs.rows.Reads as reads
-use Rattle.runs.proofs.rows.Lts as lts
 
--- src/lib.rt:146:1
 returns : tie.Need-returns
 returns c = table-is
 

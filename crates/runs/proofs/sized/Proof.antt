@@ -1,68 +1,51 @@
-use borrow.Author.Tests.{lt-ltb, le-ltb, eq-eqb, ne-eqb, ltb-true}
+-- `runs::sized` meets its contract. Assumes nothing.
+use borrow.Author.Tests.{lt-ltb, le-ltb, eq-eqb, ne-eqb}
 use Rattle.runs.specs.Plain.{sizedOf}
-use mathlib.Core.Path.{_≡_, refl, sym, ap, _∙_}
+use mathlib.Core.Path.{ap}
 use Prim.Native.Nat.{ℕ, _%_}
 use borrow.Author.Needs.{needs}
 use Rattle.runs.proofs.sized.Statement.{statement}
 use Rattle.runs.proofs.sized.Tie as tie
-use Rattle.runs.proofs.sized.Reads as reads
-use Rattle.runs.proofs.sized.Lts as lts
-use Rattle.runs.proofs.lettered.Reads as lettered-reads
-use Rattle.runs.proofs.row_aa.Reads as row-aa-reads
-use Rattle.runs.proofs.row_of.Reads as row-of-reads
-use Rattle.runs.proofs.typed.Reads as typed-reads
 
--- src/lib.rt:551:16
 row-of-requires : tie.Need-row-of-requires
 row-of-requires c κs = search needs
 
--- src/lib.rt:551:9
 returns : tie.Need-returns
 unfolding sizedOf
 returns c = rw (lt-ltb _ _ (c .before .if1 .taken)) (ap (λ (m : ℕ). m % 64) (c .row-of .ensures .0))
 
--- src/lib.rt:554:16
 row-of-requires-2 : tie.Need-row-of-requires-2
 row-of-requires-2 c κs = search needs
 
--- src/lib.rt:554:9
 returns-2 : tie.Need-returns-2
 unfolding sizedOf
 returns-2 c = rw (le-ltb _ _ (c .before .before .if1 .left), eq-eqb _ _ (c .before .if2 .taken)) (ap (λ (m : ℕ). m % 64) (c .row-of2 .ensures .0))
 
--- src/lib.rt:557:16
 row-aa-requires : tie.Need-row-aa-requires
 row-aa-requires c κs = search needs
 
--- src/lib.rt:557:9
 returns-3 : tie.Need-returns-3
 unfolding sizedOf
 returns-3 c = rw (le-ltb _ _ (c .before .before .before .if1 .left), ne-eqb _ _ (c .before .before .if2 .left), eq-eqb _ _ (c .before .if3 .taken)) (ap (λ (m : ℕ). m % 64) (c .row-aa .ensures .0))
 
--- src/lib.rt:560:9
 returns-4 : tie.Need-returns-4
 unfolding sizedOf
 returns-4 c = rw (le-ltb _ _ (c .before .before .before .if1 .left), ne-eqb _ _ (c .before .before .if2 .left), ne-eqb _ _ (c .before .if3 .left), lt-ltb _ _ (c .if4 .taken))
 
--- src/lib.rt:563:9
 typed-requires : tie.Need-typed-requires
 typed-requires c κs = search needs
 
--- src/lib.rt:563:9
 returns-5 : tie.Need-returns-5
 unfolding sizedOf
 returns-5 c = rw (le-ltb _ _ (c .before .before .before .before .before .if1 .left), ne-eqb _ _ (c .before .before .before .before .if2 .left), ne-eqb _ _ (c .before .before .before .if3 .left), le-ltb _ _ (c .before .before .if4 .left), lt-ltb _ _ (c .before .if5 .taken)) (c .typed .ensures)
 
--- src/lib.rt:565:18
 lettered-requires : tie.Need-lettered-requires
 lettered-requires c κs = search needs
 
--- src/lib.rt:547:1
 returns-6 : tie.Need-returns-6
 unfolding sizedOf
 returns-6 c = rw (le-ltb _ _ (c .before .before .before .before .before .before .if1 .left), ne-eqb _ _ (c .before .before .before .before .before .if2 .left), ne-eqb _ _ (c .before .before .before .before .if3 .left), le-ltb _ _ (c .before .before .before .if4 .left), le-ltb _ _ (c .before .before .if5 .left), eq-eqb _ _ (c .before .if6 .taken)) (c .lettered .ensures)
 
--- src/lib.rt:547:1
 returns-7 : tie.Need-returns-7
 unfolding sizedOf
 returns-7 c = rw (le-ltb _ _ (c .before .before .before .before .before .if1 .left), ne-eqb _ _ (c .before .before .before .before .if2 .left), ne-eqb _ _ (c .before .before .before .if3 .left), le-ltb _ _ (c .before .before .if4 .left), le-ltb _ _ (c .before .if5 .left), ne-eqb _ _ (c .if6 .left))

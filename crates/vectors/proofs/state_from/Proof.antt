@@ -1,18 +1,17 @@
+-- `state_from` meets its contract. Assumes nothing.
 use Prim.Native.Nat.{_-_, _≤_}
 use mathlib.Core.Path.{_≡_}
 use lib.ListN.{length}
+use Rattle.exports_values.specs.Lent.{stateSize}
 use borrow.Author.Needs.{needs}
 use Rattle.vectors.proofs.state_from.Statement.{statement}
 use Rattle.vectors.proofs.state_from.Tie as tie
-use Rattle.vectors.proofs.state_from.Reads as reads
-use Rattle.vectors.proofs.state_from.Lts as lts
-use Rattle.recorded.proofs.wide.Reads as wide-reads
 
 abbrev Inv-loop : tie.InvT-loop
-Inv-loop src state₀ i₀ state i = (i ≤ 19) × (length state ≡ 19)
+Inv-loop src state₀ i₀ state i = (i ≤ stateSize) × (length state ≡ stateSize)
 
 abbrev μ-loop : tie.MeasureT-loop
-μ-loop src state₀ i₀ state i = 19 - i
+μ-loop src state₀ i₀ state i = stateSize - i
 
 -- src/main.rt:180:5
 loop-holds : tie.Need-loop-holds Inv-loop μ-loop

@@ -1,7 +1,7 @@
 //! Steps of the walk by both, from the start and from made-up states.
 
 use crate::judges::{by_proved, same, Check};
-use proved::State;
+use proved::{State, MAX_DEPTH, STATE, STATE_FIRST, STATE_OPEN, STATE_POSITION};
 use streams::{Form, Random};
 
 /// One step of both; whether an item was found. State and item must be the
@@ -31,13 +31,13 @@ pub fn one_step(stream: &[u8], form: Form, state: &mut State) -> Result<bool, St
 /// Step by step to the end or the first refusal: the offsets of the items, and
 /// where it stopped.
 pub fn from_the_start(stream: &[u8], form: Form) -> Result<Vec<usize>, String> {
-    from(stream, form, [0; 19], usize::MAX)
+    from(stream, form, [0; STATE], usize::MAX)
 }
 
 fn from(stream: &[u8], form: Form, mut state: State, most: usize) -> Result<Vec<usize>, String> {
     let mut places = Vec::new();
     while places.len() < most {
-        places.push(state[17].saturating_mul(form.unit()));
+        places.push(state[STATE_POSITION].saturating_mul(form.unit()));
         if !one_step(stream, form, &mut state)? {
             break;
         }
@@ -48,7 +48,7 @@ fn from(stream: &[u8], form: Form, mut state: State, most: usize) -> Result<Vec<
 /// A few steps from states that no walk gave, and of which many are 13.
 pub fn from_made_up(stream: &[u8], form: Form, seed: u64) -> Check {
     let mut random = Random::new(seed);
-    let mut state = [0; 19];
+    let mut state = [0; STATE];
     for _ in 0..6 {
         for _ in 0..random.below(4) {
             let mut next = state;
@@ -68,33 +68,44 @@ pub fn from_made_up(stream: &[u8], form: Form, seed: u64) -> Check {
 
 /// One condition of 13 pushed at, or a change that leaves the state fit.
 fn violate(random: &mut Random, units: usize, state: &mut State) {
-    let open = state[16].min(16);
+    let open = state[STATE_OPEN].min(MAX_DEPTH);
     let near = |random: &mut Random, n: usize| (n + random.below(3)).saturating_sub(1);
     match random.below(12) {
-        0 => state[16] = *random.pick(&[15, 16, 17, 18, 255, usize::MAX]),
-        1 => state[random.below(16)] = random.below(units + 2),
-        2 if open < 16 => state[open + random.below(16 - open)] = 1 + random.below(units + 1),
-        3 if open > 0 => state[17] = near(random, state[open - 1]),
-        4 => state[17] = *random.pick(&[units, units + 1, usize::MAX, usize::MAX / 3]),
+        0 => {
+            state[STATE_OPEN] = *random.pick(&[
+                MAX_DEPTH - 1,
+                MAX_DEPTH,
+                MAX_DEPTH + 1,
+                MAX_DEPTH + 2,
+                255,
+                usize::MAX,
+            ])
+        }
+        1 => state[random.below(MAX_DEPTH)] = random.below(units + 2),
+        2 if open < MAX_DEPTH => {
+            state[open + random.below(MAX_DEPTH - open)] = 1 + random.below(units + 1)
+        }
+        3 if open > 0 => state[STATE_POSITION] = near(random, state[open - 1]),
+        4 => state[STATE_POSITION] = *random.pick(&[units, units + 1, usize::MAX, usize::MAX / 3]),
         5 if open > 1 => state[open - 1] = near(random, state[open - 2]),
         6 if open > 0 => state[0] = *random.pick(&[units, units + 1, usize::MAX]),
-        7 => state[18] = *random.pick(&[0, 1, 1, 2, usize::MAX]),
-        8 => state[17] = random.below(units + 1),
-        9 => state[16] = near(random, state[16]),
+        7 => state[STATE_FIRST] = *random.pick(&[0, 1, 1, 2, usize::MAX]),
+        8 => state[STATE_POSITION] = random.below(units + 1),
+        9 => state[STATE_OPEN] = near(random, state[STATE_OPEN]),
         10 => deepen(random, units, state),
-        _ => state[random.below(19)] = random.below(units + 3),
+        _ => state[random.below(STATE)] = random.below(units + 3),
     }
 }
 
 /// Any number open, ends in order, the position somewhere before them.
 fn deepen(random: &mut Random, units: usize, state: &mut State) {
-    *state = [0; 19];
-    state[16] = random.below(17);
+    *state = [0; STATE];
+    state[STATE_OPEN] = random.below(MAX_DEPTH + 1);
     let mut end = units;
-    for slot in 0..state[16] {
+    for slot in 0..state[STATE_OPEN] {
         end -= random.below(3).min(end);
         state[slot] = end;
     }
-    state[17] = random.below(end + 1);
-    state[18] = random.below(2);
+    state[STATE_POSITION] = random.below(end + 1);
+    state[STATE_FIRST] = random.below(2);
 }

@@ -1,0 +1,111 @@
+-- The walk over a state that C lends: numbers, which are the ends of the groups open, as many as may be, the number open, the position
+-- and the first-item mark (0 or 1), in units. Assumes nothing.
+use Prim.Native.Nat.{ℕ, _+_}
+use mathlib.Core.List.{List, [], _∷_, _++_, map}
+use lib.ListN.{getD}
+use lib.Dec.{ltb, eqb}
+use Rattle.base.specs.Pick.{pick}
+use Rattle.base.specs.Lists.{upTo}
+use Rattle.format.specs.Alphabet.{charOf}
+use Rattle.format.specs.Judging.{maxDepth}
+use Rattle.format.specs.declared.Kind.{Kind}
+use Rattle.format.specs.declared.Kind.the-variants.{Fixed, Variable, Group, Genus}
+use Rattle.walk.specs.declared.Walk.{Walk}
+use Rattle.walk.specs.declared.TextItem.{TextItem}
+use Rattle.walk.specs.declared.TextItem.the-variants as T
+use Rattle.walk.specs.declared.BinaryItem.{BinaryItem}
+use Rattle.walk.specs.declared.BinaryItem.the-variants as B
+
+-- ---- the state as numbers
+
+abbrev pub stateSize : ℕ
+stateSize = maxDepth + 3
+
+-- one more than may be open, which is 13 over every stream
+abbrev pub tooMany : ℕ
+tooMany = maxDepth + 1
+
+-- as many of a list as may be open
+unfoldable pub slotsOf : List ℕ → List ℕ
+slotsOf s = map (λ i. getD s i 0) (upTo maxDepth)
+
+-- a mark that is neither 0 nor 1 is no state's
+unfoldable pub walkOf : List ℕ → Walk
+walkOf s = record {
+  ends = slotsOf s;
+  depth = pick (ltb 1 (getD s (maxDepth + 2) 0)) tooMany (getD s maxDepth 0);
+  at = getD s (maxDepth + 1) 0;
+  first = eqb (getD s (maxDepth + 2) 0) 1;
+}
+
+unfoldable pub stateOf : Walk → List ℕ
+stateOf w = slotsOf (w .ends) ++ (w .depth ∷ w .at ∷ pick (w .first) 1 0 ∷ [])
+
+-- ---- an item's code as three numbers
+
+-- chars as for reading and writing; 7 for a small group, 8 for a large one, 9 for a genus/version; h: the header's units
+unfoldable pub sortOf : Kind → ℕ → ℕ
+sortOf (Fixed c) h = c .chars
+sortOf (Variable t lead count) h = pick (eqb h 1) 5 6
+sortOf (Group letter) h = pick (eqb h 1) 7 8
+sortOf Genus h = 9
+
+-- the letter as a character; a genus/version has none
+unfoldable pub signOf : Kind → ℕ
+signOf (Fixed c) = charOf (c .letter)
+signOf (Variable t lead count) = charOf t
+signOf (Group letter) = charOf letter
+signOf Genus = 0
+
+-- a variable's lead bytes, which tell its selector
+unfoldable pub leadOf : Kind → ℕ
+leadOf (Fixed c) = 0
+leadOf (Variable t lead count) = lead
+leadOf (Group letter) = 0
+leadOf Genus = 0
+
+-- ---- a step's answer: 0 for an item, 255 for the end, or 01's number and the place
+
+unfoldable pub itemOf : ℕ → ℕ → ℕ → Kind → ℕ → List ℕ
+itemOf offset size depth k h = offset ∷ size ∷ depth ∷ sortOf k h ∷ signOf k ∷ leadOf k ∷ []
+
+unfoldable pub textStepNumber : TextItem → ℕ
+textStepNumber (T.Item o n d k h) = 0
+textStepNumber (T.Refused number place) = number
+textStepNumber T.End = 255
+
+unfoldable pub textStepValue : TextItem → ℕ
+textStepValue (T.Item o n d k h) = 0
+textStepValue (T.Refused number place) = place .0
+textStepValue T.End = 0
+
+-- what a place that held before holds afterwards: a refusal and the end leave it
+unfoldable pub textYieldLeft : TextItem → List ℕ → List ℕ
+textYieldLeft (T.Item o n d k h) before = itemOf (o .0) (n .0) d k h
+textYieldLeft (T.Refused number place) before = before
+textYieldLeft T.End before = before
+
+unfoldable pub textStateLeft : TextItem → Walk → List ℕ → List ℕ
+textStateLeft (T.Item o n d k h) w before = stateOf w
+textStateLeft (T.Refused number place) w before = before
+textStateLeft T.End w before = before
+
+unfoldable pub binaryStepNumber : BinaryItem → ℕ
+binaryStepNumber (B.Item o n d k h) = 0
+binaryStepNumber (B.Refused number place) = number
+binaryStepNumber B.End = 255
+
+unfoldable pub binaryStepValue : BinaryItem → ℕ
+binaryStepValue (B.Item o n d k h) = 0
+binaryStepValue (B.Refused number place) = place .0
+binaryStepValue B.End = 0
+
+unfoldable pub binaryYieldLeft : BinaryItem → List ℕ → List ℕ
+binaryYieldLeft (B.Item o n d k h) before = itemOf (o .0) (n .0) d k h
+binaryYieldLeft (B.Refused number place) before = before
+binaryYieldLeft B.End before = before
+
+unfoldable pub binaryStateLeft : BinaryItem → Walk → List ℕ → List ℕ
+binaryStateLeft (B.Item o n d k h) w before = stateOf w
+binaryStateLeft (B.Refused number place) w before = before
+binaryStateLeft B.End w before = before

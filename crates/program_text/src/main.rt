@@ -1,0 +1,34 @@
+// Reads a text stream of at most 8,192 bytes from standard input and writes its report, or for a longer one the single byte 01. Where
+// a read fails it writes nothing.
+use libc::STDOUT_FILENO;
+use program::Input;
+ghost use mathlib.Core.Path.{_≡_};
+ghost use lib.ListN.{length};
+
+// One byte more than a stream may have.
+fn space() -> [u8; 8193]
+    ensures { λ r. ⌜ 8193 ≡ length r ⌝ }
+{
+    [0; 8193]
+}
+
+// 17 + 18 x 2,730: every report of 8,192 bytes.
+fn room() -> [u8; 49157]
+    ensures { λ r. ⌜ 49157 ≡ length r ⌝ }
+{
+    [0; 49157]
+}
+
+fn print(s: &[u8]) {
+    let mut out = room();
+    let n = program::answer_text(s, &mut out);
+    io::write_all(STDOUT_FILENO, &out[..n]);
+}
+
+fn main() {
+    let mut buffer = space();
+    match program::read_stream(&mut buffer) {
+        Input::Failed => {}
+        Input::Whole(n) => print(&buffer[..n]),
+    }
+}

@@ -1,0 +1,39 @@
+use Rattle.format.specs.Reading.{isPrimitive}
+use borrow.Author.Needs.{needs}
+use Rattle.reading_item.proofs.is_primitive.Statement.{statement}
+use Rattle.reading_item.proofs.is_primitive.Tie as tie
+use Rattle.reading_item.proofs.is_primitive.Reads as reads
+use Rattle.reading_item.proofs.is_primitive.Lts as lts
+
+enum-told : tie.Need-enum-told
+enum-told c = search needs
+
+enum-told-2 : tie.Need-enum-told-2
+enum-told-2 c = search needs
+
+enum-told-3 : tie.Need-enum-told-3
+enum-told-3 c = search needs
+
+enum-told-4 : tie.Need-enum-told-4
+enum-told-4 c = search needs
+
+returns : tie.Need-returns
+unfolding isPrimitive
+returns c = rw (c .enum-told .given .1)
+
+returns-2 : tie.Need-returns-2
+unfolding isPrimitive
+returns-2 c = rw (c .enum-told2 .given .1)
+
+returns-3 : tie.Need-returns-3
+unfolding isPrimitive
+returns-3 c = rw (c .enum-told3 .given .1)
+
+returns-4 : tie.Need-returns-4
+unfolding isPrimitive
+returns-4 c = rw (c .enum-told4 .given .1)
+
+pub is-primitive-spec : {M : Type 1} → statement M
+is-primitive-spec =
+    tie.close
+    (tie.spec enum-told enum-told-2 enum-told-3 enum-told-4 returns returns-2 returns-3 returns-4)

@@ -1,0 +1,52 @@
+use Rattle.format.specs.Reading.{tagsOf}
+use borrow.Author.Needs.{needs}
+use Rattle.reading_item.proofs.tags_of.Statement.{statement}
+use Rattle.reading_item.proofs.tags_of.Tie as tie
+use Rattle.reading_item.proofs.tags_of.Reads as reads
+use Rattle.reading_item.proofs.tags_of.Lts as lts
+use Rattle.reading_item.proofs.wide.Reads as wide-reads
+
+enum-known-kind : tie.Need-enum-known-kind
+enum-known-kind c = search needs
+
+wide-requires : tie.Need-wide-requires
+wide-requires c κs = search needs
+
+enum-told : tie.Need-enum-told
+enum-told c = search needs
+
+enum-told-2 : tie.Need-enum-told-2
+enum-told-2 c = search needs
+
+enum-told-3 : tie.Need-enum-told-3
+enum-told-3 c = search needs
+
+returns : tie.Need-returns
+unfolding tagsOf
+returns c = rw (c .before .before .kind .given .1, c .wide .ensures .0)
+
+returns-2 : tie.Need-returns-2
+unfolding tagsOf
+returns-2 c = rw (c .enum-told .given .1)
+
+returns-3 : tie.Need-returns-3
+unfolding tagsOf
+returns-3 c = rw (c .enum-told2 .given .1)
+
+returns-4 : tie.Need-returns-4
+unfolding tagsOf
+returns-4 c = rw (c .enum-told3 .given .1)
+
+pub tags-of-spec : {M : Type 1} → statement M
+tags-of-spec =
+    tie.close
+    (tie.spec
+    enum-known-kind
+    wide-requires
+    enum-told
+    enum-told-2
+    enum-told-3
+    returns
+    returns-2
+    returns-3
+    returns-4)

@@ -1,0 +1,91 @@
+-- `reading_raw::copy_within` meets its contract: the last two bytes of a unit or the last one, and the units behind it. Assumes nothing.
+use Prim.Native.Nat.{_/_}
+use native.Mathlib.Omega.{arith}
+use lib.ListN.{length-set}
+use Rattle.reading_raw.proofs.Copying.{copied-two, copied-one}
+use borrow.Author.Needs.{needs}
+use Rattle.reading_raw.proofs.copy_within.Statement.{statement}
+use Rattle.reading_raw.proofs.copy_within.Tie as tie
+use Rattle.reading_raw.proofs.copy_within.Reads as reads
+use Rattle.reading_raw.proofs.copy_within.Lts as lts
+use Rattle.reading_raw.proofs.copy_units.Reads as copy-units-reads
+use Rattle.reading_raw.proofs.triplet_at.Reads as triplet-at-reads
+
+mul-unit : tie.Need-mul-unit
+mul-unit c = search needs
+
+triplet-at-requires : tie.Need-triplet-at-requires
+triplet-at-requires c κs = search needs
+
+array-read-out : tie.Need-array-read-out
+array-read-out c = search needs
+
+slice-write-out : tie.Need-slice-write-out
+slice-write-out c = search needs
+
+array-read-out-2 : tie.Need-array-read-out-2
+array-read-out-2 c = search needs
+
+slice-write-out-2 : tie.Need-slice-write-out-2
+slice-write-out-2 c = simp length-set (omega arith)
+
+add-copy-units : tie.Need-add-copy-units
+add-copy-units c = search needs
+
+copy-units-requires : tie.Need-copy-units-requires
+copy-units-requires c κs = simp length-set (omega arith, omega arith)
+
+same-length : tie.Need-same-length
+same-length c = omega (arith, simp length-set at (c .before .before .copy-units .kept .1))
+
+returns : tie.Need-returns
+returns c =
+    let t = c .before .before .before .before .before in
+    let s = t .before .before .before in
+    let a = s .args in
+    λ f. copied-two (a .item .now) (a .out .now) (a .start) (a .start / 3) (s .pre .1) (s .pre .2) (t .triplet-at .result) (t .triplet-at .ensures) (omega arith) (omega arith) _
+    (c .before .before .copy-units .ensures f (omega arith) (simp length-set (omega (arith, f .whole))))
+
+array-read-out-3 : tie.Need-array-read-out-3
+array-read-out-3 c = search needs
+
+slice-write-out-3 : tie.Need-slice-write-out-3
+slice-write-out-3 c = search needs
+
+add-copy-units-2 : tie.Need-add-copy-units-2
+add-copy-units-2 c = search needs
+
+copy-units-requires-2 : tie.Need-copy-units-requires-2
+copy-units-requires-2 c κs = simp length-set (omega arith, omega arith)
+
+same-length-2 : tie.Need-same-length-2
+same-length-2 c = omega (arith, simp length-set at (c .before .before .copy-units2 .kept .1))
+
+returns-2 : tie.Need-returns-2
+returns-2 c =
+    let t = c .before .before .before .before .before in
+    let s = t .before .before .before in
+    let a = s .args in
+    λ f. copied-one (a .item .now) (a .out .now) (a .start) (a .start / 3) (s .pre .1) (s .pre .2) (t .triplet-at .result) (t .triplet-at .ensures) (omega arith) (omega arith) _
+    (c .before .before .copy-units2 .ensures f (omega arith) (simp length-set (omega (arith, f .whole))))
+
+pub copy-within-spec : {M : Type 1} → statement M
+copy-within-spec =
+    tie.close
+    (tie.spec
+    mul-unit
+    triplet-at-requires
+    array-read-out
+    slice-write-out
+    array-read-out-2
+    slice-write-out-2
+    add-copy-units
+    copy-units-requires
+    same-length
+    returns
+    array-read-out-3
+    slice-write-out-3
+    add-copy-units-2
+    copy-units-requires-2
+    same-length-2
+    returns-2)

@@ -1,0 +1,186 @@
+-- What the fast way's steps say, over either form. Assumes nothing.
+use Prim.Native.Nat.{ℕ, zero, suc, _+_, _-_, _*_, _/_, _≤_, _<_, min}
+use mathlib.Core.Path.{_≡_, refl, sym, ap, _∙_}
+use mathlib.Core.Bool.{Bool, true, false}
+use mathlib.Core.List.{List}
+use native.Mathlib.Omega.{arith}
+use lib.Dec.{ltb, eqb}
+use native.Mathlib.Nat.{mul-comm, mul-le-mul-left, le-trans, min-le-left}
+use lib.ListN.{length, take, drop, length-drop}
+use lib.Seq.{getD-drop, getD-take}
+use borrow.Author.Tests.{ltb-true, eqb-true}
+use Rattle.base.specs.Pick.{pick}
+use Rattle.format.specs.declared.Form.{Form}
+use Rattle.format.specs.declared.Verdict.the-variants.{Accepted}
+use Rattle.format.specs.declared.Kind.{Kind}
+use Rattle.format.specs.declared.Framed.the-variants.{Item}
+use Rattle.format.specs.Units.{Domain, domain}
+use Rattle.format.specs.Framing.{frameRuled, scale}
+use Rattle.format.specs.Judging.{frameRuled4, maxDepth}
+use Rattle.damage.specs.Words.{Agree}
+use Rattle.laws.specs.Framing.{unscale}
+use Rattle.laws.specs.Frames.{frames-ruled4}
+use Rattle.format.specs.Registry.{isOverrideable}
+use Rattle.laws.specs.Domains.{reader}
+use Rattle.laws.specs.Levels.{part, any-item, item-sizes, level, level-end, Taken, taken-sizes}
+use Rattle.runs.specs.Plain.{plainTable, plainAt, groupAt, letterAt, nested}
+use Rattle.runs.specs.Levels.{Clear, clear-less, plain-taken, plain-level, group-taken, Nested, nested-level}
+use Rattle.report_item.specs.Items.{Inside, Takes}
+use native.Mathlib.Nat.{pos-of-ne-zero}
+use Rattle.report_item.proofs.Laws.{wide, in-units, judged-good, Left, left-more}
+use Rattle.report_first.specs.First.{Lent}
+use Rattle.report_fast.specs.Fast.{Ready, Good, Accepts}
+
+-- ---- groups one in the other
+
+-- the innermost
+nested-last : (g : ℕ → ℕ) (stop n at d : ℕ) → nested g stop n at ≡ suc d → (g (at + d) ≡ stop - (at + d)) × (at + d < stop)
+unfolding nested
+nested-last g stop zero at d e = absurd (omega arith)
+nested-last g stop (suc n) at d e = go (λ k q. nested-last g stop n (at + 1) k q) (ltb at stop) (eqb (g at) (stop - at)) refl refl e
+  where
+    inner : ((k : ℕ) → nested g stop n (at + 1) ≡ suc k → (g (at + 1 + k) ≡ stop - (at + 1 + k)) × (at + 1 + k < stop)) → (d : ℕ)
+        → g at ≡ stop - at → at < stop → nested g stop n (at + 1) ≡ d → (g (at + d) ≡ stop - (at + d)) × (at + d < stop)
+    inner rest zero p q r = let z : at + 0 ≡ at = omega arith in rw z (p, q)
+    inner rest (suc d) p q r = let z : at + suc d ≡ at + 1 + d = omega arith in rw z (rest d r)
+
+    go : ((k : ℕ) → nested g stop n (at + 1) ≡ suc k → (g (at + 1 + k) ≡ stop - (at + 1 + k)) × (at + 1 + k < stop)) → (x y : Bool)
+        → ltb at stop ≡ x → eqb (g at) (stop - at) ≡ y → pick x (pick y (suc (nested g stop n (at + 1))) 0) 0 ≡ suc d
+        → (g (at + d) ≡ stop - (at + d)) × (at + d < stop)
+    go rest false y p q r = absurd (omega arith)
+    go rest true false p q r = absurd (omega arith)
+    go rest true true p q r = inner rest d (eqb-true _ _ q) (ltb-true _ _ p) (omega arith)
+
+module _ (f : Form) (values classes rows s : List ℕ) (l at stop : ℕ) (I : Inside (domain f) s at stop) (lt : at < stop)
+    (R : Ready f values classes rows s at stop) where
+  abbrev own : List ℕ
+  own = domain f .sextets s
+
+  long : 4 * stop ≤ length own
+  long = wide f s l false at stop I
+
+  module _ (d : ℕ) (N : stop ≤ length s / domain f .unit → nested (groupAt own) stop (l - 1) (at + 1) ≡ d) (g : groupAt own at ≡ stop - at) where
+    n : nested (groupAt own) stop (l - 1) (at + 1) ≡ d
+    n = N (in-units (domain f) (reader f) s at stop I)
+
+    from-in : Clear own (at + 1) stop
+    from-in = clear-less own at stop (at + 1) stop (R .clear) (omega arith) (omega arith)
+
+    around : 0 < d → Nested own stop long (at + 1) from-in (l - 1) (isOverrideable (letterAt own at)) (at + 1) d
+    around p = nested-level own stop long (at + 1) from-in (l - 1) (isOverrideable (letterAt own at)) (at + 1) d (omega arith) n p
+
+    pub nest-fits : (at + 1 + d ≤ stop) × (d ≤ l - 1)
+    nest-fits = go d refl
+      where
+        go : (k : ℕ) → d ≡ k → (at + 1 + d ≤ stop) × (d ≤ l - 1)
+        go zero z = (omega arith, omega arith)
+        go (suc k) z = let a = around (omega arith) in (a .fits, a .few)
+
+    -- the innermost is a group
+    pub nest-group : 0 < groupAt own (at + d)
+    nest-group = go d refl
+      where
+        go : (k : ℕ) → d ≡ k → 0 < groupAt own (at + d)
+        go zero z = let y : at + d ≡ at = omega arith in rw (y, g) (omega arith)
+        go (suc k) z =
+            let a = nested-last (groupAt own) stop (l - 1) (at + 1) k (n ∙ z) in
+            let y : at + d ≡ at + 1 + k = omega arith in
+            rw (y, a .0) (omega (arith, a .1))
+
+    -- what is inside it says all
+    pub nest-rest : (m : Bool) → m ≡ isOverrideable (letterAt own (at + d)) → level own (l - 1 - d) m (at + 1 + d) stop ≡ Accepted
+        → level own (l - 1) (isOverrideable (letterAt own at)) (at + 1) stop ≡ Accepted
+    nest-rest m q v = go d refl
+      where
+        go : (k : ℕ) → d ≡ k → level own (l - 1) (isOverrideable (letterAt own at)) (at + 1) stop ≡ Accepted
+        go zero z =
+            let x : l - 1 - d ≡ l - 1 = omega arith in
+            let y : at + d ≡ at = omega arith in
+            let w : at + 1 + d ≡ at + 1 = omega arith in
+            rw (q, x, y, w) at v
+        go (suc k) z =
+            let y : at + 1 + d - 1 ≡ at + d = omega arith in
+            around (omega arith) .leaves ∙ rw (y, ← q) v
+
+    -- a plain primitive, or nothing, is accepted
+    pub nest-plain : plainAt plainTable own (at + 1 + d) ≡ stop - (at + 1 + d)
+        → level own (l - 1) (isOverrideable (letterAt own at)) (at + 1) stop ≡ Accepted
+    nest-plain q = nest-rest (isOverrideable (letterAt own (at + d))) refl (all-plain (stop - (at + 1 + d)) refl)
+      where
+        all-plain : (k : ℕ) → stop - (at + 1 + d) ≡ k → level own (l - 1 - d) (isOverrideable (letterAt own (at + d))) (at + 1 + d) stop ≡ Accepted
+        all-plain zero z = let y : at + 1 + d ≡ stop = omega (arith, nest-fits) in rw y (level-end own (l - 1 - d) _ stop)
+        all-plain (suc k) z =
+            let y : at + 1 + d + (stop - (at + 1 + d)) ≡ stop = omega (arith, nest-fits) in
+            plain-level own (l - 1 - d) stop long _ (at + 1 + d) (stop - (at + 1 + d)) stop q (omega arith) (omega arith)
+            (clear-less own at stop (at + 1 + d) stop (R .clear) (omega arith) (omega arith)) (omega arith)
+            ∙ rw y (level-end own (l - 1 - d) false stop)
+
+  -- ---- the next item
+
+  pub by-group : (first : Bool) (n : ℕ) → groupAt own at ≡ n → 0 < n → n ≤ stop - at → 0 < l → (m : Bool) → m ≡ isOverrideable (letterAt own at)
+      → level own (l - 1) m (at + 1) (at + n) ≡ Accepted → Takes own l first at stop n
+  by-group first n e p h q m z v _ = group-taken own l stop long first at n stop e p (omega arith) q (R .clear) lt (rw z at v)
+
+  pub by-plain : (first : Bool) (k : ℕ) → plainAt plainTable own at ≡ k → k ≤ stop - at → Takes own l first at stop k
+  by-plain first k e h p = plain-taken own l stop long first at k stop e p (omega arith) (R .clear) (omega arith)
+
+pub ready-part : (f : Form) (values classes rows s : List ℕ) (at stop i to : ℕ) → Ready f values classes rows s at stop → at ≤ i → to ≤ stop
+    → Ready f values classes rows s i to
+ready-part f values classes rows s at stop i to R a b =
+    record { lent = R .lent; clear = clear-less (domain f .sextets s) at stop i to (R .clear) a b }
+
+-- ---- a turn of the loop over a group's items
+
+pub turn-left : (f : Form) (s : List ℕ) (l : ℕ) (first : Bool) (at stop : ℕ) → Inside (domain f) s at stop → (ruled : Bool) (i n : ℕ)
+    → Takes (domain f .sextets s) l ruled i stop n → ((n ≡ 0) → ⊥) → Left (domain f .sextets s) l first at stop ruled i
+    → Left (domain f .sextets s) l first at stop false (i + n)
+turn-left f s l first at stop I ruled i n t p w =
+    left-more (domain f .sextets s) l first at stop ruled i w n (wide f s l first at stop I) (t (omega (arith, pos-of-ne-zero p)))
+
+-- ---- at top level
+
+-- an item is framed alike where more follows
+ruled-further : (x y : List ℕ) (k : Kind) (h n : ℕ) → frameRuled x ≡ Item k h n → Agree (h * 4) x y → n * 4 ≤ length y → frameRuled y ≡ Item k h n
+unfolding frameRuled4 scale
+ruled-further x y k h n e ag room =
+    let q = unscale 4 (frameRuled y) (frames-ruled4 .alike x y k (h * 4) (n * 4) (ap (scale 4) e) ag room) in
+    let a : q .0 ≡ h = omega (arith, q .3) in
+    let b : q .1 ≡ n = omega (arith, q .4) in
+    q .2 ∙ rw (a, b)
+
+-- a taken item, of the stream
+pub taken-good : (f : Form) (s : List ℕ) (at stop r : ℕ) → Inside (domain f) s at stop → Taken (domain f .sextets s) maxDepth true at stop r
+    → Good (domain f) s at r
+taken-good f s at stop r I t =
+    let d : Domain = domain f in
+    let S : List ℕ = d .sextets s in
+    let long = wide f s maxDepth true at stop I in
+    let b = item-sizes (part S at stop) (t .kind) (t .head) r (any-item true (part S at stop) (t .kind) (t .head) r (t .framed)) in
+    let w = taken-sizes S maxDepth true at stop r long (I .order) t in
+    let u : d .unit * at ≡ at * d .unit = mul-comm (d .unit) at in
+    let z : at * 4 ≡ 4 * at = omega arith in
+    let rest : d .sextets (drop (d .unit * at) s) ≡ drop (4 * at) S =
+    rw u (reader f .dropped s at (rw (← u) (le-trans (mul-le-mul-left (d .unit) (I .order)) (I .room))) ∙ rw z) in
+    let more : frameRuled (drop (4 * at) S) ≡ Item (t .kind) (t .head) r =
+    ruled-further (part S at stop) (drop (4 * at) S) (t .kind) (t .head) r (t .framed)
+    (λ i h. getD-drop (4 * at) S i 0 ∙ sym (getD-drop (4 * at) (take (4 * stop) S) i 0 ∙ getD-take (4 * stop) S (4 * at + i) 0 (omega (arith, b .1, w .1))))
+    (omega (arith, length-drop (4 * at) S, w .1)) in
+    let framed : frameRuled (d .sextets (drop (d .unit * at) s)) ≡ Item (t .kind) (t .head) r = rw rest more in
+    record { kind = t .kind; head = t .head; framed = framed; judged = judged-good d (reader f) s at r (t .kind) (t .head) framed (t .judged) }
+
+pub top-good : (f : Form) (values classes rows s : List ℕ) (at clean units stop r : ℕ) → stop ≡ min clean units → Inside (domain f) s at stop
+    → (Ready f values classes rows s at stop → Takes (domain f .sextets s) maxDepth true at stop r) → Lent values classes rows
+    → Clear (domain f .sextets s) at clean → Accepts (domain f) s at r
+top-good f values classes rows s at clean units stop r e I t L K p =
+    taken-good f s at stop r I
+    (t (record { lent = L; clear = clear-less (domain f .sextets s) at clean at stop K (omega arith) (omega (arith, min-le-left clean units)) }) p)
+
+pub group-good : (f : Form) (values classes rows s : List ℕ) (at size clean : ℕ) → Inside (domain f) s at (at + size) → 0 < size → at + size ≤ clean → (r : Bool)
+    → (Ready f values classes rows s at (at + size) → groupAt (domain f .sextets s) at ≡ at + size - at → r ≡ true
+    → level (domain f .sextets s) (maxDepth - 1) (isOverrideable (letterAt (domain f .sextets s) at)) (at + 1) (at + size) ≡ Accepted)
+    → Lent values classes rows → Clear (domain f .sextets s) at clean → groupAt (domain f .sextets s) at ≡ size → r ≡ true → Good (domain f) s at size
+group-good f values classes rows s at size clean I p h r v L K e t =
+    let R : Ready f values classes rows s at (at + size) = record { lent = L; clear = clear-less (domain f .sextets s) at clean at (at + size) K (omega arith) h } in
+    let z : size ≡ at + size - at = omega arith in
+    taken-good f s at (at + size) size I
+    (by-group f values classes rows s maxDepth at (at + size) I (omega arith) R true size e p (omega arith) (omega arith) _ refl (v R (e ∙ z) t) p)

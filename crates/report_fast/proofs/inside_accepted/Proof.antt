@@ -1,0 +1,75 @@
+use mathlib.Core.Path.{_∙_}
+use native.Mathlib.Omega.{arith}
+use Rattle.format.specs.Judging.{maxDepth}
+use Rattle.report_item.proofs.Laws.{inside-part}
+use Rattle.report_fast.proofs.Laws.{nest-plain, nest-rest, nest-group, ready-part}
+use borrow.Author.Needs.{needs}
+use Rattle.report_fast.proofs.inside_accepted.Statement.{statement}
+use Rattle.report_fast.proofs.inside_accepted.Tie as tie
+use Rattle.report_fast.proofs.inside_accepted.Reads as reads
+use Rattle.report_fast.proofs.inside_accepted.Lts as lts
+use Rattle.report_fast.proofs.accepts.Reads as accepts-reads
+use Rattle.report_first.proofs.marks.Reads as marks-reads
+use Rattle.report_first.proofs.nested.Reads as nested-reads
+use Rattle.report_first.proofs.plain.Reads as plain-reads
+
+add-nested : tie.Need-add-nested
+add-nested c = search needs
+
+sub-nested : tie.Need-sub-nested
+sub-nested c = search needs
+
+nested-requires : tie.Need-nested-requires
+nested-requires c κs = search needs
+
+add-i : tie.Need-add-i
+add-i c = search needs
+
+add-i-2 : tie.Need-add-i-2
+add-i-2 c = let h = c .nested .ensures .1 in search needs
+
+plain-requires : tie.Need-plain-requires
+plain-requires c κs = search needs
+
+sub-if1 : tie.Need-sub-if1
+sub-if1 c = omega (arith, c .before .nested .ensures .1, c .before .before .before .pre .1)
+
+returns : tie.Need-returns
+returns c = λ R g e. nest-plain (c .before .before .before .before .args .form) (c .before .before .before .before .args .values .now) (c .before .before .before .before .args .classes .now) (c .before .before .before .before .args .rows .now) (c .before .before .before .before .args .s .now) maxDepth (c .before .before .before .before .args .at) (c .before .before .before .before .args .stop) (c .before .before .before .before .pre .0) (c .before .before .before .before .pre .1) R _ (c .before .before .nested .ensures .2 (R .lent)) g (c .before .plain .ensures (R .lent) ∙ c .if1 .taken)
+
+add-marks : tie.Need-add-marks
+add-marks c = let h = c .before .before .nested .ensures .1 in search needs
+
+marks-requires : tie.Need-marks-requires
+marks-requires c κs = search needs
+
+sub-accepts : tie.Need-sub-accepts
+sub-accepts c = search needs
+
+sub-accepts-2 : tie.Need-sub-accepts-2
+sub-accepts-2 c = c .before .before .before .nested .ensures .0
+
+accepts-requires : tie.Need-accepts-requires
+accepts-requires c κs = let h = c .before .before .before .nested .ensures .1 in inside-part _ _ _ _ _ _ (c .before .before .before .before .before .pre .0) (omega (arith, c .before .before .before .before .before .pre .1)) (omega arith)
+
+returns-2 : tie.Need-returns-2
+returns-2 c = λ R g e. nest-rest (c .before .before .before .before .before .before .args .form) (c .before .before .before .before .before .before .args .values .now) (c .before .before .before .before .before .before .args .classes .now) (c .before .before .before .before .before .before .args .rows .now) (c .before .before .before .before .before .before .args .s .now) maxDepth (c .before .before .before .before .before .before .args .at) (c .before .before .before .before .before .before .args .stop) (c .before .before .before .before .before .before .pre .0) (c .before .before .before .before .before .before .pre .1) R _ (c .before .before .before .before .nested .ensures .2 (R .lent)) g _ (c .before .marks .ensures (R .lent) (nest-group (c .before .before .before .before .before .before .args .form) (c .before .before .before .before .before .before .args .values .now) (c .before .before .before .before .before .before .args .classes .now) (c .before .before .before .before .before .before .args .rows .now) (c .before .before .before .before .before .before .args .s .now) maxDepth (c .before .before .before .before .before .before .args .at) (c .before .before .before .before .before .before .args .stop) (c .before .before .before .before .before .before .pre .0) (c .before .before .before .before .before .before .pre .1) R _ (c .before .before .before .before .nested .ensures .2 (R .lent)) g)) (c .accepts .ensures (ready-part _ _ _ _ _ _ _ _ _ R (omega arith) (omega arith)) e)
+
+pub inside-accepted-spec : {M : Type 1} → statement M
+inside-accepted-spec =
+    tie.close
+    (tie.spec
+    add-nested
+    sub-nested
+    nested-requires
+    add-i
+    add-i-2
+    plain-requires
+    sub-if1
+    returns
+    add-marks
+    marks-requires
+    sub-accepts
+    sub-accepts-2
+    accepts-requires
+    returns-2)

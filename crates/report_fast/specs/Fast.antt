@@ -1,0 +1,31 @@
+-- What the fast way asks, and what it says of the item at a unit of a stream. Assumes nothing.
+use Prim.Native.Nat.{ℕ, _*_, _<_}
+use mathlib.Core.Path.{_≡_}
+use mathlib.Core.List.{List}
+use lib.ListN.{take, drop}
+use Rattle.format.specs.declared.Form.{Form}
+use Rattle.format.specs.declared.Kind.{Kind}
+use Rattle.format.specs.declared.Framed.the-variants.{Item}
+use Rattle.format.specs.declared.Verdict.the-variants.{Accepted}
+use Rattle.format.specs.Units.{Domain, domain}
+use Rattle.format.specs.Framing.{frameRuled}
+use Rattle.format.specs.Judging.{shift}
+use Rattle.format.specs.Report.{judgeIn}
+use Rattle.runs.specs.Levels.{Clear}
+use Rattle.report_first.specs.First.{Lent}
+
+-- the tables are right, and all from a unit to another is known
+pub record Ready (f : Form) (values classes rows s : List ℕ) (at stop : ℕ) : Type 0 where
+  pub lent : Lent values classes rows
+  pub clear : Clear (domain f .sextets s) at stop
+
+-- the item at a unit of a stream is framed as at top level, has r units, and its own bytes are accepted
+pub record Good (d : Domain) (xs : List ℕ) (at r : ℕ) : Type 0 where
+  pub kind : Kind
+  pub head : ℕ
+  pub framed : frameRuled (d .sextets (drop (d .unit * at) xs)) ≡ Item kind head r
+  pub judged : Accepted ≡ shift (d .unit * at) (judgeIn d (take (d .unit * r) (drop (d .unit * at) xs)))
+
+-- one-sided: 0 says nothing
+abbrev pub Accepts : Domain → List ℕ → ℕ → ℕ → Type 0
+Accepts d xs at r = 0 < r → Good d xs at r

@@ -1,0 +1,226 @@
+// The fast way to an accepted item, of either form: what first units tell. One-sided: a size says that the item is accepted and so
+// long, 0 says nothing, and the general way is asked. So what a refusal is, and where, is never decided here. Positions count units.
+use format::Form;
+use format::Framed;
+use judging::MAX_DEPTH;
+ghost use mathlib.Core.Path.{_≡_};
+ghost use mathlib.Core.Bool.{true};
+ghost use Prim.Native.Nat.{_+_, _-_, _≤_, _<_};
+ghost use Rattle.format.specs.declared.Verdict.the-variants.{Accepted};
+ghost use Rattle.format.specs.Units.{domain};
+ghost use Rattle.format.specs.Registry.{isOverrideable};
+ghost use Rattle.format.specs.Judging.{maxDepth};
+ghost use Rattle.laws.specs.Levels.{level};
+ghost use Rattle.runs.specs.Plain.{groupAt, letterAt};
+ghost use Rattle.runs.specs.Levels.{Clear};
+ghost use Rattle.report_item.specs.Items.{Inside, Takes};
+ghost use Rattle.report_first.specs.First.{Lent};
+ghost use Rattle.report_fast.specs.Fast.{Ready, Good, Accepts};
+
+// ---- items accepted whole, where all is known
+
+// The next item from a unit on, if it ends in front of another unit and is accepted: its size, else 0.
+fn taken(
+    form: Form,
+    values: &[u8; 256],
+    classes: &[u8; 256],
+    rows: &[u16; 192],
+    s: &[u8],
+    levels: usize,
+    first: bool,
+    at: usize,
+    stop: usize,
+) -> usize
+    requires { ⌜ Inside (domain form) (now s) at stop × (at < stop) ⌝ }
+    ensures { λ r. ⌜ (r ≤ stop - at) × (Ready form (now (values .entry)) (now (classes .entry)) (now (rows .entry)) (now (s .entry)) at stop → Takes (domain form .sextets (now (s .entry))) levels first at stop r) ⌝ }
+{
+    let g = report_first::group(form, values, classes, rows, s, at);
+    if 0 < g {
+        if stop - at < g {
+            return 0;
+        }
+        if levels == 0 {
+            return 0;
+        }
+        let first = report_first::marks(form, values, classes, rows, s, at);
+        if accepts(
+            form,
+            values,
+            classes,
+            rows,
+            s,
+            levels - 1,
+            first,
+            at + 1,
+            at + g,
+        ) {
+            return g;
+        }
+        return 0;
+    }
+    let k = report_first::plain(form, values, classes, rows, s, at);
+    if 0 < k {
+        if stop - at < k {
+            return 0;
+        }
+        return k;
+    }
+    other(form, values, classes, rows, s, levels, first, at, stop)
+}
+
+// The same of an item that its first unit does not tell: as the general way finds it.
+fn other(
+    form: Form,
+    values: &[u8; 256],
+    classes: &[u8; 256],
+    rows: &[u16; 192],
+    s: &[u8],
+    levels: usize,
+    first: bool,
+    at: usize,
+    stop: usize,
+) -> usize
+    requires { ⌜ Inside (domain form) (now s) at stop × (at < stop) ⌝ }
+    ensures { λ r. ⌜ (r ≤ stop - at) × (Ready form (now (values .entry)) (now (classes .entry)) (now (rows .entry)) (now (s .entry)) at stop → Takes (domain form .sextets (now (s .entry))) levels first at stop r) ⌝ }
+{
+    match report_item::found(form, s, levels, first, at, stop) {
+        Framed::Unframed {
+            number: _,
+            place: _,
+        } => 0,
+        Framed::Item { kind, head, size } => {
+            if report_next::is_entered(kind) {
+                let marks = report_next::is_ruled(kind);
+                if accepts(
+                    form,
+                    values,
+                    classes,
+                    rows,
+                    s,
+                    levels - 1,
+                    marks,
+                    at + head,
+                    at + size,
+                ) {
+                    return size;
+                }
+                return 0;
+            }
+            size
+        }
+    }
+}
+
+// Whether the items from a unit to the end of their group are accepted.
+fn accepts(
+    form: Form,
+    values: &[u8; 256],
+    classes: &[u8; 256],
+    rows: &[u16; 192],
+    s: &[u8],
+    levels: usize,
+    first: bool,
+    at: usize,
+    stop: usize,
+) -> bool
+    requires { ⌜ Inside (domain form) (now s) at stop ⌝ }
+    ensures { λ r. ⌜ (Ready form (now (values .entry)) (now (classes .entry)) (now (rows .entry)) (now (s .entry)) at stop → r ≡ true → level (domain form .sextets (now (s .entry))) levels first at stop ≡ Accepted) ⌝ }
+{
+    let mut i = at;
+    let mut ruled = first;
+    while i < stop {
+        let n = taken(form, values, classes, rows, s, levels, ruled, i, stop);
+        if n == 0 {
+            return false;
+        }
+        i = i + n;
+        ruled = false;
+    }
+    true
+}
+
+// ---- at top level
+
+// The size of the item at a unit of a stream, if it is accepted and known up to a unit; else 0.
+pub fn accepted(
+    form: Form,
+    values: &[u8; 256],
+    classes: &[u8; 256],
+    rows: &[u16; 192],
+    s: &[u8],
+    clean: usize,
+    at: usize,
+) -> usize
+    ensures { λ r. ⌜ (Lent (now (values .entry)) (now (classes .entry)) (now (rows .entry)) → Clear (domain form .sextets (now (s .entry))) at clean → Accepts (domain form) (now (s .entry)) at r) ⌝ }
+{
+    let end = report_first::least(clean, report_item::units(form, s.len()));
+    if end <= at {
+        return 0;
+    }
+    if report_item::limit(form) < s.len() {
+        return 0;
+    }
+    taken(form, values, classes, rows, s, MAX_DEPTH, true, at, end)
+}
+
+// Whether the small group of so many units at a unit of a stream is accepted and known up to a unit. Groups that stand one in the other
+// are entered at once.
+pub fn group_accepted(
+    form: Form,
+    values: &[u8; 256],
+    classes: &[u8; 256],
+    rows: &[u16; 192],
+    s: &[u8],
+    clean: usize,
+    at: usize,
+    size: usize,
+) -> bool
+    ensures { λ r. ⌜ (Lent (now (values .entry)) (now (classes .entry)) (now (rows .entry)) → Clear (domain form .sextets (now (s .entry))) at clean → groupAt (domain form .sextets (now (s .entry))) at ≡ size → r ≡ true → Good (domain form) (now (s .entry)) at size) ⌝ }
+{
+    let end = report_first::least(clean, report_item::units(form, s.len()));
+    if end <= at {
+        return false;
+    }
+    if end - at < size {
+        return false;
+    }
+    if report_item::limit(form) < s.len() {
+        return false;
+    }
+    if size == 0 {
+        return false;
+    }
+    inside_accepted(form, values, classes, rows, s, at, at + size)
+}
+
+// Its contents.
+fn inside_accepted(
+    form: Form,
+    values: &[u8; 256],
+    classes: &[u8; 256],
+    rows: &[u16; 192],
+    s: &[u8],
+    at: usize,
+    stop: usize,
+) -> bool
+    requires { ⌜ Inside (domain form) (now s) at stop × (at < stop) ⌝ }
+    ensures { λ r. ⌜ (Ready form (now (values .entry)) (now (classes .entry)) (now (rows .entry)) (now (s .entry)) at stop → groupAt (domain form .sextets (now (s .entry))) at ≡ stop - at → r ≡ true → level (domain form .sextets (now (s .entry))) (maxDepth - 1) (isOverrideable (letterAt (domain form .sextets (now (s .entry))) at)) (at + 1) stop ≡ Accepted) ⌝ }
+{
+    let d = report_first::nested(form, values, classes, rows, s, at + 1, stop, MAX_DEPTH - 1);
+    let i = at + 1 + d;
+    if report_first::plain(form, values, classes, rows, s, i) == stop - i {
+        return true;
+    }
+    let first = report_first::marks(form, values, classes, rows, s, at + d);
+    accepts(
+        form,
+        values,
+        classes,
+        rows,
+        s,
+        MAX_DEPTH - 1 - d,
+        first,
+        i,
+        stop,
+    )
+}

@@ -1,0 +1,226 @@
+// The item at a unit of a stream, of either form: its frame, and its verdict, whatever it is. The general way: it needs no table but
+// those of the registry and the alphabet, and every other way to a verdict is proved against the same definition. Positions count
+// units, and places within the judging sextets.
+use format::Form;
+use format::Framed;
+use format::Verdict;
+use judging::MAX_DEPTH;
+ghost use mathlib.Core.Path.{_≡_};
+ghost use mathlib.Core.Bool.{Bool};
+ghost use Prim.Native.Nat.{ℕ, _+_, _*_, _/_, _≤_, _<_};
+ghost use lib.ListN.{length, take, drop};
+ghost use Rattle.format.specs.Units.{domain};
+ghost use Rattle.format.specs.Framing.{frameRuled};
+ghost use Rattle.format.specs.Judging.{shift};
+ghost use Rattle.format.specs.Report.{placed, judgeIn};
+ghost use Rattle.laws.specs.Levels.{level};
+ghost use Rattle.report_next.specs.Next.{Found};
+ghost use Rattle.report_item.specs.Items.{Inside, moved, Whole, Judges};
+
+// Elements of a stream to a unit.
+pub fn unit(form: Form) -> usize
+    ensures { λ r. ⌜ r ≡ domain form .unit ⌝ }
+{
+    match form {
+        Form::Text => 4,
+        Form::Binary => 3,
+    }
+}
+
+// The whole units of a stream of so many elements.
+pub fn units(form: Form, len: usize) -> usize
+    ensures { λ r. ⌜ r ≡ len / domain form .unit ⌝ }
+{
+    match form {
+        Form::Text => len / 4,
+        Form::Binary => len / 3,
+    }
+}
+
+pub fn limit(form: Form) -> usize
+    ensures { λ r. ⌜ r ≡ domain form .limit ⌝ }
+{
+    match form {
+        Form::Text => 4194304,
+        Form::Binary => 3145728,
+    }
+}
+
+// The item at a unit, framed as at top level; past the end nothing is.
+pub fn framed(form: Form, s: &[u8], at: usize) -> Framed
+    ensures { λ r. ⌜ r ≡ frameRuled (domain form .sextets (drop (domain form .unit * at) (now (s .entry)))) ⌝ }
+{
+    if units(form, s.len()) < at {
+        return Framed::Unframed {
+            number: 4,
+            place: 0,
+        };
+    }
+    match form {
+        Form::Text => {
+            let from = 4 * at;
+            framing::frame_ruled_text(&s[from..])
+        }
+        Form::Binary => {
+            let from = 3 * at;
+            framing::frame_ruled_binary(&s[from..])
+        }
+    }
+}
+
+// ---- the items of a group
+
+// A refusal's place counted on.
+fn moved(f: Framed, by: usize) -> Framed
+    requires { ⌜ (by ≤ 4194304) × ((m p : ℕ) → f ≡ Framed.Unframed m p → p ≤ 4194312) ⌝ }
+    ensures { λ r. ⌜ r ≡ moved by f ⌝ }
+{
+    match f {
+        Framed::Item {
+            kind: _,
+            head: _,
+            size: _,
+        } => f,
+        Framed::Unframed { number, place } => Framed::Unframed {
+            number,
+            place: by + place,
+        },
+    }
+}
+
+// The next item of a group from a unit on, framed and judged by its own checks, with a refusal's place in the stream.
+fn next(form: Form, s: &[u8], levels: usize, first: bool, at: usize, stop: usize) -> Framed
+    requires { ⌜ Inside (domain form) (now s) at stop × (at < stop) ⌝ }
+    ensures { λ r. ⌜ Found (domain form .sextets (now (s .entry))) levels first at stop r ⌝ }
+{
+    match form {
+        Form::Text => {
+            let from = 4 * at;
+            let to = 4 * stop;
+            moved(report_next::next_text(&s[from..to], first, levels), 4 * at)
+        }
+        Form::Binary => {
+            let from = 3 * at;
+            let to = 3 * stop;
+            moved(
+                report_next::next_binary(&s[from..to], first, levels),
+                4 * at,
+            )
+        }
+    }
+}
+
+// The same of any units: what is past the end or the limit is not framed.
+pub fn found(form: Form, s: &[u8], levels: usize, first: bool, at: usize, stop: usize) -> Framed
+    ensures { λ r. ⌜ (Inside (domain form) (now (s .entry)) at stop → at < stop → Found (domain form .sextets (now (s .entry))) levels first at stop r) ⌝ }
+{
+    if limit(form) < s.len() {
+        return Framed::Unframed {
+            number: 1,
+            place: 0,
+        };
+    }
+    if units(form, s.len()) < stop {
+        return Framed::Unframed {
+            number: 4,
+            place: 0,
+        };
+    }
+    if stop <= at {
+        return Framed::Unframed {
+            number: 4,
+            place: 0,
+        };
+    }
+    next(form, s, levels, first, at, stop)
+}
+
+// The next item judged whole: as it is framed if it is accepted, else its refusal.
+fn whole(form: Form, s: &[u8], levels: usize, first: bool, at: usize, stop: usize) -> Framed
+    requires { ⌜ Inside (domain form) (now s) at stop × (at < stop) ⌝ }
+    ensures { λ r. ⌜ Whole (domain form .sextets (now (s .entry))) levels first at stop r ⌝ }
+{
+    let found = next(form, s, levels, first, at, stop);
+    match found {
+        Framed::Unframed {
+            number: _,
+            place: _,
+        } => found,
+        Framed::Item { kind, head, size } => {
+            if report_next::is_entered(kind) {
+                let marks = report_next::is_ruled(kind);
+                let v = level(form, s, levels - 1, marks, at + head, at + size);
+                judging::told(found, v)
+            } else {
+                found
+            }
+        }
+    }
+}
+
+// The verdict on the items of a group from a unit to its end, where so many more groups may be entered.
+fn level(form: Form, s: &[u8], levels: usize, first: bool, at: usize, stop: usize) -> Verdict
+    requires { ⌜ Inside (domain form) (now s) at stop ⌝ }
+    ensures { λ r. ⌜ r ≡ level (domain form .sextets (now (s .entry))) levels first at stop ⌝ }
+{
+    let mut i = at;
+    let mut ruled = first;
+    while i < stop {
+        match whole(form, s, levels, ruled, i, stop) {
+            Framed::Unframed { number, place } => {
+                return Verdict::Refused { number, place };
+            }
+            Framed::Item {
+                kind: _,
+                head: _,
+                size,
+            } => {
+                i = i + size;
+                ruled = false;
+            }
+        }
+    }
+    Verdict::Accepted
+}
+
+// ---- whole items
+
+// A place in sextets as one in elements.
+fn placed(form: Form, v: Verdict) -> Verdict
+    ensures { λ r. ⌜ r ≡ placed (domain form .unit) v ⌝ }
+{
+    match v {
+        Verdict::Accepted => v,
+        Verdict::Refused { number, place } => Verdict::Refused {
+            number,
+            place: place / 4 * unit(form) + place % 4,
+        },
+    }
+}
+
+// The verdict on an item that is framed at a unit and has so many units, with its place in the stream. What is no such item is never
+// accepted.
+pub fn verdict(form: Form, s: &[u8], at: usize, size: usize) -> Verdict
+    ensures { λ r. ⌜ Judges (domain form) (now (s .entry)) at size r ⌝ }
+{
+    let all = units(form, s.len());
+    if limit(form) < s.len() {
+        return Verdict::Refused {
+            number: 1,
+            place: 0,
+        };
+    }
+    if all < at {
+        return Verdict::Refused {
+            number: 4,
+            place: 0,
+        };
+    }
+    if all - at < size {
+        return Verdict::Refused {
+            number: 4,
+            place: 0,
+        };
+    }
+    placed(form, level(form, s, MAX_DEPTH, false, at, at + size))
+}

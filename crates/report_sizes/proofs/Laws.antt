@@ -1,0 +1,86 @@
+-- Sizes, and runs of items of one size. Assumes nothing.
+use Prim.Native.Nat.{ℕ, suc, _+_, _-_, _*_, _/_, _≤_, _<_, min}
+use mathlib.Core.Path.{_≡_, sym}
+use mathlib.Core.Bool.{true}
+use mathlib.Core.List.{List}
+use native.Mathlib.Omega.{arith}
+use native.Mathlib.Nat.{suc-mul, mul-comm, le-div-iff-mul-le}
+use lib.ListN.{length, drop}
+use Rattle.format.specs.declared.Form.{Form}
+use Rattle.format.specs.declared.Form.the-variants.{Text, Binary}
+use Rattle.format.specs.Alphabet.{sextetTable}
+use Rattle.format.specs.declared.Kind.{Kind}
+use Rattle.format.specs.declared.Framed.{Framed}
+use Rattle.format.specs.declared.Framed.the-variants.{Item}
+use Rattle.format.specs.Units.{Domain, domain, textSextets, binarySextets}
+use Rattle.format.specs.Framing.{frameRuled}
+use Rattle.laws.specs.Domains.{reader}
+use Rattle.runs.specs.Plain.{plainTable, sizedAt, plainAt, groupAt}
+use Rattle.runs.specs.Levels.{Clear, group-drop, sized-drop}
+use Rattle.runs.specs.Runs.{Run, run-none, run-more}
+use Rattle.report_first.specs.First.{Lent}
+use Rattle.report_first.proofs.Laws.{least-right}
+use Rattle.report_sizes.specs.Sizes.{Tells, sizeOf}
+
+-- ---- a run, by the place that it has reached
+
+pub record Reached (P : ℕ → ℕ) (k stop from r at : ℕ) : Type 0 where
+  pub run : Run P k stop from r
+  pub place : at ≡ from + r * k
+  pub few : r ≤ at
+  pub near : at ≤ stop + 64
+
+module _ (P : ℕ → ℕ) (k stop from : ℕ) where
+  pub reached-start : 0 < k → from ≤ stop + 64 → Reached P k stop from 0 from
+  reached-start p h = record { run = run-none P k stop from p; place = omega arith; few = omega arith; near = h }
+
+  pub reached-more : (r at : ℕ) → Reached P k stop from r at → P at ≡ k → at + k ≤ stop → Reached P k stop from (r + 1) (at + k)
+  reached-more r at R e h =
+      let z : r + 1 ≡ suc r = omega arith in
+      let some = R .run .some in
+      let is = R .place in
+      record {
+        run = run-more P k stop from r (R .run) (rw is at e) (rw is at h);
+        place = rw z (omega (arith, suc-mul r k));
+        few = omega (arith, R .few);
+        near = omega arith;
+      }
+
+-- by another rule that says the same where the first does
+pub run-by : (p q : ℕ → ℕ) (k stop at r : ℕ) → ((i : ℕ) → i + k ≤ stop → p i ≡ k → q i ≡ k) → Run p k stop at r → Run q k stop at r
+run-by p q k stop at r f R = record { some = R .some; each = λ j h. let z = R .each j h in (f (at + j * k) (z .1) (z .0), z .1) }
+
+-- ---- sizes
+
+told-item : (f : Framed) (k : Kind) (h r : ℕ) → f ≡ Item k h r → sizeOf f ≡ r
+unfolding sizeOf
+told-item f k h r e = rw e
+
+pub tells-group : (s : List ℕ) (at clean r : ℕ) → at < clean → Clear s at clean → groupAt s at ≡ r → Tells s at r
+tells-group s at clean r l K e p h = told-item _ _ _ _ (group-drop s at clean K l r e p h)
+
+pub tells-sized : (s : List ℕ) (at clean r : ℕ) → at < clean → Clear s at clean → sizedAt plainTable s at ≡ r → Tells s at r
+tells-sized s at clean r l K e p h = told-item _ _ _ _ (sized-drop s at clean K l r e p h .framed true)
+
+pub size-told : (f : Form) (s : List ℕ) (at r u : ℕ) → u ≡ length s / domain f .unit → at < u → r ≤ u - at → 0 < r → Tells (domain f .sextets s) at r
+    → r ≡ sizeOf (frameRuled (domain f .sextets (drop (domain f .unit * at) s)))
+size-told f s at r u e l h p t =
+    let d : Domain = domain f in
+    let c : d .unit * at ≡ at * d .unit = mul-comm (d .unit) at in
+    let z : at * 4 ≡ 4 * at = omega arith in
+    let room : at * d .unit ≤ length s = le-div-iff-mul-le (reader f .pos) .0 (omega arith) in
+    rw (c, reader f .dropped s at room, z) (sym (t p (omega (arith, reader f .units s))))
+
+-- ---- the end of what is known, in a form
+
+pub in-form : (f : Form) (s : List ℕ) (clean u end : ℕ) (g : Form) → u ≡ length s / domain f .unit → end ≡ min clean u → f ≡ g → end ≤ length s / domain g .unit
+in-form f s clean u end g e q z = rw (← z, ← e) (least-right clean u end q)
+
+module _ (f : Form) (values classes rows s : List ℕ) (clean u end size from r : ℕ) (e : u ≡ length s / domain f .unit) (q : end ≡ min clean u) where
+  pub end-text : f ≡ Text → (values ≡ sextetTable → rows ≡ plainTable → Run (plainAt plainTable (textSextets s)) size end from r) → Lent values classes rows
+      → 0 < size → Run (plainAt plainTable (domain f .sextets s)) size (min clean (length s / domain f .unit)) from r
+  end-text z R L p = rw (← e, ← q, z) (R (L .characters) (L .codes))
+
+  pub end-binary : f ≡ Binary → (rows ≡ plainTable → Run (plainAt plainTable (binarySextets s)) size end from r) → Lent values classes rows
+      → 0 < size → Run (plainAt plainTable (domain f .sextets s)) size (min clean (length s / domain f .unit)) from r
+  end-binary z R L p = rw (← e, ← q, z) (R (L .codes))

@@ -1,0 +1,115 @@
+// What the first unit at a position of a text decides, by its characters and the tables lent: sizes, plain primitives, small
+// groups, and which of these stand one in the other. Whether a character is known is not asked.
+ghost use mathlib.Core.Path.{_≡_};
+ghost use Prim.Native.Nat.{_/_, _<_};
+ghost use lib.ListN.{length, getD};
+ghost use Rattle.runs.specs.Plain.{sizedAt, plainAt, groupBy, marksBy, nestedAt, sextetsBy};
+
+fn wide(x: u8) -> usize
+    ensures { λ r. ⌜ (r ≡ x) × (r < 256) ⌝ }
+{
+    x as usize
+}
+
+// What a table says of the character at a position.
+fn value(values: &[u8; 256], s: &[u8], i: usize) -> u8
+    requires { ⌜ i < length (now s) ⌝ }
+    ensures { λ r. ⌜ r ≡ getD (now (values .entry)) (getD (now (s .entry)) i 0) 0 ⌝ }
+{
+    values[wide(s[i])]
+}
+
+// The size in units of the item whose header is the unit at a position, or 0.
+pub fn sized_text(values: &[u8; 256], rows: &[u16; 192], s: &[u8], at: usize) -> usize
+    ensures { λ r. ⌜ r ≡ sizedAt (now (rows .entry)) (sextetsBy (now (values .entry)) (now (s .entry))) at ⌝ }
+{
+    if s.len() / 4 <= at {
+        return 0;
+    }
+    let i = 4 * at;
+    runs::sized(
+        rows,
+        value(values, s, i),
+        value(values, s, i + 1),
+        value(values, s, i + 2),
+        value(values, s, i + 3),
+    )
+}
+
+// The same of a plain primitive.
+pub fn plain_text(values: &[u8; 256], rows: &[u16; 192], s: &[u8], at: usize) -> usize
+    ensures { λ r. ⌜ r ≡ plainAt (now (rows .entry)) (sextetsBy (now (values .entry)) (now (s .entry))) at ⌝ }
+{
+    if s.len() / 4 <= at {
+        return 0;
+    }
+    let i = 4 * at;
+    runs::plain(
+        rows,
+        value(values, s, i),
+        value(values, s, i + 1),
+        value(values, s, i + 2),
+        value(values, s, i + 3),
+    )
+}
+
+// By the characters themselves, which saves look-ups: 45 is `-`.
+fn group_in_text(values: &[u8; 256], classes: &[u8; 256], s: &[u8], at: usize) -> usize
+    requires { ⌜ at < length (now s) / 4 ⌝ }
+    ensures { λ r. ⌜ r ≡ groupBy (now (values .entry)) (now (classes .entry)) (now (s .entry)) at ⌝ }
+{
+    let i = 4 * at;
+    if s[i] != 45 {
+        return 0;
+    }
+    if 1 < value(classes, s, i + 1) {
+        return 0;
+    }
+    runs::counted(value(values, s, i + 2), value(values, s, i + 3))
+}
+
+// The size in units of the small group at a unit whose contents are items, or 0.
+pub fn group_text(values: &[u8; 256], classes: &[u8; 256], s: &[u8], at: usize) -> usize
+    ensures { λ r. ⌜ r ≡ groupBy (now (values .entry)) (now (classes .entry)) (now (s .entry)) at ⌝ }
+{
+    if s.len() / 4 <= at {
+        return 0;
+    }
+    group_in_text(values, classes, s, at)
+}
+
+// Whether 7 is asked of the first item of the small group at a unit.
+pub fn marks_text(classes: &[u8; 256], s: &[u8], at: usize) -> bool
+    ensures { λ r. ⌜ r ≡ marksBy (now (classes .entry)) (now (s .entry)) at ⌝ }
+{
+    if s.len() / 4 <= at {
+        return false;
+    }
+    value(classes, s, 4 * at + 1) == 1
+}
+
+// How many small groups, of so many at most, stand one in the other from a unit on, each all that is left up to another unit.
+pub fn nested_text(
+    values: &[u8; 256],
+    classes: &[u8; 256],
+    s: &[u8],
+    at: usize,
+    stop: usize,
+    most: usize,
+) -> usize
+    ensures { λ r. ⌜ r ≡ nestedAt (groupBy (now (values .entry)) (now (classes .entry)) (now (s .entry))) (length (now (s .entry)) / 4) stop most at ⌝ }
+{
+    if s.len() / 4 < stop {
+        return 0;
+    }
+    let all = runs::beyond(stop, at);
+    let low = runs::beyond(all, most);
+    let mut left = all;
+    while low < left {
+        if group_in_text(values, classes, s, stop - left) != left {
+            return all - left;
+        }
+        left = left - 1;
+    }
+    all - left
+}

@@ -1,0 +1,71 @@
+-- What is known of a code that is named and fits: a row of the registry is sound, a variable one has one header unit or two.
+-- Assumes nothing.
+use mathlib.Core.Path.{_≡_, refl, _∙_}
+use mathlib.Core.Bool.{Bool, true, false}
+use mathlib.Core.Logic.{_⊎_, inl, inr}
+use Prim.Native.Nat.{ℕ, _≤_}
+use native.Mathlib.Omega.{arith}
+use borrow.Author.Tests.{eqb-true, eq-eqb, leb-true}
+use lib.Dec.{eqb, leb}
+use Rattle.base.specs.Pick.{pick, pick-by}
+use Rattle.format.specs.declared.CodeRow.{CodeRow}
+use Rattle.format.specs.declared.Kind.the-variants.{Fixed, Variable, Group, Genus}
+use Rattle.format.specs.declared.Opening.{Opening}
+use Rattle.format.specs.declared.Opening.the-variants.{Unknown, Short, LargeVariable, LargeGroup, Version}
+use Rattle.format.specs.declared.Code.{Code}
+use Rattle.format.specs.declared.Code.the-variants as C
+use Rattle.format.specs.Alphabet.{sextetOf}
+use Rattle.format.specs.Registry.{isType, fixed}
+use Rattle.format.specs.Writing.{namedFixed, named, isFit, fitsRow, fitsVariable, rawSize, rawLimit}
+use Rattle.format.specs.Writing.Named.{unknown, row, variable}
+use Rattle.laws.specs.Registry.{Finds, fixed-finds}
+use Rattle.writing_code.specs.Names.{Able}
+
+-- ---- fit
+
+pub fits-row : (c : CodeRow) (tags raw w r : ℕ) → w ≡ c .tag → tags ≡ w → r ≡ rawSize c → eqb raw r ≡ isFit (row c) tags raw
+unfolding isFit fitsRow
+fits-row c tags raw w r e f g = rw (eq-eqb tags (c .tag) (f ∙ e), g)
+
+both-hold : (a b : Bool) → pick a b false ≡ true → (a ≡ true) × (b ≡ true)
+both-hold true b e = (refl, e)
+both-hold false b e = let z : _≡_ {A = ℕ} 0 1 = cc in absurd (omega arith)
+
+never : {X : Type 0} → _≡_ {A = Bool} false true → X
+never e = let z : _≡_ {A = ℕ} 0 1 = cc in absurd (omega arith)
+
+able-fixed : (chars letter : ℕ) (o : Opening) (tags raw : ℕ) → Finds chars letter o → isFit (namedFixed o) tags raw ≡ true → Able (namedFixed o) tags raw
+unfolding isFit fitsRow namedFixed Able
+able-fixed chars letter Unknown tags raw f e = never e
+able-fixed chars letter (Short (Fixed c) n) tags raw f e =
+    let b = both-hold (eqb tags (c .tag)) (eqb raw (rawSize c)) e in
+    (f .0, eqb-true tags (c .tag) (b .0), eqb-true raw (rawSize c) (b .1))
+able-fixed chars letter (Short (Variable t l m) n) tags raw f e = never e
+able-fixed chars letter (Short (Group l) n) tags raw f e = never e
+able-fixed chars letter (Short Genus n) tags raw f e = never e
+able-fixed chars letter (LargeVariable t l) tags raw f e = never e
+able-fixed chars letter (LargeGroup l d) tags raw f e = never e
+able-fixed chars letter Version tags raw f e = never e
+
+limit-most : (h : ℕ) → rawLimit h ≤ 3145722
+unfolding rawLimit
+limit-most h = pick-by (λ (m : ℕ). m ≤ 3145722) (eqb h 1) _ _ (λ _. omega arith) (λ _. omega arith)
+
+limit-small : (h raw : ℕ) → raw ≤ rawLimit h → h ≡ 1 → raw ≤ 12285
+unfolding rawLimit
+limit-small h raw l e = rw e at l
+
+able-typed : (b : Bool) (t h tags raw : ℕ) → (h ≡ 1) ⊎ (h ≡ 2) → isFit (pick b (variable t h) unknown) tags raw ≡ true
+    → Able (pick b (variable t h) unknown) tags raw
+unfolding isFit fitsVariable Able
+able-typed true t h tags raw w e =
+    let b = both-hold (eqb tags 0) (leb raw (rawLimit h)) e in
+    let l = leb-true raw (rawLimit h) (b .1) in
+    (w, eqb-true tags 0 (b .0), omega (arith, limit-most h), limit-small h raw l)
+able-typed false t h tags raw w e = never e
+
+pub able : (code : Code) (tags raw : ℕ) → isFit (named code) tags raw ≡ true → Able (named code) tags raw
+unfolding named
+able (C.Fixed chars letter) tags raw e = able-fixed chars (sextetOf letter) (fixed chars (sextetOf letter)) tags raw (fixed-finds chars (sextetOf letter)) e
+able (C.Small letter) tags raw e = able-typed (isType (sextetOf letter)) (sextetOf letter) 1 tags raw (inl refl) e
+able (C.Large letter) tags raw e = able-typed (isType (sextetOf letter)) (sextetOf letter) 2 tags raw (inr refl) e

@@ -1,0 +1,26 @@
+use mathlib.Core.Path.{sym, _∙_}
+use Rattle.writing_code.specs.Names.{asNamed}
+use borrow.Author.Needs.{needs}
+use Rattle.writing_code.proofs.type_of.Statement.{statement}
+use Rattle.writing_code.proofs.type_of.Tie as tie
+use Rattle.writing_code.proofs.type_of.Reads as reads
+use Rattle.writing_code.proofs.type_of.Lts as lts
+use Rattle.alphabet.proofs.sextet.Reads as sextet-reads
+use Rattle.registry.proofs.is_type.Reads as is-type-reads
+
+sextet-requires : tie.Need-sextet-requires
+sextet-requires c κs = search needs
+
+is-type-requires : tie.Need-is-type-requires
+is-type-requires c κs = search needs
+
+returns : tie.Need-returns
+unfolding asNamed
+returns c = rw (← (c .before .before .sextet .ensures), sym (c .before .is-type .ensures) ∙ c .if1 .taken)
+
+returns-2 : tie.Need-returns-2
+unfolding asNamed
+returns-2 c = rw (← (c .before .before .sextet .ensures), sym (c .before .is-type .ensures) ∙ c .if1 .left)
+
+pub type-of-spec : {M : Type 1} → statement M
+type-of-spec = tie.close (tie.spec sextet-requires is-type-requires returns returns-2)

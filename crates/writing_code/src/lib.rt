@@ -1,0 +1,166 @@
+// The code that a caller names, whether tag characters and a raw value fit it, and how large its item is: what 6 and 12 ask, and the
+// count of a header.
+use format::Code;
+use format::CodeRow;
+use format::Kind;
+use format::Opening;
+ghost use mathlib.Core.Path.{_≡_};
+ghost use Prim.Native.Nat.{_+_, _*_, _<_};
+ghost use Rattle.base.specs.Pick.{pick};
+ghost use Rattle.format.specs.Alphabet.{sextetOf};
+ghost use Rattle.format.specs.Registry.{isType};
+ghost use Rattle.format.specs.Writing.{named, namedFixed, isNamed, isFit, rawSize, rawLimit, leadFor, countFor, unitsOf};
+ghost use Rattle.format.specs.Writing.Named.{unknown, variable};
+ghost use Rattle.writing_code.specs.Names.{asNamed};
+
+// A code that is a primitive's, or none.
+pub enum Named {
+    Unknown,
+    Row(CodeRow),
+    // letter: the variable type as a sextet; head: the header's units
+    Variable { letter: u8, head: u8 },
+}
+
+fn wide(x: u8) -> usize
+    ensures { λ r. ⌜ (r ≡ x) × (r < 256) ⌝ }
+{
+    x as usize
+}
+
+fn narrow(x: usize) -> u8
+    requires { ⌜ x < 256 ⌝ }
+    ensures { λ r. ⌜ r ≡ x ⌝ }
+{
+    x as u8
+}
+
+// ---- 6: the code that is named
+
+fn row_of(op: Opening) -> Named
+    ensures { λ r. ⌜ asNamed r ≡ namedFixed op ⌝ }
+{
+    match op {
+        Opening::Unknown => Named::Unknown,
+        Opening::Short { kind, size: _ } => match kind {
+            Kind::Fixed(c) => Named::Row(c),
+            Kind::Variable {
+                letter: _,
+                lead: _,
+                count: _,
+            } => Named::Unknown,
+            Kind::Group { letter: _ } => Named::Unknown,
+            Kind::Genus => Named::Unknown,
+        },
+        Opening::LargeVariable { letter: _, lead: _ } => Named::Unknown,
+        Opening::LargeGroup {
+            letter: _,
+            digit: _,
+        } => Named::Unknown,
+        Opening::Version => Named::Unknown,
+    }
+}
+
+fn type_of(letter: u8, head: u8) -> Named
+    ensures { λ r. ⌜ asNamed r ≡ pick (isType (sextetOf letter)) (variable (sextetOf letter) head) unknown ⌝ }
+{
+    let t = alphabet::sextet(letter);
+    if registry::is_type(t) {
+        Named::Variable { letter: t, head }
+    } else {
+        Named::Unknown
+    }
+}
+
+pub fn name_of(code: Code) -> Named
+    ensures { λ r. ⌜ asNamed r ≡ named code ⌝ }
+{
+    match code {
+        Code::Fixed { chars, letter } => {
+            let l = alphabet::sextet(letter);
+            let op = registry_table::fixed(chars, l);
+            row_of(op)
+        }
+        Code::Small { letter } => type_of(letter, 1),
+        Code::Large { letter } => type_of(letter, 2),
+    }
+}
+
+pub fn is_named(n: Named) -> bool
+    ensures { λ r. ⌜ r ≡ isNamed (asNamed n) ⌝ }
+{
+    match n {
+        Named::Unknown => false,
+        Named::Row(_) => true,
+        Named::Variable { letter: _, head: _ } => true,
+    }
+}
+
+// ---- 12: what the code holds
+
+fn raw_size(c: CodeRow) -> usize
+    ensures { λ r. ⌜ r ≡ rawSize c ⌝ }
+{
+    let size = c.size;
+    let start = reading_item::fixed_start(c);
+    let full = wide(size) / 4 * 3;
+    if start < full { full - start } else { 0 }
+}
+
+fn raw_limit(head: u8) -> usize
+    ensures { λ r. ⌜ r ≡ rawLimit head ⌝ }
+{
+    if head == 1 { 12285 } else { 3145722 }
+}
+
+pub fn is_fit(n: Named, tags: usize, raw: usize) -> bool
+    ensures { λ r. ⌜ r ≡ isFit (asNamed n) tags raw ⌝ }
+{
+    match n {
+        Named::Unknown => false,
+        Named::Row(c) => {
+            let tag = c.tag;
+            if tags == wide(tag) {
+                raw == raw_size(c)
+            } else {
+                false
+            }
+        }
+        Named::Variable { letter: _, head } => {
+            if tags == 0 {
+                raw <= raw_limit(head)
+            } else {
+                false
+            }
+        }
+    }
+}
+
+// ---- sizes
+
+// The lead follows from the raw length.
+pub fn lead_for(raw: usize) -> u8
+    ensures { λ r. ⌜ (r ≡ leadFor raw) × (r < 3) ⌝ }
+{
+    narrow((3 - raw % 3) % 3)
+}
+
+// The triplets of a raw value and its lead: one more where there is a lead.
+pub fn count_for(raw: usize) -> usize
+    ensures { λ r. ⌜ (r ≡ countFor raw) × (3 * r < raw + 3) ⌝ }
+{
+    let whole = raw / 3;
+    if raw % 3 == 0 { whole } else { whole + 1 }
+}
+
+pub fn units_of(n: Named, raw: usize) -> usize
+    ensures { λ r. ⌜ r ≡ unitsOf (asNamed n) raw ⌝ }
+{
+    match n {
+        Named::Unknown => 0,
+        Named::Row(c) => {
+            let size = c.size;
+            wide(size) / 4
+        }
+        Named::Variable { letter: _, head } => wide(head) + count_for(raw),
+    }
+}

@@ -1,0 +1,47 @@
+-- The sextets that stand before a raw value and then zeros, three units of them, and their bytes; and how an item is divided between
+-- them and the raw value. Assumes nothing.
+use Prim.Native.Nat.{ℕ, _+_, _-_, _*_, _/_, _%_, _<_, _≤_}
+use mathlib.Core.List.{List, [], _∷_, _++_, map}
+use lib.Dec.{eqb}
+use lib.ListN.{length, replicate}
+use Rattle.base.specs.Pick.{pick}
+use Rattle.base.specs.Digits.{digitsOf}
+use Rattle.base.specs.Each.{each}
+use Rattle.format.specs.declared.CodeRow.{CodeRow}
+use Rattle.format.specs.Alphabet.{sextetOf}
+use Rattle.format.specs.Units.{bytesOf}
+use Rattle.format.specs.Registry.{prepadOf}
+use Rattle.format.specs.Writing as F
+
+-- zeros up to so many
+unfoldable pub padTo : ℕ → List ℕ → List ℕ
+padTo n s = s ++ replicate (n - length s) 0
+
+-- the code's characters and its prepad
+unfoldable pub codeHead : CodeRow → List ℕ
+codeHead c = padTo 12 (F.codeSextets c ++ replicate (prepadOf c) 63)
+
+unfoldable pub rowHead : CodeRow → List ℕ → List ℕ
+rowHead c tag = padTo 12 (F.codeSextets c ++ (replicate (prepadOf c) 63 ++ map sextetOf tag))
+
+unfoldable pub variableSextets : ℕ → ℕ → ℕ → ℕ → List ℕ
+variableSextets t h lead n =
+    pick (eqb h 1) ((56 + lead) ∷ t ∷ (n / 64) ∷ (n % 64) ∷ []) ((59 + lead) ∷ 0 ∷ 0 ∷ t ∷ digitsOf 64 4 n)
+
+unfoldable pub variableHead : ℕ → ℕ → ℕ → List ℕ
+variableHead t h raw = padTo 12 (variableSextets t h (F.leadFor raw) (F.countFor raw))
+
+unfoldable pub headSextets : F.Named → List ℕ → ℕ → List ℕ
+headSextets F.Named.unknown tag raw = padTo 12 []
+headSextets (F.Named.row c) tag raw = rowHead c tag
+headSextets (F.Named.variable t h) tag raw = variableHead t h raw
+
+unfoldable pub headBytes : F.Named → List ℕ → ℕ → List ℕ
+headBytes n tag raw = each 4 bytesOf 3 (headSextets n tag raw)
+
+-- its units k hold the raw bytes behind the first 3 k - raw ones, of at most nine
+pub record Sized (raw k : ℕ) : Type 0 where
+  pub some : 0 < k
+  pub few : k ≤ 1048576
+  pub whole : raw ≤ 3 * k
+  pub start : 3 * k ≤ raw + 9

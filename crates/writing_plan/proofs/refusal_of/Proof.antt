@@ -1,0 +1,48 @@
+-- `writing_plan::refusal_of` meets its contract: the first test that fails. Assumes nothing.
+use mathlib.Core.Path.{sym, _∙_}
+use borrow.Author.Tests.{not-true, not-false}
+use Rattle.writing_plan.proofs.Refusals.{is-unknown, is-unfit, is-strange, is-none}
+use borrow.Author.Needs.{needs}
+use Rattle.writing_plan.proofs.refusal_of.Statement.{statement}
+use Rattle.writing_plan.proofs.refusal_of.Tie as tie
+use Rattle.writing_plan.proofs.refusal_of.Reads as reads
+use Rattle.writing_plan.proofs.refusal_of.Lts as lts
+use Rattle.writing_code.proofs.is_fit.Reads as is-fit-reads
+use Rattle.writing_code.proofs.is_named.Reads as is-named-reads
+use Rattle.writing_plan.proofs.tag_stranger.Reads as tag-stranger-reads
+
+is-named-requires : tie.Need-is-named-requires
+is-named-requires c κs = search needs
+
+returns : tie.Need-returns
+returns c = is-unknown _ _ _ _ (sym (c .before .is-named .ensures) ∙ not-true _ (c .if1 .taken))
+
+is-fit-requires : tie.Need-is-fit-requires
+is-fit-requires c κs = search needs
+
+returns-2 : tie.Need-returns-2
+returns-2 c =
+    is-unfit _ _ _ _ (sym (c .before .before .before .is-named .ensures) ∙ not-false _ (c .before .before .if1 .left)) (sym (c .before .is-fit .ensures) ∙ not-true _ (c .if2 .taken))
+
+tag-stranger-requires : tie.Need-tag-stranger-requires
+tag-stranger-requires c κs = search needs
+
+returns-3 : tie.Need-returns-3
+returns-3 c =
+    is-strange _ _ _ _ (sym (c .before .before .before .before .before .is-named .ensures) ∙ not-false _ (c .before .before .before .before .if1 .left)) (sym (c .before .before .before .is-fit .ensures) ∙ not-false _ (c .before .before .if2 .left)) _ (c .before .tag-stranger .ensures) (c .if3 .taken)
+
+returns-4 : tie.Need-returns-4
+returns-4 c =
+    is-none _ _ _ _ (sym (c .before .before .before .before .before .is-named .ensures) ∙ not-false _ (c .before .before .before .before .if1 .left)) (sym (c .before .before .before .is-fit .ensures) ∙ not-false _ (c .before .before .if2 .left)) _ (c .before .tag-stranger .ensures) (c .if3 .left)
+
+pub refusal-of-spec : {M : Type 1} → statement M
+refusal-of-spec =
+    tie.close
+    (tie.spec
+    is-named-requires
+    returns
+    is-fit-requires
+    returns-2
+    tag-stranger-requires
+    returns-3
+    returns-4)
