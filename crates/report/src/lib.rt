@@ -3,69 +3,19 @@
 // item and else by the general way. The tables are named once and lent. Positions count units, u elements each; in text, `clean`
 // is a unit in front of which, from the present one on, all characters are known.
 use format::Form;
-use format::Framed;
 use format::Reported;
+use report_turn::Turn;
 ghost use mathlib.Core.Path.{_≡_};
 ghost use mathlib.Core.List.{List, [], _∷_, _++_};
-ghost use Prim.Native.Nat.{ℕ, _+_, _*_, _≤_, _<_};
+ghost use Prim.Native.Nat.{ℕ, _+_, _*_, _≤_};
 ghost use lib.ListN.{length};
 ghost use lib.Seq.{sets};
 ghost use Rattle.format.specs.Units.{domain, text, binary};
-ghost use Rattle.format.specs.Report.{be4, rowsIn, report, reportAnswer, reportLeft};
-ghost use Rattle.runs.specs.Levels.{Clear};
-ghost use Rattle.report_first.specs.First.{Lent};
-ghost use Rattle.report.specs.Turns.{Begun, Filling, Fill, After, Ends};
-
-// ---- the count
-
-// How many items a stream has.
-fn count(
-    form: Form,
-    u: usize,
-    values: &[u8; 256],
-    classes: &[u8; 256],
-    rows: &[u16; 192],
-    s: &[u8],
-    known: usize,
-) -> usize
-    requires { ⌜ (u ≡ domain form .unit) × Lent (now values) (now classes) (now rows) × (length (now s) ≤ domain form .limit) × Clear (domain form .sextets (now s)) 0 known ⌝ }
-    ensures { λ r. ⌜ (r ≡ length (rowsIn (domain form) (now (s .entry)))) × (r ≤ 4194304) ⌝ }
-{
-    let mut clean = known;
-    let mut a = 0;
-    let mut i = 0;
-    while u * a < s.len() {
-        clean = report_first::known(form, s, a, clean);
-        let g = report_sizes::group_size(form, values, classes, rows, s, clean, a);
-        if 0 < g {
-            a = a + g;
-            i = i + 1;
-        } else {
-            let m = report_sizes::size(form, values, classes, rows, s, clean, a);
-            if m == 0 {
-                return i;
-            }
-            let r = report_sizes::followers(form, values, classes, rows, s, clean, a, m);
-            a = a + m + r * m;
-            i = i + 1 + r;
-        }
-    }
-    i
-}
+ghost use Rattle.format.specs.Report.{be4, report, reportAnswer, reportLeft};
+ghost use Rattle.report_turn.specs.Turns.{Fill};
+ghost use Rattle.report.specs.Turns.{Read, Counted, Begun, Ends, Fits, Last};
 
 // ---- the rows
-
-// What a turn stored: rows of so many items, of which so many are refused, up to so many units further on; or nothing, for this reason.
-pub enum Turn {
-    Stored {
-        units: usize,
-        items: usize,
-        refused: usize,
-    },
-    Rest {
-        number: u8,
-    },
-}
 
 // How the rows ended, so many items being refused: with the stream, or at a unit where nothing is framed, for this reason.
 pub enum End {
@@ -79,82 +29,7 @@ pub enum End {
     },
 }
 
-// The item at a unit by the general way.
-fn put_judged(
-    form: Form,
-    u: usize,
-    s: &[u8],
-    out: &mut [u8],
-    n: usize,
-    a: usize,
-    i: usize,
-    k: usize,
-) -> Turn
-    requires { ⌜ Filling form u (now s) n a i k (now out) ⌝ }
-    ensures { λ r. ⌜ ((o : List ℕ) → Fill form (now (s .entry)) o n (u * a) i k (now (out .entry)) → After form u (now (s .entry)) o n a i k r (now (out .exit))) ⌝ }
-{
-    match report_item::framed(form, s, a) {
-        Framed::Unframed { number, place: _ } => Turn::Rest { number },
-        Framed::Item {
-            kind: _,
-            head: _,
-            size,
-        } => {
-            let v = report_item::verdict(form, s, a, size);
-            let row = 4 + 9 * i;
-            let to = 8 + 9 * n + 9 * k;
-            let refused = report_rows::put_item(out, row, to, i, u * a, u * size, v);
-            Turn::Stored {
-                units: size,
-                items: 1,
-                refused,
-            }
-        }
-    }
-}
-
-// The item at a unit, with those that follow it and are like it, where the fast way accepts it.
-fn put_next(
-    form: Form,
-    u: usize,
-    values: &[u8; 256],
-    classes: &[u8; 256],
-    rows: &[u16; 192],
-    s: &[u8],
-    out: &mut [u8],
-    n: usize,
-    clean: usize,
-    a: usize,
-    i: usize,
-    k: usize,
-) -> Turn
-    requires { ⌜ Filling form u (now s) n a i k (now out) × Lent (now values) (now classes) (now rows) × Clear (domain form .sextets (now s)) a clean ⌝ }
-    ensures { λ r. ⌜ ((o : List ℕ) → Fill form (now (s .entry)) o n (u * a) i k (now (out .entry)) → After form u (now (s .entry)) o n a i k r (now (out .exit))) ⌝ }
-{
-    let g = report_sizes::group_size(form, values, classes, rows, s, clean, a);
-    if 0 < g {
-        if report_fast::group_accepted(form, values, classes, rows, s, clean, a, g) {
-            report_rows::put_row(out, 4 + 9 * i, u * a, u * g, 0);
-            return Turn::Stored {
-                units: g,
-                items: 1,
-                refused: 0,
-            };
-        }
-        return put_judged(form, u, s, out, n, a, i, k);
-    }
-    let p = report_fast::accepted(form, values, classes, rows, s, clean, a);
-    if p == 0 {
-        return put_judged(form, u, s, out, n, a, i, k);
-    }
-    let r = report_sizes::followers(form, values, classes, rows, s, clean, a, p);
-    report_rows::put_rows(out, 4 + 9 * i, u * a, u * p, 1 + r);
-    Turn::Stored {
-        units: p + r * p,
-        items: 1 + r,
-        refused: 0,
-    }
-}
+// ---- the last section
 
 // The count of refusals, and no remainder: the report's length.
 fn finish(out: &mut [u8], n: usize, k: usize) -> usize
@@ -177,6 +52,23 @@ fn finish_rest(out: &mut [u8], n: usize, k: usize, offset: usize, number: u8) ->
     17 + 9 * n + 9 * k
 }
 
+// The last section, where so many elements make a unit.
+fn put_last(out: &mut [u8], u: usize, n: usize, end: End) -> usize
+    requires { ⌜ (17 + 18 * n ≤ length (now out)) × Fits u n end ⌝ }
+    ensures { λ r. ⌜ Last u n end (now (out .entry)) r (now (out .exit)) ⌝ }
+{
+    match end {
+        End::Whole { refused } => finish(out, n, refused),
+        End::Rest {
+            at,
+            refused,
+            number,
+        } => finish_rest(out, n, refused, u * at, number),
+    }
+}
+
+// ---- all rows
+
 // All rows of a stream, one turn after the other.
 fn put_all(
     form: Form,
@@ -189,7 +81,7 @@ fn put_all(
     known: usize,
     n: usize,
 ) -> End
-    requires { ⌜ Begun form u (now s) n known (now out) × Lent (now values) (now classes) (now rows) ⌝ }
+    requires { ⌜ Begun form u (now values) (now classes) (now rows) (now s) known n (now out) ⌝ }
     ensures { λ r. ⌜ ((o : List ℕ) → Fill form (now (s .entry)) o n 0 0 0 (now (out .entry)) → Ends form u (now (s .entry)) o n r (now (out .exit))) ⌝ }
 {
     let mut clean = known;
@@ -198,7 +90,7 @@ fn put_all(
     let mut k = 0;
     while u * a < s.len() {
         clean = report_first::known(form, s, a, clean);
-        match put_next(form, u, values, classes, rows, s, out, n, clean, a, i, k) {
+        match report_turn::put_turn(form, values, classes, rows, s, out, n, clean, a, i, k) {
             Turn::Rest { number } => {
                 return End::Rest {
                     at: a,
@@ -220,6 +112,25 @@ fn put_all(
     End::Whole { refused: k }
 }
 
+// The number of items, and their rows.
+fn put_items(
+    form: Form,
+    u: usize,
+    values: &[u8; 256],
+    classes: &[u8; 256],
+    rows: &[u16; 192],
+    s: &[u8],
+    out: &mut [u8],
+    known: usize,
+    n: usize,
+) -> End
+    requires { ⌜ Counted form u (now values) (now classes) (now rows) (now s) known n (now out) ⌝ }
+    ensures { λ r. ⌜ Ends form u (now (s .entry)) (now (out .entry)) n r (now (out .exit)) ⌝ }
+{
+    report_rows::put_number(out, 0, n);
+    put_all(form, u, values, classes, rows, s, out, known, n)
+}
+
 // Writes the report of a stream, which has n items.
 fn fill(
     form: Form,
@@ -232,23 +143,16 @@ fn fill(
     known: usize,
     n: usize,
 ) -> usize
-    requires { ⌜ (u ≡ domain form .unit) × Lent (now values) (now classes) (now rows) × (length (now s) ≤ domain form .limit) × Clear (domain form .sextets (now s)) 0 known × (n ≡ length (rowsIn (domain form) (now s))) × (17 + 18 * n ≤ length (now out)) ⌝ }
+    requires { ⌜ Counted form u (now values) (now classes) (now rows) (now s) known n (now out) ⌝ }
     ensures { λ r. ⌜ (r ≡ length (report (domain form) (now (s .entry)))) × (now (out .exit) ≡ sets (now (out .entry)) 0 (report (domain form) (now (s .entry)))) ⌝ }
 {
-    report_rows::put_number(out, 0, n);
-    match put_all(form, u, values, classes, rows, s, out, known, n) {
-        End::Whole { refused } => finish(out, n, refused),
-        End::Rest {
-            at,
-            refused,
-            number,
-        } => finish_rest(out, n, refused, u * at, number),
-    }
+    let end = put_items(form, u, values, classes, rows, s, out, known, n);
+    put_last(out, u, n, end)
 }
 
 // ---- the calls
 
-// By the tables, of a stream within the limit.
+// By the tables.
 fn report_by(
     form: Form,
     u: usize,
@@ -259,10 +163,10 @@ fn report_by(
     out: &mut [u8],
     known: usize,
 ) -> Reported
-    requires { ⌜ (u ≡ domain form .unit) × Lent (now values) (now classes) (now rows) × (length (now s) ≤ domain form .limit) × Clear (domain form .sextets (now s)) 0 known ⌝ }
+    requires { ⌜ Read form u (now values) (now classes) (now rows) (now s) known ⌝ }
     ensures { λ r. ⌜ (r ≡ reportAnswer (domain form) (now (s .entry)) (length (now (out .entry)))) × (now (out .exit) ≡ reportLeft r (domain form) (now (s .entry)) (now (out .entry))) ⌝ }
 {
-    let n = count(form, u, values, classes, rows, s, known);
+    let n = report_count::count(form, values, classes, rows, s, known);
     if out.len() < 17 + 18 * n {
         return Reported::Refused(3, 0);
     }
@@ -270,12 +174,12 @@ fn report_by(
     Reported::Written(length)
 }
 
+// Of a stream within the limit. The limit is looked at by the calls themselves: where the compiler knows it here, it stores a row byte
+// by byte.
 fn report(form: Form, s: &[u8], out: &mut [u8]) -> Reported
+    requires { ⌜ length (now s) ≤ domain form .limit ⌝ }
     ensures { λ r. ⌜ (r ≡ reportAnswer (domain form) (now (s .entry)) (length (now (out .entry)))) × (now (out .exit) ≡ reportLeft r (domain form) (now (s .entry)) (now (out .entry))) ⌝ }
 {
-    if report_item::limit(form) < s.len() {
-        return Reported::Refused(1, 0);
-    }
     let values = alphabet::sextets();
     let classes = runs::classes();
     let rows = runs::rows();
@@ -297,6 +201,9 @@ pub fn report_text(s: &[u8], out: &mut [u8]) -> Reported
     ensures { λ r. ⌜ r ≡ reportAnswer text (now (s .entry)) (length (now (out .entry))) ⌝ }
     ensures { λ r. ⌜ now (out .exit) ≡ reportLeft r text (now (s .entry)) (now (out .entry)) ⌝ }
 {
+    if 4194304 < s.len() {
+        return Reported::Refused(1, 0);
+    }
     report(Form::Text, s, out)
 }
 
@@ -305,5 +212,8 @@ pub fn report_binary(s: &[u8], out: &mut [u8]) -> Reported
     ensures { λ r. ⌜ r ≡ reportAnswer binary (now (s .entry)) (length (now (out .entry))) ⌝ }
     ensures { λ r. ⌜ now (out .exit) ≡ reportLeft r binary (now (s .entry)) (now (out .entry)) ⌝ }
 {
+    if 3145728 < s.len() {
+        return Reported::Refused(1, 0);
+    }
     report(Form::Binary, s, out)
 }

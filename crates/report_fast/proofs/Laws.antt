@@ -5,7 +5,7 @@ use mathlib.Core.Bool.{Bool, true, false}
 use mathlib.Core.List.{List}
 use native.Mathlib.Omega.{arith}
 use lib.Dec.{ltb, eqb}
-use native.Mathlib.Nat.{mul-comm, mul-le-mul-left, le-trans, min-le-left}
+use native.Mathlib.Nat.{mul-comm, mul-le-mul-left, le-trans, le-div-iff-mul-le, min-le-left, min-le-right}
 use lib.ListN.{length, take, drop, length-drop}
 use lib.Seq.{getD-drop, getD-take}
 use borrow.Author.Tests.{ltb-true, eqb-true}
@@ -13,6 +13,7 @@ use Rattle.base.specs.Pick.{pick}
 use Rattle.format.specs.declared.Form.{Form}
 use Rattle.format.specs.declared.Verdict.the-variants.{Accepted}
 use Rattle.format.specs.declared.Kind.{Kind}
+use Rattle.format.specs.declared.Framed.{Framed}
 use Rattle.format.specs.declared.Framed.the-variants.{Item}
 use Rattle.format.specs.Units.{Domain, domain}
 use Rattle.format.specs.Framing.{frameRuled, scale}
@@ -25,11 +26,12 @@ use Rattle.laws.specs.Domains.{reader}
 use Rattle.laws.specs.Levels.{part, any-item, item-sizes, level, level-end, Taken, taken-sizes}
 use Rattle.runs.specs.Plain.{plainTable, plainAt, groupAt, letterAt, nested}
 use Rattle.runs.specs.Levels.{Clear, clear-less, plain-taken, plain-level, group-taken, Nested, nested-level}
-use Rattle.report_item.specs.Items.{Inside, Takes}
+use Rattle.report_next.specs.Next.{Found, isEntered, isRuled}
+use Rattle.report_item.specs.Items.{Inside, Fits, Takes}
 use native.Mathlib.Nat.{pos-of-ne-zero}
-use Rattle.report_item.proofs.Laws.{wide, in-units, judged-good, Left, left-more}
+use Rattle.report_item.proofs.Laws.{wide, in-units, judged-good, Left, left-start, left-end, left-more, taken-found, taken-entered}
 use Rattle.report_first.specs.First.{Lent}
-use Rattle.report_fast.specs.Fast.{Ready, Good, Accepts}
+use Rattle.report_fast.specs.Fast.{Reach, Ready, Good, Accepts}
 
 -- ---- groups one in the other
 
@@ -127,7 +129,23 @@ module _ (f : Form) (values classes rows s : List ℕ) (l at stop : ℕ) (I : In
 pub ready-part : (f : Form) (values classes rows s : List ℕ) (at stop i to : ℕ) → Ready f values classes rows s at stop → at ≤ i → to ≤ stop
     → Ready f values classes rows s i to
 ready-part f values classes rows s at stop i to R a b =
-    record { lent = R .lent; clear = clear-less (domain f .sextets s) at stop i to (R .clear) a b }
+    record { few = R .few; lent = R .lent; clear = clear-less (domain f .sextets s) at stop i to (R .clear) a b }
+
+-- ---- units within a stream
+
+pub inside : {f : Form} {values classes rows s : List ℕ} {at stop : ℕ} {i to : ℕ} → Reach f s at stop → Ready f values classes rows s i to → Inside (domain f) s at stop
+inside {f} {values} {classes} {rows} {s} {at} {stop} W R = record {
+  order = W .order;
+  room = rw (mul-comm (domain f .unit) stop) (le-div-iff-mul-le (reader f .pos) .0 (W .room));
+  few = R .few;
+}
+
+pub reach-on : {f : Form} {s : List ℕ} {at stop : ℕ} (i : ℕ) → Reach f s at stop → i ≤ stop → Reach f s i stop
+reach-on i W h = record { order = h; room = W .room }
+
+-- a group's contents, within what is around it
+pub reach-part : {f : Form} {s : List ℕ} {at stop : ℕ} (i to : ℕ) → Reach f s at stop → i ≤ to → to ≤ stop → Reach f s i to
+reach-part i to W h g = record { order = h; room = omega (arith, W .room) }
 
 -- ---- a turn of the loop over a group's items
 
@@ -168,19 +186,132 @@ taken-good f s at stop r I t =
     let framed : frameRuled (d .sextets (drop (d .unit * at) s)) ≡ Item (t .kind) (t .head) r = rw rest more in
     record { kind = t .kind; head = t .head; framed = framed; judged = judged-good d (reader f) s at r (t .kind) (t .head) framed (t .judged) }
 
-pub top-good : (f : Form) (values classes rows s : List ℕ) (at clean units stop r : ℕ) → stop ≡ min clean units → Inside (domain f) s at stop
-    → (Ready f values classes rows s at stop → Takes (domain f .sextets s) maxDepth true at stop r) → Lent values classes rows
-    → Clear (domain f .sextets s) at clean → Accepts (domain f) s at r
-top-good f values classes rows s at clean units stop r e I t L K p =
-    taken-good f s at stop r I
-    (t (record { lent = L; clear = clear-less (domain f .sextets s) at clean at stop K (omega arith) (omega (arith, min-le-left clean units)) }) p)
+-- within the end of what is known, where so many units are left
+module _ (f : Form) (values classes rows s : List ℕ) (at clean units stop : ℕ) (e : stop ≡ min clean units) (is-u : units ≡ length s / domain f .unit)
+    (here : at < stop) where
+  pub top-reach : Reach f s at stop × (at < stop)
+  top-reach = (record { order = omega arith; room = rw (← is-u, e) (min-le-right clean units) }, here)
 
-pub group-good : (f : Form) (values classes rows s : List ℕ) (at size clean : ℕ) → Inside (domain f) s at (at + size) → 0 < size → at + size ≤ clean → (r : Bool)
-    → (Ready f values classes rows s at (at + size) → groupAt (domain f .sextets s) at ≡ at + size - at → r ≡ true
-    → level (domain f .sextets s) (maxDepth - 1) (isOverrideable (letterAt (domain f .sextets s) at)) (at + 1) (at + size) ≡ Accepted)
-    → Lent values classes rows → Clear (domain f .sextets s) at clean → groupAt (domain f .sextets s) at ≡ size → r ≡ true → Good (domain f) s at size
-group-good f values classes rows s at size clean I p h r v L K e t =
-    let R : Ready f values classes rows s at (at + size) = record { lent = L; clear = clear-less (domain f .sextets s) at clean at (at + size) K (omega arith) h } in
-    let z : size ≡ at + size - at = omega arith in
-    taken-good f s at (at + size) size I
-    (by-group f values classes rows s maxDepth at (at + size) I (omega arith) R true size e p (omega arith) (omega arith) _ refl (v R (e ∙ z) t) p)
+  pub top-good : (r : ℕ) → (r ≤ stop - at) × (Ready f values classes rows s at stop → Takes (domain f .sextets s) maxDepth true at stop r)
+      → (r ≤ length s / domain f .unit - at)
+      × (length s ≤ domain f .limit → Lent values classes rows → Clear (domain f .sextets s) at clean → Accepts (domain f) s at r)
+  top-good r t = (
+    omega (arith, t .0, min-le-right clean units),
+    λ l L K p.
+        let R : Ready f values classes rows s at stop = record { few = l; lent = L; clear = clear-less (domain f .sextets s) at clean at stop K (omega arith) (omega (arith, min-le-left clean units)) } in
+        taken-good f s at stop r (inside (top-reach .0) R) (t .1 R p),
+  )
+
+-- a group of so many units
+module _ (f : Form) (values classes rows s : List ℕ) (at size clean units stop : ℕ) (e : stop ≡ min clean units) (is-u : units ≡ length s / domain f .unit)
+    (here : at < stop) (h : size ≤ stop - at) (p : 0 < size) where
+  pub group-reach : Reach f s at (at + size) × (at < at + size)
+  group-reach = (record { order = omega arith; room = omega (arith, is-u, e, min-le-right clean units) }, omega arith)
+
+  pub group-good : (r : Bool) → (Ready f values classes rows s at (at + size) → groupAt (domain f .sextets s) at ≡ at + size - at → r ≡ true
+      → level (domain f .sextets s) (maxDepth - 1) (isOverrideable (letterAt (domain f .sextets s) at)) (at + 1) (at + size) ≡ Accepted)
+      → length s ≤ domain f .limit → Lent values classes rows → Clear (domain f .sextets s) at clean → groupAt (domain f .sextets s) at ≡ size → r ≡ true
+      → Good (domain f) s at size
+  group-good r v l L K q t =
+      let R : Ready f values classes rows s at (at + size) = record {
+        few = l;
+        lent = L;
+        clear = clear-less (domain f .sextets s) at clean at (at + size) K (omega arith) (omega (arith, e, min-le-left clean units));
+      } in
+      let I = inside (group-reach .0) R in
+      let z : size ≡ at + size - at = omega arith in
+      taken-good f s at (at + size) size I
+      (by-group f values classes rows s maxDepth at (at + size) I (omega arith) R true size q p (omega arith) (omega arith) _ refl (v R (q ∙ z) t) p)
+
+-- ---- a group's items
+
+-- the items up to a unit are accepted, and what is said of all is said of those that are left
+pub record Going (f : Form) (values classes rows s : List ℕ) (l : ℕ) (first : Bool) (at stop : ℕ) (ruled : Bool) (i : ℕ) : Type 0 where
+  pub reach : Reach f s at stop
+  pub from : at ≤ i
+  pub to : i ≤ stop
+  pub left : Ready f values classes rows s at stop → Left (domain f .sextets s) l first at stop ruled i
+
+module _ {f : Form} {values classes rows s : List ℕ} {l : ℕ} {first : Bool} {at stop : ℕ} where
+  pub going-start : Reach f s at stop → Going f values classes rows s l first at stop first at
+  going-start W = record { reach = W; from = omega arith; to = W .order; left = λ R. left-start _ _ _ _ _ (W .order) }
+
+  module _ {ruled : Bool} {i : ℕ} (G : Going f values classes rows s l first at stop ruled i) where
+    pub going-reach : i < stop → Reach f s i stop × (i < stop)
+    going-reach h = (reach-on i (G .reach) (G .to), h)
+
+    going-more : (n : ℕ) → n ≤ stop - i → 0 < n → (Ready f values classes rows s i stop → Takes (domain f .sextets s) l ruled i stop n)
+        → Going f values classes rows s l first at stop false (i + n)
+    going-more n h p t = record {
+      reach = G .reach;
+      from = omega (arith, G .from);
+      to = omega (arith, G .to);
+      left = λ R.
+          turn-left f s l first at stop (inside (G .reach) R) ruled i n (t (ready-part f values classes rows s at stop i stop R (G .from) (omega arith))) (λ z. omega arith)
+          (G .left R);
+    }
+
+    pub going-plain : (k : ℕ) → (Lent values classes rows → plainAt plainTable (domain f .sextets s) i ≡ k) → 0 < k → k ≤ stop - i → i < stop
+        → Going f values classes rows s l first at stop false (i + k)
+    going-plain k e p h lt =
+        going-more k h p
+        (λ R. by-plain f values classes rows s l i stop (inside (going-reach lt .0) R) lt R ruled k (e (R .lent)) h)
+
+    pub going-taken : (n : ℕ) → (n ≤ stop - i) × (Ready f values classes rows s i stop → Takes (domain f .sextets s) l ruled i stop n) → (n ≡ 0 → ⊥)
+        → Going f values classes rows s l first at stop false (i + n)
+    going-taken n t p = going-more n (t .0) (pos-of-ne-zero p) (t .1)
+
+    pub going-end : stop ≤ i → Ready f values classes rows s at stop → level (domain f .sextets s) l first at stop ≡ Accepted
+    going-end h R = sym (left-end _ _ _ _ _ _ _ (G .left R) h)
+
+-- ---- the next item
+
+-- a group's contents, as the general way finds it
+module _ {f : Form} {s : List ℕ} {l at stop : ℕ} (W : Reach f s at stop) (g : Framed) (F : Fits l at stop g) (k : Kind) (h n : ℕ) (e : g ≡ Item k h n) where
+  pub inner-reach : (0 < h) × (h ≤ n) × (at + n ≤ stop) × Reach f s (at + h) (at + n)
+  inner-reach = let w = F k h n e in (w .0, w .1, w .2, reach-part (at + h) (at + n) W (omega (arith, w .1)) (w .2))
+
+  pub inner-levels : (b : Bool) → b ≡ isEntered k → b ≡ true → 0 < l
+  inner-levels b is t = F k h n e .3 (sym is ∙ t)
+
+pub group-inner : {f : Form} {s : List ℕ} {at stop : ℕ} → Reach f s at stop → at < stop → (n : ℕ) → 0 < n → n ≤ stop - at → Reach f s (at + 1) (at + n)
+group-inner {f} {s} {at} W lt n p h = reach-part (at + 1) (at + n) W (omega arith) (omega arith)
+
+module _ {f : Form} {values classes rows s : List ℕ} {l : ℕ} {first : Bool} {at stop : ℕ} (W : Reach f s at stop) (lt : at < stop) where
+  -- as the general way finds it
+  module _ (g : Framed) (F : Fits l at stop g × (Inside (domain f) s at stop → at < stop → Found (domain f .sextets s) l first at stop g)) (k : Kind) (h n : ℕ)
+      (e : g ≡ Item k h n) (b : Bool) (is : b ≡ isEntered k) where
+    pub by-contents : b ≡ true → (m : Bool) → m ≡ isRuled k → (v : Bool)
+        → (Ready f values classes rows s (at + h) (at + n) → v ≡ true → level (domain f .sextets s) (l - 1) m (at + h) (at + n) ≡ Accepted) → v ≡ true
+        → (n ≤ stop - at) × (Ready f values classes rows s at stop → Takes (domain f .sextets s) l first at stop n)
+    by-contents t m z v c y = (
+      omega (arith, F .0 k h n e .2),
+      λ R p.
+          let I = inside W R in
+          taken-entered (domain f .sextets s) l first at stop (wide f s l first at stop I) lt g (F .1 I lt) k h n e (sym is ∙ t) m z
+          (c (ready-part f values classes rows s at stop (at + h) (at + n) R (omega arith) (F .0 k h n e .2)) y),
+    )
+
+    pub by-own : b ≡ false → (n ≤ stop - at) × (Ready f values classes rows s at stop → Takes (domain f .sextets s) l first at stop n)
+    by-own t = (
+      omega (arith, F .0 k h n e .2),
+      λ R p.
+          let I = inside W R in
+          taken-found (domain f .sextets s) l first at stop (wide f s l first at stop I) lt g (F .1 I lt) k h n e (sym is ∙ t),
+    )
+
+  -- a small group
+  module _ (n : ℕ) (e : Lent values classes rows → groupAt (domain f .sextets s) at ≡ n) (p : 0 < n) (h : n ≤ stop - at) where
+    pub by-inner : (l ≡ 0 → ⊥) → (m : Bool) → (Lent values classes rows → 0 < groupAt (domain f .sextets s) at → m ≡ isOverrideable (letterAt (domain f .sextets s) at))
+        → (v : Bool) → (Ready f values classes rows s (at + 1) (at + n) → v ≡ true → level (domain f .sextets s) (l - 1) m (at + 1) (at + n) ≡ Accepted) → v ≡ true
+        → (n ≤ stop - at) × (Ready f values classes rows s at stop → Takes (domain f .sextets s) l first at stop n)
+    by-inner q m z v c y = (
+      h,
+      λ R.
+          let g = e (R .lent) in
+          by-group f values classes rows s l at stop (inside W R) lt R first n g p h (pos-of-ne-zero q) m (z (R .lent) (rw g p))
+          (c (ready-part f values classes rows s at stop (at + 1) (at + n) R (omega arith) (omega arith)) y),
+    )
+
+  pub nothing : (0 ≤ stop - at) × (Ready f values classes rows s at stop → Takes (domain f .sextets s) l first at stop 0)
+  nothing = (omega arith, λ R p. absurd (omega arith))

@@ -1,8 +1,8 @@
 -- What the fast way asks, and what it says of the item at a unit of a stream. Assumes nothing.
-use Prim.Native.Nat.{ℕ, _*_, _<_}
+use Prim.Native.Nat.{ℕ, _*_, _/_, _≤_, _<_}
 use mathlib.Core.Path.{_≡_}
 use mathlib.Core.List.{List}
-use lib.ListN.{take, drop}
+use lib.ListN.{length, take, drop}
 use Rattle.format.specs.declared.Form.{Form}
 use Rattle.format.specs.declared.Kind.{Kind}
 use Rattle.format.specs.declared.Framed.the-variants.{Item}
@@ -14,8 +14,14 @@ use Rattle.format.specs.Report.{judgeIn}
 use Rattle.runs.specs.Levels.{Clear}
 use Rattle.report_first.specs.First.{Lent}
 
--- the tables are right, and all from a unit to another is known
+-- units of a stream
+pub record Reach (f : Form) (s : List ℕ) (at stop : ℕ) : Type 0 where
+  pub order : at ≤ stop
+  pub room : stop ≤ length s / domain f .unit
+
+-- the stream is within the limit, the tables are right, and all from a unit to another is known
 pub record Ready (f : Form) (values classes rows s : List ℕ) (at stop : ℕ) : Type 0 where
+  pub few : length s ≤ domain f .limit
   pub lent : Lent values classes rows
   pub clear : Clear (domain f .sextets s) at stop
 

@@ -5,7 +5,8 @@ use format::Framed;
 use judging::MAX_DEPTH;
 ghost use mathlib.Core.Path.{_≡_};
 ghost use mathlib.Core.Bool.{true};
-ghost use Prim.Native.Nat.{_+_, _-_, _≤_, _<_};
+ghost use Prim.Native.Nat.{_+_, _-_, _/_, _≤_, _<_};
+ghost use lib.ListN.{length};
 ghost use Rattle.format.specs.declared.Verdict.the-variants.{Accepted};
 ghost use Rattle.format.specs.Units.{domain};
 ghost use Rattle.format.specs.Registry.{isOverrideable};
@@ -13,13 +14,13 @@ ghost use Rattle.format.specs.Judging.{maxDepth};
 ghost use Rattle.laws.specs.Levels.{level};
 ghost use Rattle.runs.specs.Plain.{groupAt, letterAt};
 ghost use Rattle.runs.specs.Levels.{Clear};
-ghost use Rattle.report_item.specs.Items.{Inside, Takes};
+ghost use Rattle.report_item.specs.Items.{Takes};
 ghost use Rattle.report_first.specs.First.{Lent};
-ghost use Rattle.report_fast.specs.Fast.{Ready, Good, Accepts};
+ghost use Rattle.report_fast.specs.Fast.{Reach, Ready, Good, Accepts};
 
 // ---- items accepted whole, where all is known
 
-// The next item from a unit on, if it ends in front of another unit and is accepted: its size, else 0.
+// The next item from a unit on, which is no plain primitive, if it ends in front of another unit and is accepted: its size, else 0.
 fn taken(
     form: Form,
     values: &[u8; 256],
@@ -31,7 +32,7 @@ fn taken(
     at: usize,
     stop: usize,
 ) -> usize
-    requires { ⌜ Inside (domain form) (now s) at stop × (at < stop) ⌝ }
+    requires { ⌜ Reach form (now s) at stop × (at < stop) ⌝ }
     ensures { λ r. ⌜ (r ≤ stop - at) × (Ready form (now (values .entry)) (now (classes .entry)) (now (rows .entry)) (now (s .entry)) at stop → Takes (domain form .sextets (now (s .entry))) levels first at stop r) ⌝ }
 {
     let g = report_first::group(form, values, classes, rows, s, at);
@@ -58,13 +59,6 @@ fn taken(
         }
         return 0;
     }
-    let k = report_first::plain(form, values, classes, rows, s, at);
-    if 0 < k {
-        if stop - at < k {
-            return 0;
-        }
-        return k;
-    }
     other(form, values, classes, rows, s, levels, first, at, stop)
 }
 
@@ -80,7 +74,7 @@ fn other(
     at: usize,
     stop: usize,
 ) -> usize
-    requires { ⌜ Inside (domain form) (now s) at stop × (at < stop) ⌝ }
+    requires { ⌜ Reach form (now s) at stop × (at < stop) ⌝ }
     ensures { λ r. ⌜ (r ≤ stop - at) × (Ready form (now (values .entry)) (now (classes .entry)) (now (rows .entry)) (now (s .entry)) at stop → Takes (domain form .sextets (now (s .entry))) levels first at stop r) ⌝ }
 {
     match report_item::found(form, s, levels, first, at, stop) {
@@ -123,23 +117,55 @@ fn accepts(
     at: usize,
     stop: usize,
 ) -> bool
-    requires { ⌜ Inside (domain form) (now s) at stop ⌝ }
+    requires { ⌜ Reach form (now s) at stop ⌝ }
     ensures { λ r. ⌜ (Ready form (now (values .entry)) (now (classes .entry)) (now (rows .entry)) (now (s .entry)) at stop → r ≡ true → level (domain form .sextets (now (s .entry))) levels first at stop ≡ Accepted) ⌝ }
 {
     let mut i = at;
     let mut ruled = first;
     while i < stop {
-        let n = taken(form, values, classes, rows, s, levels, ruled, i, stop);
-        if n == 0 {
-            return false;
+        let k = report_first::plain(form, values, classes, rows, s, i);
+        if 0 < k {
+            if stop - i < k {
+                return false;
+            }
+            i = i + k;
+            ruled = false;
+        } else {
+            let n = taken(form, values, classes, rows, s, levels, ruled, i, stop);
+            if n == 0 {
+                return false;
+            }
+            i = i + n;
+            ruled = false;
         }
-        i = i + n;
-        ruled = false;
     }
     true
 }
 
 // ---- at top level
+
+// The size of the item at a unit, if it ends in front of another unit and is accepted; else 0.
+fn accepted_within(
+    form: Form,
+    values: &[u8; 256],
+    classes: &[u8; 256],
+    rows: &[u16; 192],
+    s: &[u8],
+    at: usize,
+    stop: usize,
+) -> usize
+    requires { ⌜ Reach form (now s) at stop × (at < stop) ⌝ }
+    ensures { λ r. ⌜ (r ≤ stop - at) × (Ready form (now (values .entry)) (now (classes .entry)) (now (rows .entry)) (now (s .entry)) at stop → Takes (domain form .sextets (now (s .entry))) maxDepth true at stop r) ⌝ }
+{
+    let k = report_first::plain(form, values, classes, rows, s, at);
+    if 0 < k {
+        if stop - at < k {
+            return 0;
+        }
+        return k;
+    }
+    taken(form, values, classes, rows, s, MAX_DEPTH, true, at, stop)
+}
 
 // The size of the item at a unit of a stream, if it is accepted and known up to a unit; else 0.
 pub fn accepted(
@@ -151,16 +177,13 @@ pub fn accepted(
     clean: usize,
     at: usize,
 ) -> usize
-    ensures { λ r. ⌜ (Lent (now (values .entry)) (now (classes .entry)) (now (rows .entry)) → Clear (domain form .sextets (now (s .entry))) at clean → Accepts (domain form) (now (s .entry)) at r) ⌝ }
+    ensures { λ r. ⌜ (r ≤ length (now (s .entry)) / domain form .unit - at) × (length (now (s .entry)) ≤ domain form .limit → Lent (now (values .entry)) (now (classes .entry)) (now (rows .entry)) → Clear (domain form .sextets (now (s .entry))) at clean → Accepts (domain form) (now (s .entry)) at r) ⌝ }
 {
     let end = report_first::least(clean, report_item::units(form, s.len()));
     if end <= at {
         return 0;
     }
-    if report_item::limit(form) < s.len() {
-        return 0;
-    }
-    taken(form, values, classes, rows, s, MAX_DEPTH, true, at, end)
+    accepted_within(form, values, classes, rows, s, at, end)
 }
 
 // Whether the small group of so many units at a unit of a stream is accepted and known up to a unit. Groups that stand one in the other
@@ -175,16 +198,13 @@ pub fn group_accepted(
     at: usize,
     size: usize,
 ) -> bool
-    ensures { λ r. ⌜ (Lent (now (values .entry)) (now (classes .entry)) (now (rows .entry)) → Clear (domain form .sextets (now (s .entry))) at clean → groupAt (domain form .sextets (now (s .entry))) at ≡ size → r ≡ true → Good (domain form) (now (s .entry)) at size) ⌝ }
+    ensures { λ r. ⌜ (length (now (s .entry)) ≤ domain form .limit → Lent (now (values .entry)) (now (classes .entry)) (now (rows .entry)) → Clear (domain form .sextets (now (s .entry))) at clean → groupAt (domain form .sextets (now (s .entry))) at ≡ size → r ≡ true → Good (domain form) (now (s .entry)) at size) ⌝ }
 {
     let end = report_first::least(clean, report_item::units(form, s.len()));
     if end <= at {
         return false;
     }
     if end - at < size {
-        return false;
-    }
-    if report_item::limit(form) < s.len() {
         return false;
     }
     if size == 0 {
@@ -203,7 +223,7 @@ fn inside_accepted(
     at: usize,
     stop: usize,
 ) -> bool
-    requires { ⌜ Inside (domain form) (now s) at stop × (at < stop) ⌝ }
+    requires { ⌜ Reach form (now s) at stop × (at < stop) ⌝ }
     ensures { λ r. ⌜ (Ready form (now (values .entry)) (now (classes .entry)) (now (rows .entry)) (now (s .entry)) at stop → groupAt (domain form .sextets (now (s .entry))) at ≡ stop - at → r ≡ true → level (domain form .sextets (now (s .entry))) (maxDepth - 1) (isOverrideable (letterAt (domain form .sextets (now (s .entry))) at)) (at + 1) stop ≡ Accepted) ⌝ }
 {
     let d = report_first::nested(form, values, classes, rows, s, at + 1, stop, MAX_DEPTH - 1);

@@ -23,7 +23,7 @@ use Rattle.laws.specs.Levels.{then-accepts, part, take-of-drop, any-item, item-
 use Rattle.judging.specs.Own.{toldBy}
 use Rattle.report_next.specs.Next.{nextOwn, isEntered, isRuled, Own, Found}
 use Rattle.report_next.proofs.Laws.{fits, length-sextets, length-binary, next-near, found-refused, found-item, enters, whole-plain, whole-entered, turn-inner}
-use Rattle.report_item.specs.Items.{Inside, moved, Whole, Judges}
+use Rattle.report_item.specs.Items.{Inside, Fits, moved, Whole, Judges}
 
 -- ---- either form
 
@@ -182,6 +182,12 @@ module _ (f : Form) (s : List ℕ) (l : ℕ) (first : Bool) (at stop : ℕ) (I :
   found-fits lt r F k a n e =
       let z = found-sizes (domain f .sextets s) l first at stop wide lt r F k a n e in
       (z .0, z .1, z .2, found-levels (domain f .sextets s) l first at stop wide lt r F k a n e)
+
+pub none-fits : (l at stop m p : ℕ) → Fits l at stop (Unframed m p)
+none-fits l at stop m p k h n e = absurd (other-variant e)
+  where
+    other-variant : Unframed m p ≡ Item k h n → ⊥
+    other-variant e = let y : _≡_ {A = ℕ} 0 1 = cc in omega arith
 
 pub taken-fits : (f : Form) (s : List ℕ) (l : ℕ) (first : Bool) (at stop i : ℕ) → Inside (domain f) s at stop → i ≤ stop → (r : Framed)
     → Whole (domain f .sextets s) l first i stop r → (k : Kind) (a n : ℕ) → r ≡ Item k a n → (0 < n) × (i + n ≤ stop)

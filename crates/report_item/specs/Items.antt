@@ -1,7 +1,7 @@
 -- What is said of the item at a unit of a stream: its verdict, and that it is accepted whole. Assumes nothing.
 use Prim.Native.Nat.{ℕ, _+_, _*_, _≤_, _<_}
 use mathlib.Core.Path.{_≡_}
-use mathlib.Core.Bool.{Bool}
+use mathlib.Core.Bool.{Bool, true}
 use mathlib.Core.List.{List}
 use lib.ListN.{length, take, drop}
 use Rattle.format.specs.declared.Kind.{Kind}
@@ -14,6 +14,7 @@ use Rattle.format.specs.Framing.{frameRuled}
 use Rattle.format.specs.Judging.{shift}
 use Rattle.format.specs.Report.{judgeIn}
 use Rattle.laws.specs.Levels.{level, Taken}
+use Rattle.report_next.specs.Next.{isEntered}
 
 -- units of a stream within the limit
 pub record Inside (d : Domain) (xs : List ℕ) (at stop : ℕ) : Type 0 where
@@ -35,6 +36,10 @@ Judges d xs at n v =
 -- one-sided: 0 says nothing
 abbrev pub Takes : List ℕ → ℕ → Bool → ℕ → ℕ → ℕ → Type 0
 Takes s l first at stop r = 0 < r → Taken s l first at stop r
+
+-- a found item is within what it was looked for in, and a group is entered where one more may be
+abbrev pub Fits : ℕ → ℕ → ℕ → Framed → Type 0
+Fits l at stop r = (k : Kind) (h n : ℕ) → r ≡ Item k h n → (0 < h) × (h ≤ n) × (at + n ≤ stop) × (isEntered k ≡ true → 0 < l)
 
 -- the next item judged whole: its refusal is the first, or it is taken
 abbrev pub Whole : List ℕ → ℕ → Bool → ℕ → ℕ → Framed → Type 0

@@ -15,7 +15,7 @@ ghost use Rattle.format.specs.Judging.{shift};
 ghost use Rattle.format.specs.Report.{placed, judgeIn};
 ghost use Rattle.laws.specs.Levels.{level};
 ghost use Rattle.report_next.specs.Next.{Found};
-ghost use Rattle.report_item.specs.Items.{Inside, moved, Whole, Judges};
+ghost use Rattle.report_item.specs.Items.{Inside, moved, Fits, Whole, Judges};
 
 // Elements of a stream to a unit.
 pub fn unit(form: Form) -> usize
@@ -112,7 +112,7 @@ fn next(form: Form, s: &[u8], levels: usize, first: bool, at: usize, stop: usize
 
 // The same of any units: what is past the end or the limit is not framed.
 pub fn found(form: Form, s: &[u8], levels: usize, first: bool, at: usize, stop: usize) -> Framed
-    ensures { λ r. ⌜ (Inside (domain form) (now (s .entry)) at stop → at < stop → Found (domain form .sextets (now (s .entry))) levels first at stop r) ⌝ }
+    ensures { λ r. ⌜ Fits levels at stop r × (Inside (domain form) (now (s .entry)) at stop → at < stop → Found (domain form .sextets (now (s .entry))) levels first at stop r) ⌝ }
 {
     if limit(form) < s.len() {
         return Framed::Unframed {

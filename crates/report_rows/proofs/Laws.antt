@@ -14,10 +14,10 @@ use Rattle.format.specs.declared.Verdict.the-variants.{Accepted, Refused}
 use Rattle.format.specs.Report.{be4, verdictByte, refusalBytes, refusal, concat}
 use Rattle.report_rows.specs.Stores.{put, put-fits, none-put, be4-long, sets-append}
 
-pub by-rest : (len at n : ℕ) → at ≤ len → leb n (len - at) ≡ leb (at + n) len
+pub by-rest : (len at n : ℕ) → n ≤ len → leb at (len - n) ≡ leb (at + n) len
 by-rest len at n h =
-    ⊎-elim (λ l. lt-leb n (len - at) l ∙ sym (lt-leb (at + n) len (omega arith))) (λ g. le-leb n (len - at) g ∙ sym (le-leb (at + n) len (omega arith)))
-    (lt-or-ge (len - at) n)
+    ⊎-elim (λ l. lt-leb at (len - n) l ∙ sym (lt-leb (at + n) len (omega arith))) (λ g. le-leb at (len - n) g ∙ sym (le-leb (at + n) len (omega arith)))
+    (lt-or-ge (len - n) at)
 
 -- ---- an item, accepted or refused
 
@@ -34,21 +34,9 @@ module _ (out : List ℕ) (at to i o n : ℕ) (v : Verdict) where
 
 -- ---- a row, number by number
 
-pub byte-put : (out : List ℕ) (at b : ℕ) → at < length out → set out at b ≡ put out at (b ∷ [])
-byte-put out at b h = sym (put-fits out at (b ∷ []) (omega arith))
-
-pub byte-left : (out : List ℕ) (at b : ℕ) → length out ≤ at → out ≡ put out at (b ∷ [])
-unfolding put
-byte-left out at b h = rw (lt-leb (at + 1) (length out) (omega arith))
-
-pub row-put : (out : List ℕ) (at o n b : ℕ) {one two three : List ℕ} → at + 9 ≤ length out → one ≡ sets out at (be4 o) → two ≡ put one (at + 4) (be4 n)
-    → three ≡ put two (at + 8) (b ∷ []) → three ≡ sets out at (be4 o ++ (be4 n ++ (b ∷ [])))
-row-put out at o n b h e f g =
+-- the offset, then the size and the number
+pub row-put : (out : List ℕ) (at o n b : ℕ) {one two : List ℕ} → one ≡ sets out at (be4 o) → two ≡ sets one (at + 4) (be4 n ++ (b ∷ []))
+    → two ≡ sets out at (be4 o ++ (be4 n ++ (b ∷ [])))
+row-put out at o n b e f =
     let x : at + 4 ≡ at + length (be4 o) = omega (arith, be4-long o) in
-    let y : at + 8 ≡ at + length (be4 o) + length (be4 n) = omega (arith, be4-long o, be4-long n) in
-    let a : length (sets out at (be4 o)) ≡ length out = length-sets out at (be4 o) in
-    let b′ : length (sets (sets out at (be4 o)) (at + 4) (be4 n)) ≡ length out = length-sets (sets out at (be4 o)) (at + 4) (be4 n) ∙ a in
-    g
-    ∙ ap (λ (l : List ℕ). put l (at + 8) (b ∷ [])) (f ∙ ap (λ (l : List ℕ). put l (at + 4) (be4 n)) e ∙ put-fits (sets out at (be4 o)) (at + 4) (be4 n) (omega (arith, be4-long n)))
-    ∙ put-fits (sets (sets out at (be4 o)) (at + 4) (be4 n)) (at + 8) (b ∷ []) (omega arith)
-    ∙ rw (y, x, sets-append (sets out at (be4 o)) (at + length (be4 o)) (be4 n) (b ∷ []), sets-append out at (be4 o) (be4 n ++ (b ∷ [])))
+    f ∙ rw (e, x) (sets-append out at (be4 o) (be4 n ++ (b ∷ [])))

@@ -1,22 +1,26 @@
-// The bytes of a report, stored at places of a lent buffer: numbers, rows of items, refusals, the remainder. What does not fit is not
-// stored. Where each stands is the caller's, so that rows may have any width: the law of filling in specs/ is over it.
+// The bytes of a report, stored at places of a lent buffer: numbers, rows of items, refusals, the remainder, and the rows of accepted
+// items that begin alike, each stored as the item is looked at. What does not fit is not stored. Where each stands is the caller's, so
+// that rows may have any width: the law of filling in specs/ is over it.
+use format::Form;
 use format::Verdict;
 ghost use mathlib.Core.Path.{_≡_};
 ghost use mathlib.Core.List.{[], _∷_, _++_};
-ghost use Prim.Native.Nat.{_+_, _*_, _≤_};
+ghost use Prim.Native.Nat.{_+_, _*_, _≤_, _<_};
 ghost use lib.Dec.{leb};
-ghost use lib.ListN.{length};
+ghost use Rattle.base.specs.Pick.{pick};
+ghost use lib.ListN.{length, getD};
 ghost use lib.Seq.{sets};
 ghost use Rattle.format.specs.Report.{be4, rowBytes, refusalBytes, concat, refusal, verdictByte};
 ghost use Rattle.report_rows.specs.Stores.{put, runOf};
+ghost use Rattle.report_rows.specs.Alike.{isAlike, Alike, Roomy};
 
 fn has_room(len: usize, at: usize, n: usize) -> bool
     ensures { λ r. ⌜ r ≡ leb (at + n) len ⌝ }
 {
-    if len < at {
+    if len < n {
         return false;
     }
-    n <= len - at
+    at <= len - n
 }
 
 // ---- numbers
@@ -40,24 +44,26 @@ pub fn put_number(out: &mut [u8], at: usize, v: usize)
     }
 }
 
-fn put_byte(out: &mut [u8], at: usize, b: u8)
-    ensures { λ _. ⌜ now (out .exit) ≡ put (now (out .entry)) at (b ∷ []) ⌝ }
-{
-    if at < out.len() {
-        out[at] = b;
-    }
-}
-
 // ---- rows that fit
+
+// A number, and a refusal's number behind it, or 0 where an item is accepted.
+fn store_told(out: &mut [u8], at: usize, v: usize, number: u8)
+    requires { ⌜ at + 5 ≤ length (now out) ⌝ }
+    ensures { λ _. ⌜ now (out .exit) ≡ sets (now (out .entry)) at (be4 v ++ (number ∷ [])) ⌝ }
+{
+    store4(out, at, v);
+    out[at + 4] = number;
+}
 
 fn store_row(out: &mut [u8], at: usize, offset: usize, size: usize, number: u8)
     requires { ⌜ at + 9 ≤ length (now out) ⌝ }
     ensures { λ _. ⌜ now (out .exit) ≡ sets (now (out .entry)) at (be4 offset ++ (be4 size ++ (number ∷ []))) ⌝ }
 {
     store4(out, at, offset);
-    // Tests of room keep the stores apart, so that the compiler joins the bytes of each number to one.
-    put_number(out, at + 4, size);
-    put_byte(out, at + 8, number);
+    // A test keeps the stores apart, so that the compiler joins the bytes of the offset to one.
+    if at + 8 < out.len() {
+        store_told(out, at + 4, size, number);
+    }
 }
 
 fn store_refusal(out: &mut [u8], at: usize, index: usize, number: u8, place: usize)
@@ -67,14 +73,6 @@ fn store_refusal(out: &mut [u8], at: usize, index: usize, number: u8, place: usi
     store4(out, at, index);
     out[at + 4] = number;
     store4(out, at + 5, place);
-}
-
-fn store_remainder(out: &mut [u8], at: usize, offset: usize, number: u8)
-    requires { ⌜ at + 5 ≤ length (now out) ⌝ }
-    ensures { λ _. ⌜ now (out .exit) ≡ sets (now (out .entry)) at (be4 offset ++ (number ∷ [])) ⌝ }
-{
-    store4(out, at, offset);
-    out[at + 4] = number;
 }
 
 // ---- one row
@@ -99,7 +97,7 @@ pub fn put_remainder(out: &mut [u8], at: usize, offset: usize, number: u8)
     ensures { λ _. ⌜ now (out .exit) ≡ put (now (out .entry)) at (be4 offset ++ (number ∷ [])) ⌝ }
 {
     if has_room(out.len(), at, 5) {
-        store_remainder(out, at, offset, number);
+        store_told(out, at, offset, number);
     }
 }
 
@@ -130,35 +128,143 @@ pub fn put_item(
     }
 }
 
-// ---- accepted items of one size that follow one another
+// ---- accepted items of one size that follow one another and begin alike
 
-fn store_rows(out: &mut [u8], at: usize, offset: usize, size: usize, count: usize)
-    requires { ⌜ (at + 9 * count ≤ length (now out)) × (offset ≤ 4194304) × (size ≤ 4194304) × (count ≤ 4194304) ⌝ }
-    ensures { λ _. ⌜ now (out .exit) ≡ sets (now (out .entry)) at (concat rowBytes (runOf offset size count)) ⌝ }
+fn wide(x: u8) -> usize
+    ensures { λ r. ⌜ (r ≡ x) × (r < 256) ⌝ }
 {
-    let mut p = offset;
-    let mut r = 0;
-    while r < count {
-        store_row(out, at + 9 * r, p, size, 0);
-        p = p + size;
-        r = r + 1;
+    x as usize
+}
+
+// The value of a character by a table.
+fn value(values: &[u8; 256], s: &[u8], at: usize) -> usize
+    requires { ⌜ at < length (now s) ⌝ }
+    ensures { λ r. ⌜ r ≡ getD (now (values .entry)) (getD (now (s .entry)) at 0) 0 ⌝ }
+{
+    wide(values[wide(s[at])])
+}
+
+// The same first element, and in a text a second one whose value is below a limit.
+fn is_alike(form: Form, values: &[u8; 256], s: &[u8], x: u8, limit: usize, at: usize) -> bool
+    requires { ⌜ at + 1 < length (now s) ⌝ }
+    ensures { λ r. ⌜ r ≡ isAlike form (now (values .entry)) (now (s .entry)) x limit at ⌝ }
+{
+    if s[at] != x {
+        return false;
+    }
+    match form {
+        Form::Text => value(values, s, at + 1) < limit,
+        Form::Binary => true,
     }
 }
 
-// Their rows, one behind the other.
-pub fn put_rows(out: &mut [u8], at: usize, offset: usize, size: usize, count: usize)
-    ensures { λ _. ⌜ (at + 9 * count ≤ length (now (out .entry)) → offset ≤ 4194304 → size ≤ 4194304 → count ≤ 4194304 → now (out .exit) ≡ sets (now (out .entry)) at (concat rowBytes (runOf offset size count))) ⌝ }
+// The row of the item at an element, if it begins so.
+fn store_if(
+    form: Form,
+    values: &[u8; 256],
+    s: &[u8],
+    x: u8,
+    limit: usize,
+    size: usize,
+    p: usize,
+    out: &mut [u8],
+    at: usize,
+) -> bool
+    requires { ⌜ (p + 1 < length (now s)) × (at + 9 ≤ length (now out)) ⌝ }
+    ensures { λ r. ⌜ (r ≡ isAlike form (now (values .entry)) (now (s .entry)) x limit p) × (now (out .exit) ≡ pick r (sets (now (out .entry)) at (be4 p ++ (be4 size ++ (0 ∷ [])))) (now (out .entry))) ⌝ }
 {
-    if 4194304 < offset {
-        return;
+    if is_alike(form, values, s, x, limit, p) {
+        store_row(out, at, p, size, 0);
+        return true;
+    }
+    false
+}
+
+// Their rows, for which there is room.
+fn store_alike(
+    form: Form,
+    values: &[u8; 256],
+    s: &[u8],
+    x: u8,
+    limit: usize,
+    size: usize,
+    from: usize,
+    end: usize,
+    out: &mut [u8],
+    at: usize,
+) -> usize
+    requires { ⌜ (1 < size) × (size ≤ 4194304) × (from ≤ end) × (end ≤ length (now s)) × Roomy from size end at (length (now out)) ⌝ }
+    ensures { λ r. ⌜ Alike form (now (values .entry)) (now (s .entry)) x limit size from end r × (now (out .exit) ≡ sets (now (out .entry)) at (concat rowBytes (runOf from size r))) ⌝ }
+{
+    let mut p = from;
+    let mut r = 0;
+    while p + size <= end {
+        if !store_if(form, values, s, x, limit, size, p, out, at + 9 * r) {
+            return r;
+        }
+        p = p + size;
+        r = r + 1;
+    }
+    r
+}
+
+fn least(x: usize, y: usize) -> usize
+    ensures { λ r. ⌜ (r ≤ x) × (r ≤ y) ⌝ }
+{
+    if x < y { x } else { y }
+}
+
+// As many of them as there is room for.
+fn store_most(
+    form: Form,
+    values: &[u8; 256],
+    s: &[u8],
+    x: u8,
+    limit: usize,
+    size: usize,
+    from: usize,
+    end: usize,
+    out: &mut [u8],
+    at: usize,
+) -> usize
+    requires { ⌜ (1 < size) × (size ≤ 4194304) × (from ≤ end) × (end ≤ length (now s)) × (at ≤ length (now out)) ⌝ }
+    ensures { λ r. ⌜ Alike form (now (values .entry)) (now (s .entry)) x limit size from end r × (now (out .exit) ≡ sets (now (out .entry)) at (concat rowBytes (runOf from size r))) ⌝ }
+{
+    let most = least((out.len() - at) / 9, 4194304);
+    let room = least(end - from, most * size);
+    store_alike(form, values, s, x, limit, size, from, from + room, out, at)
+}
+
+// The rows of items of so many elements from an element on, as far as they begin alike, end in front of another element and have room:
+// how many they are.
+pub fn put_alike(
+    form: Form,
+    values: &[u8; 256],
+    s: &[u8],
+    x: u8,
+    limit: usize,
+    size: usize,
+    from: usize,
+    end: usize,
+    out: &mut [u8],
+    at: usize,
+) -> usize
+    ensures { λ r. ⌜ Alike form (now (values .entry)) (now (s .entry)) x limit size from end r × (now (out .exit) ≡ sets (now (out .entry)) at (concat rowBytes (runOf from size r))) ⌝ }
+{
+    if size < 2 {
+        return 0;
     }
     if 4194304 < size {
-        return;
+        return 0;
     }
-    if 4194304 < count {
-        return;
+    if s.len() < end {
+        return 0;
     }
-    if has_room(out.len(), at, 9 * count) {
-        store_rows(out, at, offset, size, count);
+    if end < from {
+        return 0;
     }
+    if out.len() < at {
+        return 0;
+    }
+    store_most(form, values, s, x, limit, size, from, end, out, at)
 }

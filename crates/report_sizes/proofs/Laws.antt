@@ -1,26 +1,25 @@
 -- Sizes, and runs of items of one size. Assumes nothing.
-use Prim.Native.Nat.{ℕ, suc, _+_, _-_, _*_, _/_, _≤_, _<_, min}
-use mathlib.Core.Path.{_≡_, sym}
+use Prim.Native.Nat.{ℕ, suc, _+_, _-_, _*_, _/_, _≤_, _<_}
+use mathlib.Core.Path.{_≡_, refl, sym}
 use mathlib.Core.Bool.{true}
 use mathlib.Core.List.{List}
 use native.Mathlib.Omega.{arith}
 use native.Mathlib.Nat.{suc-mul, mul-comm, le-div-iff-mul-le}
-use lib.ListN.{length, drop}
+use lib.ListN.{length, drop, length-drop}
 use Rattle.format.specs.declared.Form.{Form}
 use Rattle.format.specs.declared.Form.the-variants.{Text, Binary}
-use Rattle.format.specs.Alphabet.{sextetTable}
 use Rattle.format.specs.declared.Kind.{Kind}
 use Rattle.format.specs.declared.Framed.{Framed}
-use Rattle.format.specs.declared.Framed.the-variants.{Item}
-use Rattle.format.specs.Units.{Domain, domain, textSextets, binarySextets}
-use Rattle.format.specs.Framing.{frameRuled}
+use Rattle.format.specs.declared.Framed.the-variants.{Item, Unframed}
+use Rattle.format.specs.Units.{Domain, domain}
+use Rattle.format.specs.Framing.{frameRuled, scale}
+use Rattle.format.specs.Report.{frameIn}
 use Rattle.laws.specs.Domains.{reader}
-use Rattle.runs.specs.Plain.{plainTable, sizedAt, plainAt, groupAt}
+use Rattle.laws.specs.Frames.{frames}
+use Rattle.runs.specs.Plain.{plainTable, sizedAt, groupAt}
 use Rattle.runs.specs.Levels.{Clear, group-drop, sized-drop}
 use Rattle.runs.specs.Runs.{Run, run-none, run-more}
-use Rattle.report_first.specs.First.{Lent}
-use Rattle.report_first.proofs.Laws.{least-right}
-use Rattle.report_sizes.specs.Sizes.{Tells, sizeOf}
+use Rattle.report_sizes.specs.Sizes.{Tells, sizeOf, sizeAt}
 
 -- ---- a run, by the place that it has reached
 
@@ -28,10 +27,10 @@ pub record Reached (P : ℕ → ℕ) (k stop from r at : ℕ) : Type 0 where
   pub run : Run P k stop from r
   pub place : at ≡ from + r * k
   pub few : r ≤ at
-  pub near : at ≤ stop + 64
+  pub near : at ≤ stop
 
 module _ (P : ℕ → ℕ) (k stop from : ℕ) where
-  pub reached-start : 0 < k → from ≤ stop + 64 → Reached P k stop from 0 from
+  pub reached-start : 0 < k → from ≤ stop → Reached P k stop from 0 from
   reached-start p h = record { run = run-none P k stop from p; place = omega arith; few = omega arith; near = h }
 
   pub reached-more : (r at : ℕ) → Reached P k stop from r at → P at ≡ k → at + k ≤ stop → Reached P k stop from (r + 1) (at + k)
@@ -43,7 +42,7 @@ module _ (P : ℕ → ℕ) (k stop from : ℕ) where
         run = run-more P k stop from r (R .run) (rw is at e) (rw is at h);
         place = rw z (omega (arith, suc-mul r k));
         few = omega (arith, R .few);
-        near = omega arith;
+        near = h;
       }
 
 -- by another rule that says the same where the first does
@@ -71,16 +70,19 @@ size-told f s at r u e l h p t =
     let room : at * d .unit ≤ length s = le-div-iff-mul-le (reader f .pos) .0 (omega arith) in
     rw (c, reader f .dropped s at room, z) (sym (t p (omega (arith, reader f .units s))))
 
--- ---- the end of what is known, in a form
+-- an item is within the stream
+fits : (f : Form) (s : List ℕ) (at : ℕ) (g : Framed) → g ≡ frameRuled (domain f .sextets (drop (domain f .unit * at) s)) → sizeOf g ≤ length s / domain f .unit - at
+unfolding sizeOf frameIn scale
+fits f s at (Unframed m p) e = omega arith
+fits f s at (Item k h n) e = go f e
+  where
+    go : (f : Form) → Item k h n ≡ frameRuled (domain f .sextets (drop (domain f .unit * at) s)) → n ≤ length s / domain f .unit - at
+    go Text e =
+        let w = frames (domain Text) (reader Text) .within (drop (4 * at) s) k (h * 4) (n * 4) (rw (← e)) in
+        omega (arith, w .2, length-drop (4 * at) s)
+    go Binary e =
+        let w = frames (domain Binary) (reader Binary) .within (drop (3 * at) s) k (h * 3) (n * 3) (rw (← e)) in
+        omega (arith, w .2, length-drop (3 * at) s)
 
-pub in-form : (f : Form) (s : List ℕ) (clean u end : ℕ) (g : Form) → u ≡ length s / domain f .unit → end ≡ min clean u → f ≡ g → end ≤ length s / domain g .unit
-in-form f s clean u end g e q z = rw (← z, ← e) (least-right clean u end q)
-
-module _ (f : Form) (values classes rows s : List ℕ) (clean u end size from r : ℕ) (e : u ≡ length s / domain f .unit) (q : end ≡ min clean u) where
-  pub end-text : f ≡ Text → (values ≡ sextetTable → rows ≡ plainTable → Run (plainAt plainTable (textSextets s)) size end from r) → Lent values classes rows
-      → 0 < size → Run (plainAt plainTable (domain f .sextets s)) size (min clean (length s / domain f .unit)) from r
-  end-text z R L p = rw (← e, ← q, z) (R (L .characters) (L .codes))
-
-  pub end-binary : f ≡ Binary → (rows ≡ plainTable → Run (plainAt plainTable (binarySextets s)) size end from r) → Lent values classes rows
-      → 0 < size → Run (plainAt plainTable (domain f .sextets s)) size (min clean (length s / domain f .unit)) from r
-  end-binary z R L p = rw (← e, ← q, z) (R (L .codes))
+pub size-fits : (f : Form) (s : List ℕ) (at r : ℕ) → r ≡ sizeAt (domain f) s at → r ≤ length s / domain f .unit - at
+size-fits f s at r e = rw e (fits f s at _ refl)

@@ -6,9 +6,12 @@ use mathlib.Core.List.{List}
 use lib.Dec.{ltb, eqb}
 use lib.ListN.{length, getD, drop}
 use Rattle.base.specs.Pick.{pick}
+use Rattle.format.specs.declared.Form.{Form}
+use Rattle.format.specs.declared.Form.the-variants.{Text, Binary}
 use Rattle.format.specs.declared.Framed.{Framed}
 use Rattle.format.specs.declared.Framed.the-variants.{Item, Unframed}
-use Rattle.format.specs.Units.{Domain}
+use Rattle.format.specs.Alphabet.{sextetOf}
+use Rattle.format.specs.Units.{Domain, domain}
 use Rattle.format.specs.Framing.{frameRuled}
 use Rattle.runs.specs.Plain.{groupAt}
 
@@ -25,13 +28,34 @@ Tells s at r = 0 < r → at + r ≤ length s / 4 → sizeOf (frameRuled (drop (4
 abbrev pub Grouped : Domain → List ℕ → ℕ → ℕ → ℕ → Type 0
 Grouped d xs clean at r = 0 < r → (groupAt (d .sextets xs) at ≡ r) × (at < clean) × (at + r ≤ length xs / d .unit)
 
--- ---- items of one letter and size: by the first character and the value of the second, by the first byte
+-- the size of the item at a unit of a stream
+abbrev pub sizeAt : Domain → List ℕ → ℕ → ℕ
+sizeAt d xs at = sizeOf (frameRuled (d .sextets (drop (d .unit * at) xs)))
 
-unfoldable pub isAlike : List ℕ → List ℕ → ℕ → ℕ → ℕ → Bool
-isAlike values s x limit at = pick (eqb (getD s (4 * at) 0) x) (ltb (getD values (getD s (4 * at + 1) 0) 0) limit) false
+-- ---- items that begin alike, at elements of a stream: by the first unit, or by its first element
 
-abbrev pub textAlike : List ℕ → List ℕ → ℕ → ℕ → ℕ → ℕ → ℕ
-textAlike values s x limit size at = pick (isAlike values s x limit at) size 0
+abbrev pub same : List ℕ → ℕ → ℕ → Bool
+same s p q = eqb (getD s p 0) (getD s q 0)
 
-abbrev pub binaryAlike : List ℕ → ℕ → ℕ → ℕ → ℕ
-binaryAlike s x size at = pick (eqb (getD s (3 * at) 0) x) size 0
+abbrev pub sameTwo : List ℕ → ℕ → ℕ → Bool
+sameTwo s p q = pick (same s p q) (same s (p + 1) (q + 1)) false
+
+unfoldable pub sameUnit : Form → List ℕ → ℕ → ℕ → Bool
+sameUnit Text s p q = pick (sameTwo s p q) (sameTwo s (p + 2) (q + 2)) false
+sameUnit Binary s p q = pick (sameTwo s p q) (same s (p + 2) (q + 2)) false
+
+-- the first element, or the whole first unit
+abbrev pub isLike : Form → List ℕ → Bool → ℕ → ℕ → Bool
+isLike f s whole p q = pick whole (sameUnit f s p q) (same s p q)
+
+abbrev pub likeBy : Form → List ℕ → Bool → ℕ → ℕ → ℕ → ℕ
+likeBy f s whole at size q = pick (isLike f s whole at q) size 0
+
+-- in units
+abbrev pub likeIn : Form → List ℕ → Bool → ℕ → ℕ → ℕ → ℕ
+likeIn f s whole at size i = pick (isLike f s whole (domain f .unit * at) (domain f .unit * i)) size 0
+
+-- the letter of a first unit, by its first element
+unfoldable pub letterBy : Form → ℕ → ℕ
+letterBy Text x = sextetOf x
+letterBy Binary x = x / 4

@@ -1,18 +1,18 @@
 // The sizes of a stream's items, of either form: of the one at a unit, by its first unit where that tells, else by framing; and how
-// many plain primitives of one letter and size follow it. The tables are lent.
+// many that begin like it follow it, and so have its size. The tables are lent. Positions count units, but in loops elements, which
+// spares a multiplication a turn.
 use format::Form;
 use format::Framed;
 ghost use mathlib.Core.Path.{_≡_};
-ghost use Prim.Native.Nat.{_+_, _*_, _/_, _≤_, _<_, min};
-ghost use lib.ListN.{length, drop};
+ghost use Prim.Native.Nat.{_+_, _-_, _*_, _/_, _≤_, _<_, min};
+ghost use lib.ListN.{length, getD};
 ghost use Rattle.format.specs.Alphabet.{sextetTable};
-ghost use Rattle.format.specs.Units.{domain, textSextets, binarySextets};
-ghost use Rattle.format.specs.Framing.{frameRuled};
-ghost use Rattle.runs.specs.Plain.{plainTable, plainAt};
+ghost use Rattle.format.specs.Units.{domain};
+ghost use Rattle.runs.specs.Plain.{groupAt};
 ghost use Rattle.runs.specs.Levels.{Clear};
 ghost use Rattle.runs.specs.Runs.{Run};
 ghost use Rattle.report_first.specs.First.{Lent};
-ghost use Rattle.report_sizes.specs.Sizes.{Grouped, Tells, sizeOf, isAlike, textAlike, binaryAlike};
+ghost use Rattle.report_sizes.specs.Sizes.{Grouped, Tells, sizeOf, sizeAt, same, sameTwo, sameUnit, isLike, likeBy, likeIn, letterBy};
 
 // ---- sizes
 
@@ -48,7 +48,7 @@ pub fn group_size(
     clean: usize,
     at: usize,
 ) -> usize
-    ensures { λ r. ⌜ (Lent (now (values .entry)) (now (classes .entry)) (now (rows .entry)) → Grouped (domain form) (now (s .entry)) clean at r) ⌝ }
+    ensures { λ r. ⌜ (r ≤ length (now (s .entry)) / domain form .unit - at) × (Lent (now (values .entry)) (now (classes .entry)) (now (rows .entry)) → Grouped (domain form) (now (s .entry)) clean at r) ⌝ }
 {
     if clean <= at {
         return 0;
@@ -90,7 +90,7 @@ pub fn size(
     clean: usize,
     at: usize,
 ) -> usize
-    ensures { λ r. ⌜ (Lent (now (values .entry)) (now (classes .entry)) (now (rows .entry)) → Clear (domain form .sextets (now (s .entry))) at clean → r ≡ sizeOf (frameRuled (domain form .sextets (drop (domain form .unit * at) (now (s .entry)))))) ⌝ }
+    ensures { λ r. ⌜ (r ≤ length (now (s .entry)) / domain form .unit - at) × (Lent (now (values .entry)) (now (classes .entry)) (now (rows .entry)) → Clear (domain form .sextets (now (s .entry))) at clean → r ≡ sizeAt (domain form) (now (s .entry)) at) ⌝ }
 {
     let all = report_item::units(form, s.len());
     let m = told(form, values, classes, rows, s, clean, at);
@@ -104,7 +104,99 @@ pub fn size(
     size_of(report_item::framed(form, s, at))
 }
 
-// ---- items of one letter and size that follow one another
+// ---- items behind it that begin alike, and so have its size
+
+fn same(s: &[u8], p: usize, q: usize) -> bool
+    requires { ⌜ (p < length (now s)) × (q < length (now s)) ⌝ }
+    ensures { λ r. ⌜ r ≡ same (now (s .entry)) p q ⌝ }
+{
+    s[p] == s[q]
+}
+
+fn same_two(s: &[u8], p: usize, q: usize) -> bool
+    requires { ⌜ (p + 1 < length (now s)) × (q + 1 < length (now s)) ⌝ }
+    ensures { λ r. ⌜ r ≡ sameTwo (now (s .entry)) p q ⌝ }
+{
+    if same(s, p, q) {
+        return same(s, p + 1, q + 1);
+    }
+    false
+}
+
+// Whether the units at two elements are the same.
+fn same_unit(form: Form, s: &[u8], p: usize, q: usize) -> bool
+    requires { ⌜ (p + domain form .unit ≤ length (now s)) × (q + domain form .unit ≤ length (now s)) ⌝ }
+    ensures { λ r. ⌜ r ≡ sameUnit form (now (s .entry)) p q ⌝ }
+{
+    match form {
+        Form::Text => {
+            if same_two(s, p, q) {
+                return same_two(s, p + 2, q + 2);
+            }
+            false
+        }
+        Form::Binary => {
+            if same_two(s, p, q) {
+                return same(s, p + 2, q + 2);
+            }
+            false
+        }
+    }
+}
+
+// By the first element, or by the whole first unit.
+fn is_like(form: Form, s: &[u8], whole: bool, p: usize, q: usize) -> bool
+    requires { ⌜ (p + domain form .unit ≤ length (now s)) × (q + domain form .unit ≤ length (now s)) ⌝ }
+    ensures { λ r. ⌜ r ≡ isLike form (now (s .entry)) whole p q ⌝ }
+{
+    if whole {
+        return same_unit(form, s, p, q);
+    }
+    same(s, p, q)
+}
+
+// How many items of so many elements follow the one at an element and begin like it, up to another element.
+fn run(form: Form, s: &[u8], whole: bool, at: usize, size: usize, end: usize) -> usize
+    requires { ⌜ (domain form .unit ≤ size) × (at + size ≤ end) × (end ≤ length (now s)) ⌝ }
+    ensures { λ r. ⌜ Run (likeBy form (now (s .entry)) whole at size) size end (at + size) r ⌝ }
+{
+    let mut p = at + size;
+    let mut r = 0;
+    while p + size <= end {
+        if !is_like(form, s, whole, at, p) {
+            return r;
+        }
+        p = p + size;
+        r = r + 1;
+    }
+    r
+}
+
+// The same in units.
+fn run_units(form: Form, s: &[u8], whole: bool, at: usize, size: usize, end: usize) -> usize
+    requires { ⌜ (0 < size) × (at + size ≤ end) × (end ≤ length (now s) / domain form .unit) ⌝ }
+    ensures { λ r. ⌜ Run (likeIn form (now (s .entry)) whole at size) size end (at + size) r ⌝ }
+{
+    let u = report_item::unit(form);
+    run(form, s, whole, u * at, u * size, u * end)
+}
+
+// And as far as characters are known.
+fn followers(form: Form, s: &[u8], whole: bool, clean: usize, at: usize, size: usize) -> usize
+    ensures { λ r. ⌜ (r * size ≤ length (now (s .entry)) / domain form .unit - (at + size)) × (0 < size → Run (likeIn form (now (s .entry)) whole at size) size (min clean (length (now (s .entry)) / domain form .unit)) (at + size) r) ⌝ }
+{
+    let end = report_first::least(clean, report_item::units(form, s.len()));
+    if size == 0 {
+        return 0;
+    }
+    if end <= at {
+        return 0;
+    }
+    if end - at < size {
+        return 0;
+    }
+    run_units(form, s, whole, at, size, end)
+}
 
 fn wide(x: u8) -> usize
     ensures { λ r. ⌜ (r ≡ x) × (r < 256) ⌝ }
@@ -112,105 +204,19 @@ fn wide(x: u8) -> usize
     x as usize
 }
 
-// The same first character, and a second one whose value is below a limit.
-fn alike(values: &[u8; 256], s: &[u8], x: u8, limit: usize, at: usize) -> bool
-    requires { ⌜ at < length (now s) / 4 ⌝ }
-    ensures { λ r. ⌜ r ≡ isAlike (now (values .entry)) (now (s .entry)) x limit at ⌝ }
+// The letter of a first unit.
+fn letter(form: Form, values: &[u8; 256], s: &[u8], at: usize) -> u8
+    requires { ⌜ at < length (now s) / domain form .unit ⌝ }
+    ensures { λ r. ⌜ (now (values .entry) ≡ sextetTable → r ≡ letterBy form (getD (now (s .entry)) (domain form .unit * at) 0)) ⌝ }
 {
-    if s[4 * at] != x {
-        return false;
+    match form {
+        Form::Text => values[wide(s[4 * at])],
+        Form::Binary => s[3 * at] / 4,
     }
-    wide(values[wide(s[4 * at + 1])]) < limit
 }
 
-fn run_text(
-    values: &[u8; 256],
-    s: &[u8],
-    x: u8,
-    limit: usize,
-    size: usize,
-    from: usize,
-    end: usize,
-) -> usize
-    requires { ⌜ (0 < size) × (size < 64) × (from ≤ end + 64) × (end ≤ length (now s) / 4) ⌝ }
-    ensures { λ r. ⌜ Run (textAlike (now (values .entry)) (now (s .entry)) x limit size) size end from r ⌝ }
-{
-    let mut p = from;
-    let mut r = 0;
-    while p + size <= end {
-        if !alike(values, s, x, limit, p) {
-            return r;
-        }
-        p = p + size;
-        r = r + 1;
-    }
-    r
-}
-
-fn run_binary(s: &[u8], x: u8, size: usize, from: usize, end: usize) -> usize
-    requires { ⌜ (0 < size) × (size < 64) × (from ≤ end + 64) × (end ≤ length (now s) / 3) ⌝ }
-    ensures { λ r. ⌜ Run (binaryAlike (now (s .entry)) x size) size end from r ⌝ }
-{
-    let mut p = from;
-    let mut r = 0;
-    while p + size <= end {
-        if s[3 * p] != x {
-            return r;
-        }
-        p = p + size;
-        r = r + 1;
-    }
-    r
-}
-
-// Text: the letter is the same, and the sextet behind it has the code's zero bits.
-fn followers_text(
-    values: &[u8; 256],
-    rows: &[u16; 192],
-    s: &[u8],
-    size: usize,
-    at: usize,
-    end: usize,
-) -> usize
-    requires { ⌜ (0 < size) × (at < end) × (end ≤ length (now s) / 4) ⌝ }
-    ensures { λ r. ⌜ (now (values .entry) ≡ sextetTable → now (rows .entry) ≡ plainTable → Run (plainAt plainTable (textSextets (now (s .entry)))) size end (at + size) r) ⌝ }
-{
-    let x = s[4 * at];
-    let a = values[wide(x)];
-    if 51 < a {
-        return 0;
-    }
-    let row = runs::letter_row(rows, a);
-    if row % 64 != size {
-        return 0;
-    }
-    run_text(values, s, x, row / 64, size, at + size, end)
-}
-
-// Binary: the first byte is the same, and has the code's two zero bits.
-fn followers_binary(rows: &[u16; 192], s: &[u8], size: usize, at: usize, end: usize) -> usize
-    requires { ⌜ (0 < size) × (at < end) × (end ≤ length (now s) / 3) ⌝ }
-    ensures { λ r. ⌜ (now (rows .entry) ≡ plainTable → Run (plainAt plainTable (binarySextets (now (s .entry)))) size end (at + size) r) ⌝ }
-{
-    let x = s[3 * at];
-    if 0 < x % 4 {
-        return 0;
-    }
-    if 207 < x {
-        return 0;
-    }
-    let row = runs::letter_row(rows, x / 4);
-    if row % 64 != size {
-        return 0;
-    }
-    if row / 64 < 16 {
-        return 0;
-    }
-    run_binary(s, x, size, at + size, end)
-}
-
-// How many plain primitives with the letter and size of the one at a unit follow it, known up to a unit.
-pub fn followers(
+// How many items with the letter of the one at a unit follow it, if that tells its size.
+pub fn of_letter(
     form: Form,
     values: &[u8; 256],
     classes: &[u8; 256],
@@ -220,17 +226,24 @@ pub fn followers(
     at: usize,
     size: usize,
 ) -> usize
-    ensures { λ r. ⌜ (Lent (now (values .entry)) (now (classes .entry)) (now (rows .entry)) → 0 < size → Run (plainAt plainTable (domain form .sextets (now (s .entry)))) size (min clean (length (now (s .entry)) / domain form .unit)) (at + size) r) ⌝ }
+    ensures { λ r. ⌜ (r * size ≤ length (now (s .entry)) / domain form .unit - (at + size)) × (Lent (now (values .entry)) (now (classes .entry)) (now (rows .entry)) → Clear (domain form .sextets (now (s .entry))) at clean → 0 < size → Run (sizeAt (domain form) (now (s .entry))) size (length (now (s .entry)) / domain form .unit) (at + size) r) ⌝ }
 {
-    let end = report_first::least(clean, report_item::units(form, s.len()));
-    if end <= at {
+    if report_item::units(form, s.len()) <= at {
         return 0;
     }
-    if size == 0 {
+    let a = letter(form, values, s, at);
+    if 51 < a {
         return 0;
     }
-    match form {
-        Form::Text => followers_text(values, rows, s, size, at, end),
-        Form::Binary => followers_binary(rows, s, size, at, end),
+    if runs::letter_row(rows, a) % 64 != size {
+        return 0;
     }
+    followers(form, s, false, clean, at, size)
+}
+
+// How many groups with the header of the one at a unit follow it.
+pub fn of_header(form: Form, s: &[u8], clean: usize, at: usize, size: usize) -> usize
+    ensures { λ r. ⌜ (r * size ≤ length (now (s .entry)) / domain form .unit - (at + size)) × (Clear (domain form .sextets (now (s .entry))) at clean → groupAt (domain form .sextets (now (s .entry))) at ≡ size → 0 < size → Run (sizeAt (domain form) (now (s .entry))) size (length (now (s .entry)) / domain form .unit) (at + size) r) ⌝ }
+{
+    followers(form, s, true, clean, at, size)
 }

@@ -1,8 +1,7 @@
 use mathlib.Core.Path.{_∙_}
 use native.Mathlib.Omega.{arith}
 use Rattle.format.specs.Judging.{maxDepth}
-use Rattle.report_item.proofs.Laws.{inside-part}
-use Rattle.report_fast.proofs.Laws.{nest-plain, nest-rest, nest-group, ready-part}
+use Rattle.report_fast.proofs.Laws.{nest-plain, nest-rest, nest-group, ready-part, inside, reach-part}
 use borrow.Author.Needs.{needs}
 use Rattle.report_fast.proofs.inside_accepted.Statement.{statement}
 use Rattle.report_fast.proofs.inside_accepted.Tie as tie
@@ -35,7 +34,7 @@ sub-if1 : tie.Need-sub-if1
 sub-if1 c = omega (arith, c .before .nested .ensures .1, c .before .before .before .pre .1)
 
 returns : tie.Need-returns
-returns c = λ R g e. nest-plain (c .before .before .before .before .args .form) (c .before .before .before .before .args .values .now) (c .before .before .before .before .args .classes .now) (c .before .before .before .before .args .rows .now) (c .before .before .before .before .args .s .now) maxDepth (c .before .before .before .before .args .at) (c .before .before .before .before .args .stop) (c .before .before .before .before .pre .0) (c .before .before .before .before .pre .1) R _ (c .before .before .nested .ensures .2 (R .lent)) g (c .before .plain .ensures (R .lent) ∙ c .if1 .taken)
+returns c = λ R g e. nest-plain (c .before .before .before .before .args .form) (c .before .before .before .before .args .values .now) (c .before .before .before .before .args .classes .now) (c .before .before .before .before .args .rows .now) (c .before .before .before .before .args .s .now) maxDepth (c .before .before .before .before .args .at) (c .before .before .before .before .args .stop) (inside (c .before .before .before .before .pre .0) R) (c .before .before .before .before .pre .1) R _ (c .before .before .nested .ensures .2 (R .lent)) g (c .before .plain .ensures (R .lent) ∙ c .if1 .taken)
 
 add-marks : tie.Need-add-marks
 add-marks c = let h = c .before .before .nested .ensures .1 in search needs
@@ -50,10 +49,10 @@ sub-accepts-2 : tie.Need-sub-accepts-2
 sub-accepts-2 c = c .before .before .before .nested .ensures .0
 
 accepts-requires : tie.Need-accepts-requires
-accepts-requires c κs = let h = c .before .before .before .nested .ensures .1 in inside-part _ _ _ _ _ _ (c .before .before .before .before .before .pre .0) (omega (arith, c .before .before .before .before .before .pre .1)) (omega arith)
+accepts-requires c κs = let h = c .before .before .before .nested .ensures .1 in reach-part _ _ (c .before .before .before .before .before .pre .0) (omega (arith, c .before .before .before .before .before .pre .1)) (omega arith)
 
 returns-2 : tie.Need-returns-2
-returns-2 c = λ R g e. nest-rest (c .before .before .before .before .before .before .args .form) (c .before .before .before .before .before .before .args .values .now) (c .before .before .before .before .before .before .args .classes .now) (c .before .before .before .before .before .before .args .rows .now) (c .before .before .before .before .before .before .args .s .now) maxDepth (c .before .before .before .before .before .before .args .at) (c .before .before .before .before .before .before .args .stop) (c .before .before .before .before .before .before .pre .0) (c .before .before .before .before .before .before .pre .1) R _ (c .before .before .before .before .nested .ensures .2 (R .lent)) g _ (c .before .marks .ensures (R .lent) (nest-group (c .before .before .before .before .before .before .args .form) (c .before .before .before .before .before .before .args .values .now) (c .before .before .before .before .before .before .args .classes .now) (c .before .before .before .before .before .before .args .rows .now) (c .before .before .before .before .before .before .args .s .now) maxDepth (c .before .before .before .before .before .before .args .at) (c .before .before .before .before .before .before .args .stop) (c .before .before .before .before .before .before .pre .0) (c .before .before .before .before .before .before .pre .1) R _ (c .before .before .before .before .nested .ensures .2 (R .lent)) g)) (c .accepts .ensures (ready-part _ _ _ _ _ _ _ _ _ R (omega arith) (omega arith)) e)
+returns-2 c = λ R g e. nest-rest (c .before .before .before .before .before .before .args .form) (c .before .before .before .before .before .before .args .values .now) (c .before .before .before .before .before .before .args .classes .now) (c .before .before .before .before .before .before .args .rows .now) (c .before .before .before .before .before .before .args .s .now) maxDepth (c .before .before .before .before .before .before .args .at) (c .before .before .before .before .before .before .args .stop) (inside (c .before .before .before .before .before .before .pre .0) R) (c .before .before .before .before .before .before .pre .1) R _ (c .before .before .before .before .nested .ensures .2 (R .lent)) g _ (c .before .marks .ensures (R .lent) (nest-group (c .before .before .before .before .before .before .args .form) (c .before .before .before .before .before .before .args .values .now) (c .before .before .before .before .before .before .args .classes .now) (c .before .before .before .before .before .before .args .rows .now) (c .before .before .before .before .before .before .args .s .now) maxDepth (c .before .before .before .before .before .before .args .at) (c .before .before .before .before .before .before .args .stop) (inside (c .before .before .before .before .before .before .pre .0) R) (c .before .before .before .before .before .before .pre .1) R _ (c .before .before .before .before .nested .ensures .2 (R .lent)) g)) (c .accepts .ensures (ready-part _ _ _ _ _ _ _ _ _ R (omega arith) (omega arith)) e)
 
 pub inside-accepted-spec : {M : Type 1} → statement M
 inside-accepted-spec =

@@ -1,7 +1,6 @@
-use native.Mathlib.Nat.{pos-of-ne-zero}
 use native.Mathlib.Omega.{arith}
-use Rattle.runs.specs.Runs.{run-none}
-use Rattle.report_sizes.proofs.Laws.{in-form, end-text, end-binary}
+use native.Mathlib.Nat.{pos-of-ne-zero}
+use Rattle.report_sizes.proofs.Alike.{no-followers, end-within, followed}
 use borrow.Author.Needs.{needs}
 use Rattle.report_sizes.proofs.followers.Statement.{statement}
 use Rattle.report_sizes.proofs.followers.Tie as tie
@@ -13,28 +12,22 @@ least-requires : tie.Need-least-requires
 least-requires c κs = search needs
 
 returns : tie.Need-returns
-returns c = λ l p. run-none _ _ _ _ p
+returns c = no-followers (c .before .before .before .before .args .form) (c .before .before .before .before .args .s .now) (c .before .before .before .before .args .whole) (c .before .before .before .before .args .clean) (c .before .before .before .before .args .at) (c .before .before .before .before .args .size)
 
 returns-2 : tie.Need-returns-2
-returns-2 c = λ l p. run-none _ _ _ _ p
+returns-2 c = no-followers (c .before .before .before .before .before .args .form) (c .before .before .before .before .before .args .s .now) (c .before .before .before .before .before .args .whole) (c .before .before .before .before .before .args .clean) (c .before .before .before .before .before .args .at) (c .before .before .before .before .before .args .size)
 
-enum-told : tie.Need-enum-told
-enum-told c = search needs
-
-followers-text-requires : tie.Need-followers-text-requires
-followers-text-requires c κs = (omega (arith, pos-of-ne-zero (c .before .before .if2 .left)), c .before .before .before .if1 .left, in-form (c .before .before .before .before .before .before .before .args .form) (c .before .before .before .before .before .before .before .args .s .now) _ _ _ _ (c .before .before .before .before .before .units .ensures) (c .before .before .before .before .least .ensures) (c .enum-told .given .1))
-
-enum-told-2 : tie.Need-enum-told-2
-enum-told-2 c = search needs
-
-followers-binary-requires : tie.Need-followers-binary-requires
-followers-binary-requires c κs = (omega (arith, pos-of-ne-zero (c .before .before .if2 .left)), c .before .before .before .if1 .left, in-form (c .before .before .before .before .before .before .before .args .form) (c .before .before .before .before .before .before .before .args .s .now) _ _ _ _ (c .before .before .before .before .before .units .ensures) (c .before .before .before .before .least .ensures) (c .enum-told2 .given .1))
+sub-if3 : tie.Need-sub-if3
+sub-if3 c = search needs
 
 returns-3 : tie.Need-returns-3
-returns-3 c = end-text (c .before .before .before .before .before .before .before .before .args .form) (c .before .before .before .before .before .before .before .before .args .values .now) (c .before .before .before .before .before .before .before .before .args .classes .now) (c .before .before .before .before .before .before .before .before .args .rows .now) (c .before .before .before .before .before .before .before .before .args .s .now) _ _ _ _ _ _ (c .before .before .before .before .before .before .units .ensures) (c .before .before .before .before .before .least .ensures) (c .before .enum-told .given .1) (c .followers-text .ensures)
+returns-3 c = no-followers (c .before .before .before .before .before .before .args .form) (c .before .before .before .before .before .before .args .s .now) (c .before .before .before .before .before .before .args .whole) (c .before .before .before .before .before .before .args .clean) (c .before .before .before .before .before .before .args .at) (c .before .before .before .before .before .before .args .size)
+
+run-units-requires : tie.Need-run-units-requires
+run-units-requires c κs = (omega (arith, pos-of-ne-zero (c .before .before .if1 .left)), omega (arith, c .before .if2 .left, c .if3 .left), end-within (c .before .before .before .before .before .before .args .form) (c .before .before .before .before .before .before .args .s .now) _ _ _ (c .before .before .before .before .units .ensures) (c .before .before .before .least .ensures))
 
 returns-4 : tie.Need-returns-4
-returns-4 c = end-binary (c .before .before .before .before .before .before .before .before .args .form) (c .before .before .before .before .before .before .before .before .args .values .now) (c .before .before .before .before .before .before .before .before .args .classes .now) (c .before .before .before .before .before .before .before .before .args .rows .now) (c .before .before .before .before .before .before .before .before .args .s .now) _ _ _ _ _ _ (c .before .before .before .before .before .before .units .ensures) (c .before .before .before .before .before .least .ensures) (c .before .enum-told2 .given .1) (c .followers-binary .ensures)
+returns-4 c = followed (c .before .before .before .before .before .before .before .args .form) (c .before .before .before .before .before .before .before .args .s .now) (c .before .before .before .before .before .before .before .args .clean) _ _ (c .before .before .before .before .before .units .ensures) (c .before .before .before .before .least .ensures) (c .before .before .before .before .before .before .before .args .whole) (c .before .before .before .before .before .before .before .args .at) (c .before .before .before .before .before .before .before .args .size) _ (c .run-units .ensures)
 
 pub followers-spec : {M : Type 1} → statement M
 followers-spec =
@@ -44,9 +37,7 @@ followers-spec =
     least-requires
     returns
     returns-2
-    enum-told
-    followers-text-requires
-    enum-told-2
-    followers-binary-requires
+    sub-if3
     returns-3
+    run-units-requires
     returns-4)

@@ -2,19 +2,15 @@ use native.Mathlib.Omega.{arith}
 use borrow.Author.Needs.{needs}
 use Rattle.report_sizes.proofs.group_size.Statement.{statement}
 use Rattle.report_sizes.proofs.group_size.Tie as tie
-use Rattle.report_sizes.proofs.group_size.Reads as reads
-use Rattle.report_sizes.proofs.group_size.Lts as lts
-use Rattle.report_first.proofs.group.Reads as group-reads
-use Rattle.report_item.proofs.units.Reads as units-reads
 
 returns : tie.Need-returns
-returns c = λ l p. absurd (omega arith)
+returns c = (omega arith, λ l p. absurd (omega arith))
 
 units-requires : tie.Need-units-requires
 units-requires c κs = search needs
 
 returns-2 : tie.Need-returns-2
-returns-2 c = λ l p. absurd (omega arith)
+returns-2 c = (omega arith, λ l p. absurd (omega arith))
 
 group-requires : tie.Need-group-requires
 group-requires c κs = search needs
@@ -23,10 +19,10 @@ sub-if3 : tie.Need-sub-if3
 sub-if3 c = search needs
 
 returns-3 : tie.Need-returns-3
-returns-3 c = λ l p. absurd (omega arith)
+returns-3 c = (omega arith, λ l p. absurd (omega arith))
 
 returns-4 : tie.Need-returns-4
-returns-4 c = λ l p. (c .before .group .ensures l, c .before .before .before .before .if1 .left, omega (arith, c .before .before .before .units .ensures, c .before .before .if2 .left, c .if3 .left))
+returns-4 c = (omega (arith, c .before .before .before .units .ensures, c .if3 .left), λ l p. (c .before .group .ensures l, c .before .before .before .before .if1 .left, omega (arith, c .before .before .before .units .ensures, c .before .before .if2 .left, c .if3 .left)))
 
 pub group-size-spec : {M : Type 1} → statement M
 group-size-spec =

@@ -1,0 +1,23 @@
+-- What is asked of items that begin alike to be plain primitives. Assumes nothing.
+use Prim.Native.Nat.{ℕ, _+_, _*_, _/_, _≤_, _<_}
+use mathlib.Core.Path.{_≡_}
+use mathlib.Core.Bool.{true}
+use mathlib.Core.List.{List}
+use lib.ListN.{length, getD}
+use Rattle.format.specs.declared.Form.{Form}
+use Rattle.format.specs.Alphabet.{sextetTable}
+use Rattle.format.specs.Units.{domain}
+use Rattle.runs.specs.Plain.{plainTable, plainAt}
+use Rattle.report_rows.specs.Alike.{isAlike}
+
+-- wherever an item of a stream begins with x, and as the limit says, it is a plain primitive of so many units; 0 says nothing
+abbrev pub Like : Form → List ℕ → List ℕ → ℕ → ℕ → ℕ → Type 0
+Like f values rows x size limit =
+    0 < limit → values ≡ sextetTable → rows ≡ plainTable → (s : List ℕ) → ((j : ℕ) → getD s j 0 < 256) → (i : ℕ) → i < length s / domain f .unit
+    → isAlike f values s x limit (domain f .unit * i) ≡ true → plainAt plainTable (domain f .sextets s) i ≡ size
+
+-- an item of so many units at a unit, and an end behind it that is within the stream
+pub record Behind (f : Form) (s : List ℕ) (at size end : ℕ) : Type 0 where
+  pub first : at < end
+  pub fits : at + size ≤ end
+  pub inside : end ≤ length s / domain f .unit
