@@ -4,7 +4,7 @@ use crate::arguments::Show;
 use crate::input::{self, Input};
 use crate::standing::Standing;
 use crate::terminal::{Paint, Progress};
-use crate::words::{measured, on_one_line};
+use crate::words::measured;
 use crate::{complain, readable};
 use cesr::{item_at, judge, read, Code, Head, Number, Primitive, Refusal, Step, Walk};
 use std::io::{self, Write};
@@ -13,7 +13,7 @@ use std::io::{self, Write};
 const RAW: usize = 32;
 
 pub fn run(task: &Show, out: &mut dyn Write) -> io::Result<Standing> {
-    let name = on_one_line(&task.source.name());
+    let name = task.source.name();
     let input = match input::read(&task.source, task.form, &mut Progress::told()) {
         Ok(input) if input.bytes.is_empty() => {
             complain(&format!("{name}: the stream is empty: nothing to show"));
