@@ -6,6 +6,7 @@ mod common;
 
 use common::{command, finished, shell, Folder, Ran};
 use std::fs::{self, File};
+use std::os::unix::fs::{symlink, MetadataExt};
 use std::process::Command;
 use std::time::{Duration, SystemTime};
 
@@ -52,7 +53,6 @@ fn prepared(stream: &[u8]) -> Folder {
 
 /// Judges the stream while a line of the shell changes it.
 fn meddled(folder: &Folder, mut judge: Command, change: &str) -> Ran {
-    use std::os::unix::fs::MetadataExt;
     let deck = fs::metadata(folder.path().join("deck.cesr")).expect("the deck");
     judge.current_dir(folder.path());
     judge.env("LD_PRELOAD", folder.path().join("meddler.so"));
@@ -108,6 +108,19 @@ fn any_change_is_an_error() {
     let folder = prepared(&deck);
     let ran = meddled(&folder, command(&["judge", "deck.cesr"]), "echo > other");
     assert_eq!(ran.status, 0, "{}", ran.text());
+}
+
+/// A link that leads elsewhere meanwhile: the file that was read is as it was,
+/// and is not the one of that name.
+#[test]
+fn another_file_of_that_name_is_an_error() {
+    let folder = prepared(&halves(b"MAAB", b"MAAB"));
+    folder.file("other", &halves(b"MQAA", b"MQAA"));
+    symlink("deck.cesr", folder.path().join("link")).expect("a link");
+    let again = "ln -s other new && mv -T new link";
+    let ran = meddled(&folder, command(&["judge", "link"]), again);
+    let said = CHANGED.replace("deck.cesr", "link");
+    assert_eq!((ran.status, ran.text()), (2, said));
 }
 
 /// So on standard input, in `show`, in `convert` and in a manifest.
