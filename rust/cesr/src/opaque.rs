@@ -29,19 +29,20 @@ pub fn opaque(form: Form, stream: &[u8], report: &Report) -> Opaque {
     let mut found = Opaque::default();
     for item in report.items().filter(Item::is_accepted) {
         let item = item.of(stream);
-        if may_be_group(form, item) {
+        if may_hold(form, item) {
             found.add_of(form, item);
         }
     }
     found
 }
 
-/// Spares primitives the walk.
-fn may_be_group(form: Form, item: &[u8]) -> bool {
+/// Spares primitives and empty groups the walk.
+fn may_hold(form: Form, item: &[u8]) -> bool {
+    let first = item.first().filter(|_| item.len() > form.unit());
     match form {
-        Form::Text => item.first() == Some(&b'-'),
+        Form::Text => first == Some(&b'-'),
         // The sextet of `-` is 62.
-        Form::Binary => item.first().is_some_and(|byte| byte >> 2 == 62),
+        Form::Binary => first.is_some_and(|byte| byte >> 2 == 62),
     }
 }
 

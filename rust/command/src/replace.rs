@@ -29,8 +29,7 @@ fn replaced(path: &Path) -> io::Result<Option<PathBuf>> {
     let mut path = path.to_path_buf();
     for _ in 0..LINKS {
         let folder = folder(&path).to_path_buf();
-        // The links there name open files, as that of /dev/stdout does.
-        if fs::canonicalize(&folder).is_ok_and(|folder| folder.starts_with("/proc")) {
+        if fs::canonicalize(&folder).is_ok_and(|folder| is_apart(&folder)) {
             return Ok(None);
         }
         match fs::read_link(&path) {
@@ -39,6 +38,12 @@ fn replaced(path: &Path) -> io::Result<Option<PathBuf>> {
         }
     }
     Err(io::Error::other("too many links"))
+}
+
+/// A folder of devices and of open files, whose links are no names of files:
+/// there is /dev/stdout, and nothing there is ever replaced.
+fn is_apart(folder: &Path) -> bool {
+    folder == Path::new("/dev") || folder.starts_with("/proc")
 }
 
 fn folder(path: &Path) -> &Path {

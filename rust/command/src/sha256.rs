@@ -77,21 +77,38 @@ fn turned([a, b, c, d, e, f, g, h]: State, taken: u32) -> State {
     [a1, a, b, c, e1, e, f, g]
 }
 
-/// The schedule's next sixteen words.
-fn scheduled(mut words: [u32; 16]) -> [u32; 16] {
-    for _ in 0..16 {
-        let [back16, back15, .., back2, _] = words;
-        let [_, _, _, _, _, _, _, _, _, back7, ..] = words;
-        let small0 = back15.rotate_right(7) ^ back15.rotate_right(18) ^ (back15 >> 3);
-        let small1 = back2.rotate_right(17) ^ back2.rotate_right(19) ^ (back2 >> 10);
-        let next = back16
-            .wrapping_add(small0)
-            .wrapping_add(back7)
-            .wrapping_add(small1);
-        words.rotate_left(1);
-        words[15] = next;
-    }
-    words
+/// The schedule's next sixteen words, each of the one sixteen back and three
+/// others.
+fn scheduled(words: [u32; 16]) -> [u32; 16] {
+    let [w0, w1, w2, w3, w4, w5, w6, w7, w8, w9, w10, w11, w12, w13, w14, w15] = words;
+    let n0 = next(w0, w1, w9, w14);
+    let n1 = next(w1, w2, w10, w15);
+    let n2 = next(w2, w3, w11, n0);
+    let n3 = next(w3, w4, w12, n1);
+    let n4 = next(w4, w5, w13, n2);
+    let n5 = next(w5, w6, w14, n3);
+    let n6 = next(w6, w7, w15, n4);
+    let n7 = next(w7, w8, n0, n5);
+    let n8 = next(w8, w9, n1, n6);
+    let n9 = next(w9, w10, n2, n7);
+    let n10 = next(w10, w11, n3, n8);
+    let n11 = next(w11, w12, n4, n9);
+    let n12 = next(w12, w13, n5, n10);
+    let n13 = next(w13, w14, n6, n11);
+    let n14 = next(w14, w15, n7, n12);
+    let n15 = next(w15, n0, n8, n13);
+    [
+        n0, n1, n2, n3, n4, n5, n6, n7, n8, n9, n10, n11, n12, n13, n14, n15,
+    ]
+}
+
+fn next(back16: u32, back15: u32, back7: u32, back2: u32) -> u32 {
+    let small0 = back15.rotate_right(7) ^ back15.rotate_right(18) ^ (back15 >> 3);
+    let small1 = back2.rotate_right(17) ^ back2.rotate_right(19) ^ (back2 >> 10);
+    back16
+        .wrapping_add(small0)
+        .wrapping_add(back7)
+        .wrapping_add(small1)
 }
 
 impl Digest {

@@ -160,8 +160,6 @@ fn every_reader_looks() {
 /// the stream.
 #[test]
 fn the_rest_of_a_file() {
-    let ran = shell("(head -c 0; read -r -N 4 skipped; cesr judge) < samples/clean.cesr; :");
-    assert!(ran.text().contains("standard input: "), "{}", ran.text());
     let folder = Folder::new();
     let path = folder.file("deck", b"MAABMAAB1AAM");
     let script =

@@ -170,6 +170,11 @@ fn a_manifest_that_is_none() {
             assert!(!ran.text().contains("passed  "), "{}", ran.text());
         }
     }
+}
+
+#[test]
+fn a_manifest_that_cant_be_read() {
+    let folder = decks();
     for (list, why) in [
         ("gone", "No such file or directory"),
         (".", "Is a directory"),

@@ -152,7 +152,7 @@ fn odd_names_imitate_no_line() {
             &["show", &name],
             &["convert", &bad],
             &["convert", &missing],
-            &["convert", "--to", "text", &bad, "--out", &within_it],
+            &["convert", "--to", "binary", &bad, "--out", &within_it],
             &["convert", "--to", &name],
             &["convert", &bad, &bad],
             &["manifest", &missing],
