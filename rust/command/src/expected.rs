@@ -43,10 +43,7 @@ pub fn of(task: &Judge) -> Expected {
         Ok(text) => manifest::parse(&text),
         Err(error) => {
             let why = format!("the manifest: {}", words::of_error(&error));
-            return Expected {
-                cases: vec![trouble(why)],
-                listed: Some(0),
-            };
+            return unlisted(trouble(why), &task.sources);
         }
     };
     let listed = Some(lines.len());
@@ -63,6 +60,18 @@ pub fn of(task: &Judge) -> Expected {
         cases.push(trouble("the manifest lists nothing".to_string()));
     }
     Expected { cases, listed }
+}
+
+/// Without a manifest no stream is judged that was to be held against it.
+fn unlisted(trouble: Case, given: &[Source]) -> Expected {
+    let why = "not judged: the manifest can't be read";
+    let unjudged = |source: &Source| Case::Trouble(source.name(), why.to_string());
+    let mut cases = vec![trouble];
+    cases.extend(given.iter().map(unjudged));
+    Expected {
+        cases,
+        listed: Some(0),
+    }
 }
 
 /// A stream's place on the disk, whatever names its folder has. A link is a

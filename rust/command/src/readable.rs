@@ -6,7 +6,7 @@ use crate::outcome::{code_and_name, Found, Outcome};
 use crate::standing::Standing;
 use crate::terminal::Paint;
 use crate::words::{counted, measured};
-use cesr::{Form, Item, Number, Refusal, RefusalRow, Remainder, Report, Verdict};
+use cesr::{Form, Item, Number, Opaque, Refusal, RefusalRow, Remainder, Report, Verdict};
 use std::io::{self, Write};
 use std::ops::Range;
 
@@ -60,13 +60,15 @@ fn unseen(input: &Input, report: &Report) -> Vec<String> {
     if input.is_all_zeros() {
         unseen.push("every byte is 0".to_string());
     }
-    let opaque = cesr::opaque(input.form, &input.bytes, report);
-    if opaque.groups > 0 {
-        let groups = counted(opaque.groups, "opaque group");
-        let size = measured(input.form, opaque.size);
-        unseen.push(format!("{groups} with {size} not looked into"));
-    }
+    unseen.extend(opaque(input.form, &input.bytes, report));
     unseen
+}
+
+/// The groups in accepted items whose contents nobody looked at.
+pub fn opaque(form: Form, stream: &[u8], report: &Report) -> Option<String> {
+    let Opaque { groups, size } = cesr::opaque(form, stream, report);
+    let (said, size) = (counted(groups, "opaque group"), measured(form, size));
+    (groups > 0).then(|| format!("{said} with {size} not looked into"))
 }
 
 /// One stream in full: sums, with `all` every item, then refused items and the

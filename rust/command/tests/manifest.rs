@@ -184,13 +184,14 @@ fn a_manifest_that_cant_be_read() {
             &folder,
             &format!("cesr judge --manifest {list} decks/a.cesr"),
         );
-        assert_eq!(ran.status, 2);
-        assert!(
-            ran.text()
-                .starts_with(&format!("error   {list}: the manifest: {why}\n")),
-            "{}",
-            ran.text()
+        // The file that was given has its line, and is not judged.
+        let told = format!(
+            "error   {list}: the manifest: {why}\n\
+             error   decks/a.cesr: not judged: the manifest can't be read\n\
+             2 streams, 0 expected: 0 passed, 0 failed, 2 not judged; \
+             0 items, 0 accepted, 0 refused, 0 remainders\n"
         );
+        assert_eq!((ran.status, ran.text()), (2, told));
     }
 }
 

@@ -233,6 +233,23 @@ fn what_was_not_looked_into_is_said() {
     }
 }
 
+/// So where one item is shown.
+#[test]
+fn what_was_not_looked_into_is_said_of_an_item() {
+    let told = "stream   standard input: text
+offset   4
+code     -K
+name     Indexed controller signature group
+size     8 characters
+inside   1 opaque group with 4 characters not looked into
+verdict  accepted
+";
+    let ran = fed(&["show", "4", "--form", "text"], b"MAAB-KAB_AAA");
+    assert_eq!((ran.status, ran.text().as_str()), (0, told));
+    let ran = fed(&["show", "0", "--form", "text"], b"-AABMAAB");
+    assert!(!ran.text().contains("opaque"));
+}
+
 #[test]
 fn what_was_not_looked_into_is_counted_in_json() {
     for (stream, groups, _) in OPAQUE {
