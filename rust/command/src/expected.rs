@@ -93,9 +93,10 @@ impl<'l> Listed<'l> {
         for (index, line) in parsed.iter().enumerate() {
             let Ok(entry) = line else { continue };
             let path = folder.join(&entry.name);
-            let at = lines.entry(place(&path)).or_default();
+            let place = place(&path);
+            let at = lines.entry(place.clone()).or_default();
             at.push(index.saturating_add(1));
-            entries.push((place(&path), path, entry));
+            entries.push((place, path, entry));
         }
         Listed { entries, lines }
     }
