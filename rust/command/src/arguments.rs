@@ -124,6 +124,10 @@ impl Given {
                 if is_there(OsStr::new("--")) && !behind.iter().any(|word| word == "--") {
                     return Err("there is a file called --: say ./-- for it".to_string());
                 }
+                // A pattern that found nothing is no wish for standard input.
+                if behind.is_empty() {
+                    return Err("no FILE stands behind --".to_string());
+                }
             }
             None => before.iter().try_for_each(|word| is_one_thing(word))?,
         }

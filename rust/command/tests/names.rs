@@ -96,6 +96,17 @@ failed  standard\\ input: text (detected), 1 item, 0 accepted, 1 refused, no rem
     }
 }
 
+/// A pattern that finds no file leaves nothing behind `--`: standard input is
+/// not judged in their place.
+#[test]
+fn no_file_is_not_standard_input() {
+    let folder = Folder::new();
+    let line = "shopt -s nullglob; printf MAAB | cesr judge -- *.cesr";
+    let ran = within(&folder, line);
+    assert_eq!((ran.status, ran.text()), (2, String::new()));
+    assert!(ran.err.starts_with("cesr: no FILE stands behind --\n"));
+}
+
 /// A file called `--` would be taken for the mark and left unjudged.
 #[test]
 fn a_file_called_as_the_mark_is() {

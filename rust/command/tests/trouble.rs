@@ -236,6 +236,8 @@ const WRONG: &[&[&str]] = &[
     &["judge", "--manifest", "samples/clean.cesr", "-"],
     &["judge", "--manifest"],
     &["manifest"],
+    &["judge", "--"],
+    &["convert", "--to", "binary", "--"],
     &["manifest", "-"],
     &["manifest", "--json", "samples/clean.cesr"],
     &["convert", "--out", "--", "samples/clean.cesr"],
