@@ -3,6 +3,7 @@
 
 use std::fs::{self, File, OpenOptions};
 use std::io::{self, ErrorKind, Write};
+use std::os::unix::fs::{OpenOptionsExt, PermissionsExt};
 use std::path::{Path, PathBuf};
 
 /// Links that are followed one behind the other.
@@ -60,7 +61,8 @@ fn whole(path: &Path, bytes: &[u8]) -> io::Result<()> {
         Err(error) if error.kind() == ErrorKind::NotFound => None,
         Err(error) => return Err(error),
     };
-    let (mut file, beside) = beside(folder(path))?;
+    let mode = kept.as_ref().map_or(0o666, PermissionsExt::mode);
+    let (mut file, beside) = beside(folder(path), mode)?;
     let fill = || {
         file.write_all(bytes)?;
         if let Some(kept) = kept {
@@ -72,12 +74,15 @@ fn whole(path: &Path, bytes: &[u8]) -> io::Result<()> {
     fill().inspect_err(|_| drop(fs::remove_file(&beside)))
 }
 
-/// A new file in the folder, and its name.
-fn beside(folder: &Path) -> io::Result<(File, PathBuf)> {
+/// A new file in the folder, and its name. From its start nobody may read it
+/// who may not read the one that it replaces.
+fn beside(folder: &Path, mode: u32) -> io::Result<(File, PathBuf)> {
+    let mut new = OpenOptions::new();
+    new.write(true).create_new(true).mode(mode);
     let process = std::process::id();
     for number in 0..NAMES {
         let path = folder.join(format!(".cesr-part-{process}-{number}"));
-        match File::create_new(&path) {
+        match new.open(&path) {
             Ok(file) => return Ok((file, path)),
             Err(error) if error.kind() == ErrorKind::AlreadyExists => {}
             Err(error) => return Err(error),

@@ -66,9 +66,12 @@ fn a_converted_file_is_whole_or_as_it_was() {
     let ran = run(&["convert", "--to", "binary", "--out", &kept, &long]);
     assert_eq!((ran.status, ran.err.as_str()), (0, ""));
     assert_eq!(fs::read(&kept).expect("the file").len(), 300_000);
-    let mode = fs::metadata(&kept).expect("the file").permissions().mode();
-    assert_eq!(mode & 0o777, 0o640);
+    let mode = |path: &str| fs::metadata(path).expect("a file").permissions().mode() & 0o777;
+    assert_eq!(mode(&kept), 0o640);
     assert_eq!(fs::read_dir(folder.path()).expect("a folder").count(), 2);
+    let new = "umask 027; cesr convert --to binary --out new.bin long.cesr";
+    assert_eq!(within(&folder, new).status, 0);
+    assert_eq!(mode(&format!("{}/new.bin", folder.path().display())), 0o640);
 }
 
 /// A link stays a link, also one whose file is still to be made; a file may be
