@@ -1,6 +1,7 @@
-// What the two programs share: a stream from standard input, told from one that a failed read cut off, and what is to be written.
-// Assumed: the contract of the C library's read.
+// What the two programs share: a stream from standard input, told from one that a failed read cut off, what is to be written, and
+// what is said on standard error where something could not be done. Assumed: the contracts of the C library's read and write.
 use format::Reported;
+use libc::STDERR_FILENO;
 use libc::STDIN_FILENO;
 ghost use mathlib.Core.Path.{_≡_};
 ghost use Prim.Native.Nat.{_≤_};
@@ -89,4 +90,20 @@ pub fn answer_binary(s: &[u8], out: &mut [u8]) -> usize
         Reported::Written(n) => n,
         Reported::Refused(_, _) => 0,
     }
+}
+
+// On standard error, a line in one write: a read failed, so there is no stream.
+pub fn say_unread() {
+    io::write_all(
+        STDERR_FILENO,
+        b"cesr: standard input could not be read: nothing was judged\n",
+    );
+}
+
+// The same where standard output did not take all of the answer.
+pub fn say_unwritten() {
+    io::write_all(
+        STDERR_FILENO,
+        b"cesr: standard output could not be written: the report is not whole\n",
+    );
 }

@@ -73,7 +73,9 @@ impl Code {
     /// The library's two numbers.
     pub(crate) fn numbers(self) -> (u8, u8) {
         match self {
-            Code::Fixed { chars, letter } => (chars, letter),
+            // From 5 on the first number names another kind: so long a fixed
+            // code is none.
+            Code::Fixed { chars, letter } => (if chars > 4 { 0 } else { chars }, letter),
             Code::Small { letter } => (5, letter),
             Code::Large { letter } => (6, letter),
             Code::SmallGroup { letter } => (7, letter),

@@ -8,7 +8,8 @@
 //!
 //! | To | Call |
 //! | --- | --- |
-//! | judge a stream | [`judge`], [`judge_into`]: a [`Report`] with its rows |
+//! | judge a stream | [`judge`], [`judge_into`], [`judge_with`]: a [`Report`] with its rows |
+//! | know what was not looked into | [`opaque`] |
 //! | convert a stream | [`to_binary`], [`to_text`] and their `_into` forms |
 //! | read one primitive | [`read`], [`read_text_into`], [`read_binary`] |
 //! | write one primitive | [`write()`], [`write_into`] |
@@ -61,6 +62,7 @@ mod code;
 mod convert;
 mod form;
 mod names;
+mod opaque;
 mod primitive;
 mod refusal;
 mod report;
@@ -69,11 +71,12 @@ mod walk;
 pub use code::{Code, Head, ParseCodeError};
 pub use convert::{to_binary, to_binary_into, to_text, to_text_into};
 pub use form::{Form, ParseFormError};
+pub use opaque::{opaque, Opaque};
 pub use primitive::{read, read_binary, read_text_into, write, write_into, Primitive, Tag};
 pub use proved::{STATE, STATE_POSITION};
 pub use refusal::{Number, Refusal};
 pub use report::{
-    judge, judge_into, Item, Items, RefusalRow, Refusals, Remainder, Report, Verdict,
+    judge, judge_into, judge_with, Item, Items, RefusalRow, Refusals, Remainder, Report, Verdict,
 };
 pub use walk::{item_at, State, Step, Walk};
 

@@ -25,7 +25,23 @@ const REMAINDER: usize = 5;
 /// # Ok::<(), cesr::Refusal>(())
 /// ```
 pub fn judge(form: Form, stream: &[u8]) -> Result<Report<'static>, Refusal> {
-    let mut out = vec![0; Report::room(form, stream.len())];
+    judge_with(form, stream, vec![0; Report::room(form, stream.len())])
+}
+
+/// Judges a stream into a buffer that is given away, for those who must know
+/// beforehand whether there is memory for it: refused as [`judge_into`] is.
+/// [`Report::room`] is enough.
+///
+/// ```
+/// use cesr::{judge, judge_with, Form, Report};
+/// let stream = b"MAABMQAA";
+/// let mut room = Vec::new();
+/// if room.try_reserve_exact(Report::room(Form::Text, stream.len())).is_ok() {
+///     room.resize(room.capacity(), 0);
+///     assert_eq!(judge_with(Form::Text, stream, room), judge(Form::Text, stream));
+/// }
+/// ```
+pub fn judge_with(form: Form, stream: &[u8], mut out: Vec<u8>) -> Result<Report<'static>, Refusal> {
     let length = report(form, stream, &mut out)?;
     out.truncate(length);
     Ok(Report::over(Cow::Owned(out)))

@@ -3,8 +3,8 @@
 //! That the library's answers are right is for the differential test.
 
 use cesr::{
-    item_at, judge, judge_into, read, read_text_into, to_binary, to_binary_into, to_text,
-    to_text_into, write, write_into, Form, Number, Report, State, Verdict, Walk, STATE,
+    item_at, judge, judge_into, opaque, read, read_text_into, to_binary, to_binary_into, to_text,
+    to_text_into, write, write_into, Code, Form, Number, Report, State, Verdict, Walk, STATE,
 };
 use streams::generate::any_deck;
 use streams::item::stream;
@@ -290,4 +290,32 @@ fn the_longest_values_are_read_and_written() {
     }
     let refusal = write(Form::Text, cesr::Code::small(b'B'), b"", &[0; 12_286]).unwrap_err();
     assert_eq!(refusal.number, Number::UNFIT_LENGTH);
+}
+
+/// 01: `-K` and `-L` are opaque, and no other group. Counted here by the letter
+/// in every accepted item, where the crate goes by the walk.
+#[test]
+fn opaque_groups_are_those_of_01() {
+    let mut seen = 0;
+    each_case(|seed, form, stream| {
+        let report = judge(form, stream).expect("a stream within the limit");
+        let mut groups = 0;
+        for item in report.items().filter(|item| item.is_accepted()) {
+            for step in Walk::new(form, item.of(stream)).map(|step| step.expect("accepted")) {
+                let (letter, header) = match step.head.code {
+                    Code::SmallGroup { letter } => (letter, form.unit()),
+                    Code::LargeGroup { letter } => (letter, 2 * form.unit()),
+                    _ => continue,
+                };
+                groups += usize::from(b"KL".contains(&letter) && step.size > header);
+            }
+        }
+        assert_eq!(opaque(form, stream, &report).groups, groups, "{seed}");
+    });
+    for seed in 0..CASES {
+        let stream = made(seed, Form::Text);
+        let report = judge(Form::Text, &stream).expect("a stream within the limit");
+        seen += opaque(Form::Text, &stream, &report).groups;
+    }
+    assert!(seen > 100, "{seen}");
 }

@@ -35,6 +35,14 @@ fn a_primitive_has_a_name_exactly_if_the_library_writes_it() {
     assert_eq!(known, 58 + 7 + 7);
 }
 
+/// A fixed code of another length is no other kind of code.
+#[test]
+fn a_fixed_code_of_another_length_is_unknown() {
+    for chars in (0..=255).filter(|chars| ![1, 2, 4].contains(chars)) {
+        assert!((0..=255).all(|letter| !is_written(Code::fixed(chars, letter))));
+    }
+}
+
 #[test]
 fn a_group_has_a_name_exactly_if_the_library_walks_it() {
     let mut known = 0;

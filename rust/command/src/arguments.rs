@@ -2,12 +2,14 @@
 
 use crate::help;
 use crate::input::Source;
+use crate::name::shown;
 use crate::standing::Standing;
 use cesr::Form;
-use std::ffi::OsString;
-use std::path::PathBuf;
+use std::ffi::{OsStr, OsString};
+use std::path::{Path, PathBuf};
+use std::vec::IntoIter;
 
-const COMMANDS: &str = "judge, convert, show or numbers";
+const COMMANDS: &str = "judge, convert, show, manifest or numbers";
 
 /// What is asked for.
 #[derive(Debug)]
@@ -15,6 +17,7 @@ pub enum Task {
     Judge(Judge),
     Convert(Convert),
     Show(Show),
+    Manifest(Manifest),
     /// A text of the command's own, and how the call stands that asked for it.
     Say(String, Standing),
 }
@@ -23,6 +26,8 @@ pub enum Task {
 pub struct Judge {
     pub form: Option<Form>,
     pub style: Style,
+    pub manifest: Option<PathBuf>,
+    /// None but with a manifest.
     pub sources: Vec<Source>,
 }
 
@@ -32,6 +37,12 @@ pub enum Style {
     All,
     Json { all: bool },
     Report,
+}
+
+impl Style {
+    pub fn is_for_people(self) -> bool {
+        matches!(self, Style::Plain | Style::All)
+    }
 }
 
 #[derive(Debug)]
@@ -48,17 +59,24 @@ pub struct Show {
     pub source: Source,
 }
 
+#[derive(Debug)]
+pub struct Manifest {
+    pub form: Option<Form>,
+    pub sources: Vec<Source>,
+}
+
 /// All that a call can give.
 #[derive(Default)]
 struct Given {
     form: Option<Form>,
     to: Option<Form>,
     out: Option<OsString>,
+    manifest: Option<OsString>,
     all: bool,
     json: bool,
     report: bool,
     help: bool,
-    names: Vec<OsString>,
+    sources: Vec<Source>,
 }
 
 /// Makes a command's task of what is given.
@@ -69,17 +87,23 @@ pub fn parse(mut arguments: impl Iterator<Item = OsString>) -> Result<Task, Stri
     let Some(command) = arguments.next() else {
         return Err(format!("which command? {COMMANDS}"));
     };
-    let command = command.to_string_lossy();
-    let (task, allowed): (Made, &[&str]) = match &*command {
-        "judge" => (judge, &["--form", "--all", "--json", "--report"]),
+    let (task, allowed): (Made, &[&str]) = match command.to_str().unwrap_or_default() {
+        "judge" => (
+            judge,
+            &["--form", "--manifest", "--all", "--json", "--report"],
+        ),
         "convert" => (convert, &["--to", "--out"]),
         "show" => (show, &["--form"]),
+        "manifest" => (manifest, &["--form"]),
         "numbers" => (|given| said(given, help::numbers()), &[]),
         "help" | "--help" | "-h" => (|given| said(given, help::HELP.to_string()), &[]),
         "--version" | "-V" => (|given| said(given, help::VERSION.to_string()), &[]),
-        _ => return Err(format!("no such command: {command} ({COMMANDS})")),
+        _ => {
+            let command = shown(&command);
+            return Err(format!("no such command: {command} ({COMMANDS})"));
+        }
     };
-    let given = Given::from(arguments, allowed)?;
+    let given = Given::from(arguments.collect(), allowed)?;
     match given.help {
         // A file may have this name: nothing was judged, so it is no pass.
         true => Ok(Task::Say(help::HELP.to_string(), Standing::Error)),
@@ -88,31 +112,55 @@ pub fn parse(mut arguments: impl Iterator<Item = OsString>) -> Result<Task, Stri
 }
 
 impl Given {
-    fn from(
-        mut arguments: impl Iterator<Item = OsString>,
-        allowed: &[&str],
-    ) -> Result<Given, String> {
-        let mut given = Given::default();
-        while let Some(argument) = arguments.next() {
-            match argument.to_str() {
-                Some("--") => given.names.extend(arguments.by_ref()),
-                Some("--help" | "-h") => given.help = true,
-                Some(option) if option.starts_with('-') && option != "-" => {
-                    given.option(option, &mut arguments, allowed)?;
+    /// Behind `--` every word is a file's name. Without it a word may be an
+    /// option, and then it must not be a file's name too.
+    fn from(words: Vec<OsString>, allowed: &[&str]) -> Result<Given, String> {
+        let mut before = words;
+        let mut behind = Vec::new();
+        match before.iter().position(|word| word == "--") {
+            Some(mark) => {
+                behind = before.split_off(mark).split_off(1);
+                // A pattern may have given it, and then it marks nothing.
+                if is_there(OsStr::new("--")) && !behind.iter().any(|word| word == "--") {
+                    return Err("there is a file called --: say ./-- for it".to_string());
                 }
-                None if argument.as_encoded_bytes().starts_with(b"-") => {
-                    return Err(no_such_option(&argument.to_string_lossy()));
+                // A pattern that found nothing is no wish for standard input.
+                if behind.is_empty() {
+                    return Err("no FILE stands behind --".to_string());
                 }
-                _ => given.names.push(argument),
             }
+            None => before.iter().try_for_each(|word| is_one_thing(word))?,
         }
+        let mut given = Given::default();
+        let mut before = before.into_iter();
+        while let Some(word) = before.next() {
+            given.take(word, &mut before, allowed)?;
+        }
+        let files = behind.into_iter().map(PathBuf::from).map(Source::File);
+        given.sources.extend(files);
         Ok(given)
+    }
+
+    fn take(
+        &mut self,
+        word: OsString,
+        more: &mut IntoIter<OsString>,
+        allowed: &[&str],
+    ) -> Result<(), String> {
+        match word.to_str() {
+            Some("--help" | "-h") => self.help = true,
+            Some("-") => self.sources.push(Source::Standard),
+            Some(option) if option.starts_with('-') => self.option(option, more, allowed)?,
+            None if is_optional(&word) => return Err(no_such_option(&word)),
+            _ => self.sources.push(Source::File(PathBuf::from(word))),
+        }
+        Ok(())
     }
 
     fn option(
         &mut self,
         option: &str,
-        arguments: &mut dyn Iterator<Item = OsString>,
+        more: &mut IntoIter<OsString>,
         allowed: &[&str],
     ) -> Result<(), String> {
         let (name, mut value) = match option.split_once('=') {
@@ -120,16 +168,17 @@ impl Given {
             None => (option, None),
         };
         if !allowed.contains(&name) {
-            return Err(no_such_option(option));
+            return Err(no_such_option(OsStr::new(option)));
         }
         let mut valued = || {
-            let value = value.take().or_else(|| arguments.next());
+            let value = value.take().or_else(|| more.next());
             value.ok_or_else(|| format!("{name} asks for a value"))
         };
         match name {
-            "--form" => self.form = Some(form(valued()?)?),
-            "--to" => self.to = Some(form(valued()?)?),
-            "--out" => self.out = Some(valued()?).filter(|name| name != "-"),
+            "--form" => once(name, &mut self.form, form(valued()?)?)?,
+            "--to" => once(name, &mut self.to, form(valued()?)?)?,
+            "--out" => once(name, &mut self.out, valued()?)?,
+            "--manifest" => once(name, &mut self.manifest, valued()?)?,
             "--all" => self.all = true,
             "--json" => self.json = true,
             _ => self.report = true,
@@ -141,17 +190,45 @@ impl Given {
     }
 }
 
-fn no_such_option(option: &str) -> String {
-    format!("no such option here: {option}")
+/// Of two values one would be passed over.
+fn once<T>(name: &str, place: &mut Option<T>, value: T) -> Result<(), String> {
+    match place.replace(value) {
+        Some(_) => Err(format!("{name} is given twice")),
+        None => Ok(()),
+    }
+}
+
+fn is_optional(word: &OsStr) -> bool {
+    word.as_encoded_bytes().starts_with(b"-")
+}
+
+/// Is there a file of this name here? Then a pattern may have given it.
+fn is_there(word: &OsStr) -> bool {
+    Path::new(word).symlink_metadata().is_ok()
+}
+
+/// An option that is a file's name too would leave the file unjudged.
+fn is_one_thing(word: &OsStr) -> Result<(), String> {
+    let name = shown(word);
+    match is_optional(word) && is_there(word) {
+        true => Err(format!(
+            "there is a file called {name}: put -- before names, or say ./{name} for it"
+        )),
+        false => Ok(()),
+    }
+}
+
+fn no_such_option(option: &OsStr) -> String {
+    format!("no such option here: {}", shown(option))
 }
 
 fn form(name: OsString) -> Result<Form, String> {
-    let name = name.to_string_lossy();
-    name.parse().map_err(|wrong| format!("{wrong}, not {name}"))
+    let parsed = name.to_str().unwrap_or_default().parse();
+    parsed.map_err(|wrong| format!("{wrong}, not {}", shown(&name)))
 }
 
 fn said(given: Given, text: String) -> Result<Task, String> {
-    match given.names.is_empty() {
+    match given.sources.is_empty() {
         true => Ok(Task::Say(text, Standing::Passed)),
         false => Err("there is no FILE for this".to_string()),
     }
@@ -165,20 +242,26 @@ fn judge(given: Given) -> Result<Task, String> {
         (false, false, true) => Style::Report,
         _ => return Err("--report goes with neither --json nor --all".to_string()),
     };
-    let names = given.names;
-    if style == Style::Report && names.len() > 1 {
-        return Err("--report is of one stream".to_string());
+    let mut sources = given.sources;
+    let inputs = sources.iter().filter(|one| **one == Source::Standard);
+    match (inputs.count(), &given.manifest) {
+        (1.., Some(_)) => return Err("standard input has no name to be listed by".to_string()),
+        (2.., None) => return Err("standard input can be read once".to_string()),
+        _ => {}
     }
-    if names.iter().filter(|name| *name == "-").count() > 1 {
-        return Err("standard input can be read once".to_string());
+    if style == Style::Report && (sources.len() > 1 || given.manifest.is_some()) {
+        return Err("--report is of one stream, without a manifest".to_string());
     }
-    let sources = match names.is_empty() {
-        true => vec![Source::Standard],
-        false => names.into_iter().map(source).collect(),
-    };
+    if given.manifest.as_deref() == Some(OsStr::new("-")) {
+        return Err("--manifest asks for a file".to_string());
+    }
+    if sources.is_empty() && given.manifest.is_none() {
+        sources.push(Source::Standard);
+    }
     Ok(Task::Judge(Judge {
         form: given.form,
         style,
+        manifest: given.manifest.map(PathBuf::from),
         sources,
     }))
 }
@@ -186,34 +269,39 @@ fn judge(given: Given) -> Result<Task, String> {
 fn convert(given: Given) -> Result<Task, String> {
     Ok(Task::Convert(Convert {
         to: given.to,
-        out: given.out.map(PathBuf::from),
-        source: at_most_one(given.names)?,
+        out: given.out.filter(|name| name != "-").map(PathBuf::from),
+        source: at_most_one(given.sources.into_iter())?,
     }))
 }
 
 fn show(given: Given) -> Result<Task, String> {
-    let mut names = given.names.into_iter();
-    let at = names.next().ok_or("show asks for an OFFSET")?;
-    let at = at.to_string_lossy();
+    let mut sources = given.sources.into_iter();
+    let at = match sources.next() {
+        Some(Source::File(word)) => word.into_os_string(),
+        _ => return Err("show asks for an OFFSET".to_string()),
+    };
+    let offset = at.to_str().unwrap_or_default().parse();
     Ok(Task::Show(Show {
         form: given.form,
-        at: at.parse().map_err(|_| format!("no offset: {at}"))?,
-        source: at_most_one(names.collect())?,
+        at: offset.map_err(|_| format!("no offset: {}", shown(&at)))?,
+        source: at_most_one(sources)?,
     }))
 }
 
-fn at_most_one(names: Vec<OsString>) -> Result<Source, String> {
-    let mut names = names.into_iter();
-    match (names.next(), names.next()) {
-        (None, _) => Ok(Source::Standard),
-        (Some(name), None) => Ok(source(name)),
-        (Some(_), Some(more)) => Err(format!("one FILE only: {}", more.to_string_lossy())),
+fn manifest(given: Given) -> Result<Task, String> {
+    if given.sources.is_empty() || given.sources.contains(&Source::Standard) {
+        return Err("manifest asks for a FILE or more, by their names".to_string());
     }
+    Ok(Task::Manifest(Manifest {
+        form: given.form,
+        sources: given.sources,
+    }))
 }
 
-fn source(name: OsString) -> Source {
-    match name == "-" {
-        true => Source::Standard,
-        false => Source::File(PathBuf::from(name)),
+fn at_most_one(mut sources: IntoIter<Source>) -> Result<Source, String> {
+    match (sources.next(), sources.next()) {
+        (None, _) => Ok(Source::Standard),
+        (Some(source), None) => Ok(source),
+        (Some(_), Some(more)) => Err(format!("one FILE only: {}", more.name())),
     }
 }

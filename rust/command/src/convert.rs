@@ -3,18 +3,17 @@
 
 use crate::arguments::Convert;
 use crate::input::{self, Input};
+use crate::name::shown;
 use crate::standing::Standing;
 use crate::terminal::Progress;
-use crate::words::{self, on_one_line};
-use crate::{complain, excerpt, readable};
+use crate::{complain, excerpt, memory, readable, replace, words};
 use cesr::{Form, Number, Refusal};
-use std::fs;
 use std::io::{self, IsTerminal, Write};
 use std::path::Path;
 
 /// Passed where all of the stream was converted and written.
 pub fn run(task: &Convert, out: &mut dyn Write) -> io::Result<Standing> {
-    let name = on_one_line(&task.source.name());
+    let name = task.source.name();
     let from = task.to.map(Form::other);
     let input = match input::read(&task.source, from, &mut Progress::told()) {
         Ok(input) => input,
@@ -26,23 +25,29 @@ pub fn run(task: &Convert, out: &mut dyn Write) -> io::Result<Standing> {
         ));
         return Ok(Standing::Empty);
     }
-    if input.told {
+    if input.detected {
         complain(&format!("{name}: {}", input.form_in_words()));
     }
     if task.to == Some(Form::Text) && Form::told_from(&input.bytes) == Form::Text {
         complain(&format!("{name}: looks like text, is converted as binary"));
     }
-    let answer = match input.form {
-        Form::Text => cesr::to_binary(&input.bytes),
-        Form::Binary => cesr::to_text(&input.bytes),
+    // Text is longer than binary by a third.
+    let mut room = match memory::zeros(input.bytes.len().saturating_mul(2)) {
+        Ok(room) => room,
+        Err(error) => return failed(&format!("{name}: {}", words::of_error(&error))),
     };
-    match (answer, &task.out) {
+    let answer = match input.form {
+        Form::Text => cesr::to_binary_into(&input.bytes, &mut room),
+        Form::Binary => cesr::to_text_into(&input.bytes, &mut room),
+    };
+    let converted = answer.map(|length| room.get(..length).unwrap_or_default());
+    match (converted, &task.out) {
         (Err(refusal), _) => failed(&format!("{name}: {}", explained(&input, refusal))),
-        (Ok(converted), Some(path)) => to_file(path, &converted),
+        (Ok(converted), Some(path)) => to_file(path, converted),
         (Ok(_), None) if input.form == Form::Text && io::stdout().is_terminal() => {
             failed("binary is not for a terminal: give --out FILE, or send it to a pipe")
         }
-        (Ok(converted), None) => out.write_all(&converted).map(|()| Standing::Passed),
+        (Ok(converted), None) => out.write_all(converted).map(|()| Standing::Passed),
     }
 }
 
@@ -52,10 +57,10 @@ fn failed(message: &str) -> io::Result<Standing> {
 }
 
 fn to_file(path: &Path, converted: &[u8]) -> io::Result<Standing> {
-    match fs::write(path, converted) {
+    match replace::with(path, converted) {
         Ok(()) => Ok(Standing::Passed),
         Err(error) => {
-            let name = on_one_line(&path.to_string_lossy());
+            let name = shown(path.as_os_str());
             failed(&format!("{name}: {}", words::of_error(&error)))
         }
     }

@@ -5,34 +5,45 @@ use cesr::Number;
 pub const HELP: &str = "\
 cesr: judges, converts and shows CESR streams
 
-  cesr judge [--form text|binary] [--all] [--json | --report] [FILE...]
-  cesr convert [--to text|binary] [--out FILE] [FILE]
-  cesr show [--form text|binary] OFFSET [FILE]
+  cesr judge [--form text|binary] [--manifest LIST] [--all] [--json | --report]
+             [--] [FILE...]
+  cesr convert [--to text|binary] [--out FILE] [--] [FILE]
+  cesr show [--form text|binary] OFFSET [--] [FILE]
+  cesr manifest [--form text|binary] [--] FILE...
   cesr numbers
 
-judge     One FILE: items, accepted, refused, remainder; then each refused item
-          with its number, meaning, place and bytes. Many: a line each, a total.
-          --all      every item with its code's name, with --json too
-          --json     one object a line, for machines
-          --report   the report's bytes
-convert   The whole stream in the other form, to standard output or --out FILE.
-          It looks at no codes: a converted stream has not been judged.
+judge     One FILE: items, accepted, refused, remainder; then refused items, eight
+          at most, with number, meaning, place and bytes. Many: a line each and a
+          total.
+          --all       every item with its code's name and every refused one
+          --json      one object a line, for machines; with --all every item too
+          --report    the report's bytes
+          --manifest  the streams of LIST, or the given ones held against it: 0
+                      only if every stream of LIST is there, is the one that is
+                      listed, and passed
+convert   The whole stream in the other form, to standard output or --out FILE,
+          which is replaced when all is written. It looks at no codes: a
+          converted stream has not been judged.
 show      One item at an offset, as a stream by itself: code, name, raw value in
           hexadecimal or tag characters; a group with the items inside.
+manifest  A line for each FILE: SHA256 LENGTH FORM NAME. Names in a manifest are
+          relative to its folder. It looks at no codes.
 numbers   What each number of a refusal means.
 
-No FILE, or -, is standard input. Behind -- nothing is an option: put it before
-names that come from a list or a pattern. Without --form the form is told from
-the first sixteen bytes (text if all are printable), and the output says so.
-Items are counted from 0. Offsets, sizes and places count characters in text and
-bytes in binary, from 0 too.
+No FILE, or -, is standard input. Behind -- every word is a file's name, - too:
+put it before names that come from a list or a pattern. Without it a word that
+could be an option and is a file's name is an error. Without --form the form is
+detected from the first sixteen bytes (text if all are printable), and the output
+says so. Items are counted from 0. Offsets, sizes and places count characters in
+text and bytes in binary, from 0 too.
 
 Exit status
   0  every byte of every stream lies in an accepted item
   1  an item is refused, or a remainder is left
-  2  a call was refused (a stream over the limit), a stream is empty, or
-     something could not be read or written
-show says so of its one item. convert gives 0 if all was converted and written.
+  2  a call was refused (a stream over the limit), a stream is empty, changed
+     while it was read or is other than listed, or something could not be read
+     or written
+show says so of its one item. convert and manifest give 0 if all was written.
 --help behind a command gives 2: nothing was judged.
 ";
 

@@ -1,18 +1,21 @@
 //! Streams from files and standard input, never more of them than one byte
-//! past the limit.
+//! past the limit, and none that changed on the way.
 
+use crate::name::Name;
 use crate::terminal::Progress;
-use crate::words;
+use crate::watch::Watch;
+use crate::{say, words};
 use cesr::Form;
 use std::fs::File;
-use std::io::{self, Read, Write};
-use std::path::PathBuf;
+use std::io::{self, Read};
+use std::os::fd::AsFd;
+use std::path::{Path, PathBuf};
 
 /// Bytes read at once, between two looks at the clock.
 const PIECE: usize = 1 << 14;
 
 /// Where a stream comes from.
-#[derive(Clone, Debug)]
+#[derive(Clone, Debug, PartialEq, Eq)]
 pub enum Source {
     Standard,
     File(PathBuf),
@@ -20,10 +23,10 @@ pub enum Source {
 
 impl Source {
     /// The source's name for people and machines.
-    pub fn name(&self) -> String {
+    pub fn name(&self) -> Name {
         match self {
-            Source::Standard => "standard input".to_string(),
-            Source::File(path) => path.to_string_lossy().into_owned(),
+            Source::Standard => Name::StandardInput,
+            Source::File(path) => Name::File(path.clone().into_os_string()),
         }
     }
 }
@@ -33,17 +36,22 @@ impl Source {
 pub struct Input {
     pub bytes: Vec<u8>,
     pub form: Form,
-    /// Was the form told from the first bytes?
-    pub told: bool,
+    /// Was the form guessed from the first bytes?
+    pub detected: bool,
 }
 
 impl Input {
-    /// Form, and whether it was told.
+    /// Form, and whether it was guessed.
     pub fn form_in_words(&self) -> String {
-        match self.told {
-            true => format!("{} (told from the first bytes)", self.form),
+        match self.detected {
+            true => format!("{} (detected from the first bytes)", self.form),
             false => self.form.to_string(),
         }
+    }
+
+    /// Is there a byte, and is every one 0?
+    pub fn is_all_zeros(&self) -> bool {
+        !self.bytes.is_empty() && self.bytes.iter().all(|byte| *byte == 0)
     }
 }
 
@@ -60,32 +68,31 @@ pub fn read(source: &Source, form: Option<Form>, progress: &mut Progress) -> Res
 /// What is typed ends without a line feed, so that the report needs a new line.
 fn typed_or_piped(form: Option<Form>, progress: &mut Progress) -> io::Result<Input> {
     let typed = progress.waits();
-    let input = limited(&mut io::stdin().lock(), form, progress);
+    let standard = io::stdin();
+    let watch = Watch::begin(File::from(standard.as_fd().try_clone_to_owned()?), None)?;
+    let input = limited(&mut standard.lock(), form, progress);
     if typed {
-        let _ = writeln!(io::stderr());
+        say("\n");
     }
-    input
+    steady(&watch, input?)
 }
 
-fn whole(path: &PathBuf, form: Option<Form>, progress: &mut Progress) -> io::Result<Input> {
+fn whole(path: &Path, form: Option<Form>, progress: &mut Progress) -> io::Result<Input> {
     let mut file = File::open(path)?;
-    let told = file.metadata()?;
-    let length = if told.is_file() { told.len() } else { 0 };
-    at_least(length, limited(&mut file, form, progress)?)
+    let watch = Watch::begin(file.try_clone()?, Some(path))?;
+    steady(&watch, limited(&mut file, form, progress)?)
 }
 
-/// A file that gives fewer bytes than it had when it was opened was changed on
-/// the way, and what was read is no stream that anyone wrote.
-fn at_least(length: u64, input: Input) -> io::Result<Input> {
-    let length = usize::try_from(length).unwrap_or(usize::MAX);
-    let most = input.form.limit().saturating_add(1);
-    match input.bytes.len() < length.min(most) {
-        true => Err(io::Error::other("changed while it was read")),
-        false => Ok(input),
-    }
+fn steady(watch: &Watch, input: Input) -> io::Result<Input> {
+    watch.end(input.bytes.len(), past(input.form))?;
+    Ok(input)
 }
 
-/// Up to one byte past the limit, which is enough for the library to refuse.
+/// One byte past the limit, which is enough for the library to refuse.
+fn past(form: Form) -> usize {
+    form.limit().saturating_add(1)
+}
+
 fn limited(
     reader: &mut dyn Read,
     form: Option<Form>,
@@ -93,13 +100,29 @@ fn limited(
 ) -> io::Result<Input> {
     let mut bytes = Vec::new();
     let ended = filled(reader, &mut bytes, Form::TELLING, progress)?;
-    let told = form.is_none();
+    let detected = form.is_none();
     let form = form.unwrap_or_else(|| Form::told_from(&bytes));
     if !ended {
-        let most = form.limit().saturating_add(1);
-        filled(reader, &mut bytes, most, progress)?;
+        filled(reader, &mut bytes, past(form), progress)?;
     }
-    Ok(Input { bytes, form, told })
+    Ok(Input {
+        bytes,
+        form,
+        detected,
+    })
+}
+
+/// All of a file that is no stream, if it has no more bytes than this.
+pub fn text(path: &Path, most: usize) -> io::Result<Vec<u8>> {
+    let mut file = File::open(path)?;
+    let watch = Watch::begin(file.try_clone()?, Some(path))?;
+    let (mut bytes, past) = (Vec::new(), most.saturating_add(1));
+    filled(&mut file, &mut bytes, past, &mut Progress::none())?;
+    watch.end(bytes.len(), past)?;
+    match bytes.len() > most {
+        true => Err(io::Error::other(format!("longer than {most} bytes"))),
+        false => Ok(bytes),
+    }
 }
 
 /// Reads on until there are so many bytes, or the end comes: true then. The
@@ -120,29 +143,4 @@ fn filled(
         progress.tick(|| format!("{} bytes read", bytes.len()));
     }
     Ok(false)
-}
-
-#[cfg(test)]
-mod tests {
-    use super::*;
-
-    fn of(length: usize) -> Input {
-        Input {
-            bytes: vec![b'A'; length],
-            form: Form::Text,
-            told: false,
-        }
-    }
-
-    #[test]
-    fn a_file_that_shrinks_is_an_error() {
-        assert!(at_least(5, of(4)).is_err());
-        assert!(at_least(5, of(0)).is_err());
-        assert!(at_least(5, of(5)).is_ok());
-        // One that grows was read as it was found; one over the limit is not
-        // read to its end.
-        assert!(at_least(5, of(6)).is_ok());
-        assert!(at_least(u64::MAX, of(4_194_305)).is_ok());
-        assert!(at_least(u64::MAX, of(4_194_304)).is_err());
-    }
 }

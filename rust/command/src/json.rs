@@ -1,22 +1,25 @@
 //! A stream's outcome for machines: one object on one line.
 
 use crate::input::Input;
+use crate::memory::Gathered;
+use crate::name::is_seen;
 use crate::outcome::{code_and_name, Found, Outcome};
-use crate::words::is_unseen;
+use crate::sha256;
 use cesr::{Item, Number, RefusalRow, Remainder, Report};
 use std::io::{self, Write};
 
-/// One line, written at once: lines of calls that share a file stay whole.
-pub fn line(out: &mut dyn Write, outcome: &Outcome, all: bool) -> io::Result<()> {
-    let mut line = Vec::new();
+/// One line, to be written at once: lines of calls that share a file stay
+/// whole. An error where there is no memory for it.
+pub fn line(outcome: &Outcome, all: bool) -> io::Result<Vec<u8>> {
+    let mut line = Gathered::default();
     object(&mut line, outcome, all)?;
-    out.write_all(&line)
+    Ok(line.0)
 }
 
 /// Every stream has `stream` and `outcome`; what was judged has its sums,
 /// refusals and remainder, and with `all` its `rows`.
 fn object(out: &mut dyn Write, outcome: &Outcome, all: bool) -> io::Result<()> {
-    let name = quoted(&outcome.name);
+    let name = quoted(&outcome.name.exact());
     let word = quoted(outcome.standing().word());
     write!(out, "{{\"stream\":{name},\"outcome\":{word}")?;
     match &outcome.found {
@@ -32,12 +35,14 @@ fn object(out: &mut dyn Write, outcome: &Outcome, all: bool) -> io::Result<()> {
 }
 
 fn form(out: &mut dyn Write, input: &Input) -> io::Result<()> {
-    write!(out, ",\"form\":\"{}\",\"told\":{}", input.form, input.told)
+    let Input { form, detected, .. } = input;
+    write!(out, ",\"form\":\"{form}\",\"detected\":{detected}")
 }
 
 fn judged(out: &mut dyn Write, input: &Input, report: &Report, all: bool) -> io::Result<()> {
     form(out, input)?;
     write!(out, ",\"length\":{}", input.bytes.len())?;
+    write!(out, ",\"sha256\":\"{}\"", sha256::of(&input.bytes))?;
     write!(out, ",\"items\":{}", report.items().len())?;
     write!(out, ",\"accepted\":{}", report.accepted())?;
     write!(out, ",\"refused\":{}", report.refused())?;
@@ -48,6 +53,9 @@ fn judged(out: &mut dyn Write, input: &Input, report: &Report, all: bool) -> io:
         Some(rest) => remainder(out, input, rest)?,
         None => write!(out, ",\"remainder\":null")?,
     }
+    let opaque = cesr::opaque(input.form, &input.bytes, report).groups;
+    let zeros = input.is_all_zeros();
+    write!(out, ",\"opaque\":{opaque},\"zeros\":{zeros}")?;
     if all {
         listed(out, "rows", report.items(), |out, item| {
             row(out, input, &item)
@@ -114,14 +122,20 @@ fn why(number: Number) -> String {
     format!("\"number\":{number},\"meaning\":{}", quoted(number.words()))
 }
 
-/// A string of JSON, with nothing in it that a terminal would act on.
+/// A string of JSON, with nothing in it that a terminal would act on, and no
+/// blanks that would wrap what it shows.
 fn quoted(text: &str) -> String {
     let mut quoted = String::from('"');
     for c in text.chars() {
         match c {
             '"' | '\\' => quoted.extend(['\\', c]),
-            c if is_unseen(c) => quoted.push_str(&format!("\\u{:04x}", u32::from(c))),
-            c => quoted.push(c),
+            ' ' if !quoted.ends_with(' ') => quoted.push(c),
+            c if is_seen(c) => quoted.push(c),
+            c => {
+                for half in c.encode_utf16(&mut [0; 2]) {
+                    quoted.push_str(&format!("\\u{half:04x}"));
+                }
+            }
         }
     }
     quoted.push('"');

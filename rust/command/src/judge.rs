@@ -2,12 +2,13 @@
 
 use crate::arguments::{Judge, Style};
 use crate::complain;
+use crate::expected::{self, Expected};
 use crate::json;
-use crate::outcome::{Found, Outcome};
+use crate::outcome::{self, Found, Outcome};
 use crate::readable;
 use crate::standing::Standing;
 use crate::terminal::{Paint, Progress};
-use crate::words::{counted, on_one_line};
+use crate::words::counted;
 use std::io::{self, IsTerminal, Write};
 
 /// The worst standing of all streams.
@@ -16,52 +17,79 @@ pub fn run(task: &Judge, out: &mut dyn Write) -> io::Result<Standing> {
         complain("a report is bytes: send it to a file or a pipe");
         return Ok(Standing::Error);
     }
-    let many = task.sources.len() > 1 && matches!(task.style, Style::Plain | Style::All);
+    let Expected { cases, listed } = expected::of(task);
+    let (count, lines) = (cases.len(), task.style.is_for_people());
+    let alone = count == 1 && listed.is_none();
     // A stream's line and the complaint would stand there one below the other.
-    let one_terminal = io::stdout().is_terminal() && io::stderr().is_terminal();
+    let seen_twice = lines && io::stdout().is_terminal() && io::stderr().is_terminal();
     let (paint, mut progress) = (Paint::told(), Progress::told());
-    let mut total = Total::default();
-    for (index, source) in task.sources.iter().enumerate() {
-        progress.at(index.saturating_add(1), task.sources.len());
+    let mut total = Total::over(listed);
+    for (index, case) in cases.into_iter().enumerate() {
+        progress.at(index.saturating_add(1), count);
         progress.tick(|| "judging".to_string());
-        let outcome = Outcome::of(source, task.form, &mut progress);
-        one(task, out, &outcome, paint)?;
+        let outcome = Outcome::of(case, task.form, &mut progress);
+        let outcome = one(task.style, alone, out, outcome, paint)?;
         // A stream's line leaves whole, also where many write to one file.
         out.flush()?;
-        if let Some(why) = outcome.complaint().filter(|_| !(many && one_terminal)) {
-            complain(&format!("{}: {why}", on_one_line(&outcome.name)));
+        if let Some(why) = outcome.complaint().filter(|_| !seen_twice) {
+            complain(&format!("{}: {why}", outcome.name));
         }
         total.add(&outcome);
     }
-    if many {
+    if lines && !alone {
         writeln!(out, "{}", total.in_words())?;
     }
     Ok(total.worst())
 }
 
-fn one(task: &Judge, out: &mut dyn Write, outcome: &Outcome, paint: Paint) -> io::Result<()> {
-    let alone = task.sources.len() == 1;
-    match task.style {
-        Style::Json { all } => json::line(out, outcome, all),
-        Style::Report => match &outcome.found {
-            Found::Judged(_, report) => out.write_all(report.as_bytes()),
-            _ => Ok(()),
-        },
-        // Standard error has it already.
-        _ if alone && outcome.complaint().is_some() => Ok(()),
-        Style::All if alone => readable::block(out, outcome, true, paint),
-        Style::All => {
-            readable::block(out, outcome, true, paint)?;
-            writeln!(out)
+/// Writes what came of a stream, and gives it back: an error where there was
+/// no memory for its line.
+fn one(
+    style: Style,
+    alone: bool,
+    out: &mut dyn Write,
+    outcome: Outcome,
+    paint: Paint,
+) -> io::Result<Outcome> {
+    match style {
+        Style::Json { all } => return object(out, outcome, all),
+        Style::Report => {
+            if let Found::Judged(_, report) = &outcome.found {
+                out.write_all(report.as_bytes())?;
+            }
         }
-        Style::Plain if alone => readable::block(out, outcome, false, paint),
-        Style::Plain => readable::line(out, outcome, paint),
+        Style::Plain if !alone => readable::line(out, &outcome, paint)?,
+        Style::Plain => readable::block(out, &outcome, false, paint)?,
+        Style::All => {
+            readable::block(out, &outcome, true, paint)?;
+            if !alone {
+                writeln!(out)?;
+            }
+        }
     }
+    Ok(outcome)
+}
+
+fn object(out: &mut dyn Write, outcome: Outcome, all: bool) -> io::Result<Outcome> {
+    let (line, outcome) = match json::line(&outcome, all) {
+        Ok(line) => (line, outcome),
+        Err(error) => {
+            // What it held is given back first.
+            let name = outcome.name.clone();
+            drop(outcome);
+            let found = outcome::unread(&error);
+            let outcome = Outcome { name, found };
+            (json::line(&outcome, all)?, outcome)
+        }
+    };
+    out.write_all(&line)?;
+    Ok(outcome)
 }
 
 /// Sums over all streams.
 #[derive(Default)]
 struct Total {
+    listed: Option<usize>,
     standings: Vec<Standing>,
     accepted: usize,
     refused: usize,
@@ -69,6 +97,13 @@ struct Total {
 }
 
 impl Total {
+    fn over(listed: Option<usize>) -> Total {
+        Total {
+            listed,
+            ..Total::default()
+        }
+    }
+
     fn add(&mut self, outcome: &Outcome) {
         self.standings.push(outcome.standing());
         if let Found::Judged(_, report) = &outcome.found {
@@ -79,23 +114,33 @@ impl Total {
         }
     }
 
-    /// No stream at all is no pass.
+    /// No stream at all is no pass, nor is a pass of other streams than the
+    /// manifest has lines.
     fn worst(&self) -> Standing {
-        let worst = self.standings.iter().max();
-        worst.copied().unwrap_or(Standing::Error)
+        let worst = self.standings.iter().max().copied();
+        let listed = self.listed.unwrap_or(self.standings.len());
+        match worst {
+            Some(worst) if listed == self.standings.len() => worst,
+            _ => Standing::Error,
+        }
+    }
+
+    fn count(&self, standing: Standing) -> usize {
+        let alike = self.standings.iter().filter(|one| **one == standing);
+        alike.count()
     }
 
     fn in_words(&self) -> String {
-        let count = |standing| {
-            self.standings
-                .iter()
-                .filter(|one| **one == standing)
-                .count()
-        };
-        let (passed, failed) = (count(Standing::Passed), count(Standing::Failed));
-        let not_judged = count(Standing::Empty).saturating_add(count(Standing::Error));
+        let (passed, failed) = (self.count(Standing::Passed), self.count(Standing::Failed));
+        let not_judged = self
+            .standings
+            .len()
+            .saturating_sub(passed.saturating_add(failed));
         let items = counted(self.accepted.saturating_add(self.refused), "item");
-        let streams = counted(self.standings.len(), "stream");
+        let mut streams = counted(self.standings.len(), "stream");
+        if let Some(listed) = self.listed {
+            streams.push_str(&format!(", {listed} expected"));
+        }
         let rest = counted(self.remainders, "remainder");
         format!(
             "{streams}: {passed} passed, {failed} failed, {not_judged} not judged; \

@@ -13,33 +13,41 @@
     clippy::print_stdout,
     clippy::unwrap_used
 )]
+#![cfg_attr(test, allow(clippy::expect_used, clippy::indexing_slicing))]
 
 mod arguments;
 mod closed;
 mod convert;
 mod excerpt;
+mod expected;
 mod help;
 mod input;
 mod json;
 mod judge;
+mod listing;
+mod manifest;
+mod memory;
+mod name;
 mod outcome;
 mod readable;
+mod replace;
+mod sha256;
 mod show;
 mod standing;
 mod terminal;
+mod watch;
 mod words;
 
 use arguments::Task;
 use standing::Standing;
 use std::io::{self, Write};
 use std::process::ExitCode;
-use words::on_one_line;
 
 fn main() -> ExitCode {
     let standing = match arguments::parse(std::env::args_os().skip(1)) {
         Ok(task) => done(task),
         Err(usage) => {
-            complain(&format!("{}\nTry 'cesr --help'.", on_one_line(&usage)));
+            complain(&format!("{usage}\nTry 'cesr --help'."));
             Standing::Error
         }
     };
@@ -57,6 +65,7 @@ fn done(task: Task) -> Standing {
         Task::Judge(task) => judge::run(&task, &mut out),
         Task::Convert(task) => convert::run(&task, &mut out),
         Task::Show(task) => show::run(&task, &mut out),
+        Task::Manifest(task) => listing::run(&task, &mut out),
         Task::Say(text, standing) => out.write_all(text.as_bytes()).map(|()| standing),
     };
     let written = standing.and_then(|standing| out.flush().map(|()| standing));
@@ -71,8 +80,13 @@ fn done(task: Task) -> Standing {
     }
 }
 
-/// Says what went wrong on standard error, in one piece, so that what somebody
-/// types does not come between; if even that fails, the exit status still tells.
+/// Says what went wrong on standard error.
 fn complain(message: &str) {
-    let _ = io::stderr().write_all(format!("cesr: {message}\n").as_bytes());
+    say(&format!("cesr: {message}\n"));
+}
+
+/// Standard error in one write, so that neither calls side by side nor what
+/// somebody types come between; if it fails, the exit status still tells.
+fn say(text: &str) {
+    let _ = io::stderr().write_all(text.as_bytes());
 }

@@ -1,14 +1,20 @@
 //! A stream judged: what came of it.
 
-use crate::input::{self, Input, Source};
+use crate::expected::Case;
+use crate::input::{self, Input};
+use crate::manifest::Entry;
+use crate::memory;
+use crate::name::Name;
 use crate::standing::Standing;
 use crate::terminal::Progress;
+use crate::words;
 use cesr::{Form, Head, Refusal, Report};
+use std::io;
 
-/// A source and what came of it.
+/// A stream's name and what came of it.
 #[derive(Debug)]
 pub struct Outcome {
-    pub name: String,
+    pub name: Name,
     pub found: Found,
 }
 
@@ -17,23 +23,29 @@ pub enum Found {
     Judged(Input, Report<'static>),
     /// The library refused the call.
     Refused(Input, Refusal),
-    /// In words, why nothing could be read.
+    /// In words, why nothing was judged.
     Unread(String),
 }
 
 impl Outcome {
-    pub fn of(source: &Source, form: Option<Form>, progress: &mut Progress) -> Outcome {
-        let found = match input::read(source, form, progress) {
-            Err(why) => Found::Unread(why),
-            Ok(input) => match cesr::judge(input.form, &input.bytes) {
-                Ok(report) => Found::Judged(input, report),
-                Err(refusal) => Found::Refused(input, refusal),
-            },
-        };
-        Outcome {
-            name: source.name(),
-            found,
+    pub fn of(case: Case, form: Option<Form>, progress: &mut Progress) -> Outcome {
+        match case {
+            Case::Trouble(name, why) => Outcome::trouble(name, why),
+            Case::Stream(source, listed) => {
+                let asked = form.or(listed.as_ref().map(|entry| entry.form));
+                let input = input::read(&source, asked, progress);
+                let found = input.and_then(|input| as_listed(input, listed.as_ref()));
+                Outcome {
+                    name: source.name(),
+                    found: found.map_or_else(Found::Unread, judged),
+                }
+            }
         }
+    }
+
+    pub fn trouble(name: Name, why: String) -> Outcome {
+        let found = Found::Unread(why);
+        Outcome { name, found }
     }
 
     /// Passed asks for a byte, and for every byte to lie in an accepted item.
@@ -59,6 +71,39 @@ impl Outcome {
             Found::Unread(why) => Some(why.clone()),
         }
     }
+}
+
+/// The stream, if it is the one that is listed. One past the limit was not
+/// read to its end: that is the library's to refuse.
+fn as_listed(input: Input, listed: Option<&Entry>) -> Result<Input, String> {
+    let Some(entry) = listed.filter(|_| input.bytes.len() <= input.form.limit()) else {
+        return Ok(input);
+    };
+    if entry.form != input.form {
+        let (asked, listed) = (input.form, entry.form);
+        return Err(format!(
+            "other than listed: {asked} is asked for, {listed} is listed"
+        ));
+    }
+    match entry.differs(&input.bytes) {
+        Some(why) => Err(why),
+        None => Ok(input),
+    }
+}
+
+fn judged(input: Input) -> Found {
+    let room = match memory::zeros(Report::room(input.form, input.bytes.len())) {
+        Ok(room) => room,
+        Err(error) => return unread(&error),
+    };
+    match cesr::judge_with(input.form, &input.bytes, room) {
+        Ok(report) => Found::Judged(input, report),
+        Err(refusal) => Found::Refused(input, refusal),
+    }
+}
+
+pub fn unread(error: &io::Error) -> Found {
+    Found::Unread(format!("{}: nothing was judged", words::of_error(error)))
 }
 
 /// The characters and the name of the code at the head of a framed item.

@@ -5,23 +5,28 @@ use crate::input::Input;
 use crate::outcome::{code_and_name, Found, Outcome};
 use crate::standing::Standing;
 use crate::terminal::Paint;
-use crate::words::{counted, measured, on_one_line};
-use cesr::{Form, Item, Number, Refusal, RefusalRow, Remainder, Report, Verdict};
+use crate::words::{counted, measured};
+use cesr::{Form, Item, Number, Opaque, Refusal, RefusalRow, Remainder, Report, Verdict};
 use std::io::{self, Write};
 use std::ops::Range;
 
+/// Refused items that are shown where not all are asked for.
+const SCREENFUL: usize = 8;
+
 /// The line of a stream among many; the first fault stands in it.
 pub fn line(out: &mut dyn Write, outcome: &Outcome, paint: Paint) -> io::Result<()> {
-    let name = on_one_line(&outcome.name);
     let text = match (&outcome.found, outcome.complaint()) {
         (Found::Judged(input, report), None) => {
-            let told = if input.told { " (told)" } else { "" };
-            let first = first_fault(report);
-            format!("{}{told}, {}{first}", input.form, sums(report))
+            let detected = if input.detected { " (detected)" } else { "" };
+            let mut parts = vec![format!("{}{detected}, {}", input.form, sums(report))];
+            parts.extend(first_fault(report));
+            parts.extend(unseen(input, report));
+            parts.join("; ")
         }
         (_, complaint) => complaint.unwrap_or_default(),
     };
-    writeln!(out, "{}{name}: {text}", word(outcome.standing(), paint))
+    let word = word(outcome.standing(), paint);
+    writeln!(out, "{word}{}: {text}", outcome.name)
 }
 
 /// The word that opens a line, with colour, in a column of its own.
@@ -44,32 +49,53 @@ fn sums(report: &Report) -> String {
     format!("{items}, {accepted} accepted, {refused} refused, {rest}")
 }
 
-fn first_fault(report: &Report) -> String {
-    match report.refusals().next() {
-        Some(row) => format!(
-            "; first refused {} at {}",
-            row.refusal.number, row.refusal.place
-        ),
-        None => String::new(),
-    }
+fn first_fault(report: &Report) -> Option<String> {
+    let Refusal { number, place } = report.refusals().next()?.refusal;
+    Some(format!("first refused {number} at {place}"))
 }
 
-/// One stream in full: sums, with `all` every item, then each refused item and
-/// the remainder with the bytes there.
+/// What may be accepted and was not looked into.
+fn unseen(input: &Input, report: &Report) -> Vec<String> {
+    let mut unseen = Vec::new();
+    if input.is_all_zeros() {
+        unseen.push("every byte is 0".to_string());
+    }
+    unseen.extend(opaque(input.form, &input.bytes, report));
+    unseen
+}
+
+/// The groups in accepted items whose contents nobody looked at.
+pub fn opaque(form: Form, stream: &[u8], report: &Report) -> Option<String> {
+    let Opaque { groups, size } = cesr::opaque(form, stream, report);
+    let (said, size) = (counted(groups, "opaque group"), measured(form, size));
+    (groups > 0).then(|| format!("{said} with {size} not looked into"))
+}
+
+/// One stream in full: sums, with `all` every item, then refused items and the
+/// remainder with the bytes there. Without `all` no more of them than a screen
+/// has room for, and the number of the others.
 pub fn block(out: &mut dyn Write, outcome: &Outcome, all: bool, paint: Paint) -> io::Result<()> {
     let (Found::Judged(input, report), None) = (&outcome.found, outcome.complaint()) else {
         return line(out, outcome, paint);
     };
-    let name = on_one_line(&outcome.name);
     let word = word(outcome.standing(), paint);
     let length = measured(input.form, input.bytes.len());
-    writeln!(out, "{word}{name}: {}", sums(report))?;
+    writeln!(out, "{word}{}: {}", outcome.name, sums(report))?;
     writeln!(out, "        {}, {length}", input.form_in_words())?;
+    for part in unseen(input, report) {
+        writeln!(out, "        {part}")?;
+    }
     if all {
         table(out, input, report, paint)?;
     }
-    for row in report.refusals() {
+    let most = if all { usize::MAX } else { SCREENFUL };
+    for row in report.refusals().take(most) {
         refused(out, input, report, &row, paint)?;
+    }
+    match report.refusals().len().saturating_sub(most) {
+        0 => {}
+        1 => writeln!(out, "\n1 more item is refused: --all lists it")?,
+        more => writeln!(out, "\n{more} more items are refused: --all lists them")?,
     }
     match report.remainder() {
         Some(rest) => remainder(out, input, rest, paint),

@@ -4,16 +4,16 @@ use crate::arguments::Show;
 use crate::input::{self, Input};
 use crate::standing::Standing;
 use crate::terminal::{Paint, Progress};
-use crate::words::{measured, on_one_line};
+use crate::words::measured;
 use crate::{complain, readable};
-use cesr::{item_at, judge, read, Code, Head, Number, Primitive, Refusal, Step, Walk};
+use cesr::{item_at, judge, read, Code, Head, Number, Primitive, Refusal, Report, Step, Walk};
 use std::io::{self, Write};
 
 /// Bytes of a raw value on a line.
 const RAW: usize = 32;
 
 pub fn run(task: &Show, out: &mut dyn Write) -> io::Result<Standing> {
-    let name = on_one_line(&task.source.name());
+    let name = task.source.name();
     let input = match input::read(&task.source, task.form, &mut Progress::told()) {
         Ok(input) if input.bytes.is_empty() => {
             complain(&format!("{name}: the stream is empty: nothing to show"));
@@ -115,12 +115,19 @@ fn inside(out: &mut dyn Write, input: &Input, step: &Step) -> io::Result<Result<
             inner.head
         )?;
     }
-    Ok(by_itself(input, item, step.offset))
+    let report = match judge(input.form, item) {
+        Ok(report) => report,
+        Err(refusal) => return Ok(Err(refusal)),
+    };
+    if let Some(said) = readable::opaque(input.form, item, &report) {
+        writeln!(out, "inside   {said}")?;
+    }
+    Ok(by_itself(input, item, &report, step.offset))
 }
 
-/// The report of the item's own bytes; places counted on from its offset.
-fn by_itself(input: &Input, item: &[u8], offset: usize) -> Result<(), Refusal> {
-    let report = judge(input.form, item)?;
+/// What the report of the item's own bytes says; places counted on from its
+/// offset.
+fn by_itself(input: &Input, item: &[u8], report: &Report, offset: usize) -> Result<(), Refusal> {
     let first = report.refusals().next().map(|row| row.refusal);
     let rest = || report.remainder();
     match first.or_else(|| rest().map(|rest| rest.refusal(input.form, item))) {

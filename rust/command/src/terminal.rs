@@ -1,8 +1,8 @@
 //! What only a terminal gets: colours, and the progress of long work.
 
-use crate::complain;
+use crate::{complain, say};
 use std::env;
-use std::io::{self, IsTerminal, Write};
+use std::io::{self, IsTerminal};
 use std::time::{Duration, Instant};
 
 /// Work this long is shown.
@@ -54,19 +54,28 @@ impl Paint {
 #[derive(Debug)]
 pub struct Progress {
     on: bool,
-    last: Instant,
+    /// When the next line may come.
+    next: Option<Instant>,
     shown: bool,
     prefix: String,
 }
 
 impl Progress {
+    /// Shown at a terminal that takes escape sequences.
     pub fn told() -> Progress {
+        Progress::begun(Instant::now(), io::stderr().is_terminal() && !is_dumb())
+    }
+
+    /// Never shown.
+    pub fn none() -> Progress {
+        Progress::begun(Instant::now(), false)
+    }
+
+    /// The first line comes after `LONG`, the others after `PAUSE`.
+    fn begun(now: Instant, on: bool) -> Progress {
         Progress {
-            on: io::stderr().is_terminal() && !is_dumb(),
-            // The first line comes after `LONG`, the others after `PAUSE`.
-            last: Instant::now()
-                .checked_add(LONG.saturating_sub(PAUSE))
-                .unwrap_or_else(Instant::now),
+            on,
+            next: now.checked_add(LONG),
             shown: false,
             prefix: String::new(),
         }
@@ -84,26 +93,80 @@ impl Progress {
     pub fn waits(&mut self) -> bool {
         let typed = io::stdin().is_terminal();
         if typed {
-            self.on = false;
+            self.hush();
             complain("reading standard input to its end");
         }
         typed
     }
 
+    fn hush(&mut self) {
+        self.on = false;
+    }
+
     pub fn tick(&mut self, text: impl FnOnce() -> String) {
-        if !self.on || self.last.elapsed() < PAUSE {
-            return;
+        if let Some(line) = self.line(Instant::now(), text) {
+            say(&line);
         }
-        let _ = write!(io::stderr(), "\r\u{1b}[K{}{}", self.prefix, text());
-        self.last = Instant::now();
+    }
+
+    /// The line to write, if it is time for one.
+    fn line(&mut self, now: Instant, text: impl FnOnce() -> String) -> Option<String> {
+        if !self.on || self.next.is_none_or(|next| now < next) {
+            return None;
+        }
+        self.next = now.checked_add(PAUSE);
         self.shown = true;
+        Some(format!("\r\u{1b}[K{}{}", self.prefix, text()))
     }
 
     /// Clears the line, before anything else is written.
     pub fn clear(&mut self) {
         if self.shown {
-            let _ = write!(io::stderr(), "\r\u{1b}[K");
+            say("\r\u{1b}[K");
             self.shown = false;
         }
+    }
+}
+
+#[cfg(test)]
+mod tests {
+    use super::*;
+
+    fn line(progress: &mut Progress, start: Instant, after: u64) -> Option<String> {
+        let now = start.checked_add(Duration::from_millis(after));
+        progress.line(now.expect("a time"), || format!("{after} ms"))
+    }
+
+    /// Short work shows nothing, long work a line after half a second and then
+    /// ten a second.
+    #[test]
+    fn progress_by_the_clock() {
+        let start = Instant::now();
+        let mut progress = Progress::begun(start, true);
+        progress.at(2, 3);
+        for (after, shown) in [
+            (0, false),
+            (499, false),
+            (500, true),
+            (599, false),
+            (600, true),
+            (5_000, true),
+            (5_001, false),
+        ] {
+            let told = line(&mut progress, start, after);
+            let said = format!("\r\u{1b}[Kstream 2 of 3, {after} ms");
+            assert_eq!(told, shown.then_some(said), "after {after}");
+        }
+    }
+
+    /// Elsewhere than at a terminal, and where somebody types, never.
+    #[test]
+    fn no_progress() {
+        let start = Instant::now();
+        let mut progress = Progress::begun(start, false);
+        assert_eq!(line(&mut progress, start, 9_000), None);
+        let mut progress = Progress::begun(start, true);
+        progress.hush();
+        assert_eq!(line(&mut progress, start, 9_000), None);
     }
 }

@@ -24,22 +24,3 @@ pub fn of_error(error: &io::Error) -> String {
         None => words,
     }
 }
-
-/// What others named, on one line: nothing in it moves, colours or turns what
-/// the terminal shows.
-pub fn on_one_line(name: &str) -> String {
-    let shown = |c: char| if is_unseen(c) { '?' } else { c };
-    name.chars().map(shown).collect()
-}
-
-/// A character that is not seen and may change how others are: a control
-/// character, a line separator, a mark of no width or of direction.
-pub fn is_unseen(c: char) -> bool {
-    let marks = ['\u{61C}', '\u{FEFF}'];
-    let ranges = [
-        '\u{200B}'..='\u{200F}',
-        '\u{2028}'..='\u{202E}',
-        '\u{2060}'..='\u{206F}',
-    ];
-    c.is_control() || marks.contains(&c) || ranges.iter().any(|range| range.contains(&c))
-}

@@ -134,7 +134,7 @@ fn a_byte_order_mark() {
     let ran = fed(&["judge"], &stream);
     assert!(ran
         .text()
-        .contains("remainder 6 from 0\n        binary (told"));
+        .contains("remainder 6 from 0\n        binary (detected"));
     assert!(ran.text().ends_with(note));
     assert!(fed(&["convert", "--to", "binary"], &stream)
         .err

@@ -4,10 +4,9 @@
 
 mod common;
 
-use common::{fed, finished, path_with_program, program, top, Folder, Ran};
-use std::fs::{self, Permissions};
+use common::{fed, finished, path_with_program, program, top, Folder};
+use std::fs;
 use std::os::unix::fs::symlink;
-use std::os::unix::fs::PermissionsExt;
 use std::path::Path;
 use std::process::Command;
 
@@ -142,63 +141,4 @@ fn the_first_command_prints_what_the_readme_shows() {
     // The script builds the command that is tested here, if it is not there.
     assert_eq!(ran(&block, &top()), block);
     assert!(Path::new(program()).exists());
-}
-
-/// The script in a folder of its own, where it finds these programs alone
-/// beside the system's.
-fn first_use(programs: &[(&str, &str)]) -> Ran {
-    let folder = Folder::new();
-    let script = fs::read(top().join("cesr")).expect("the script");
-    let script = folder.file("cesr", &script);
-    let bin = folder.path().join("bin");
-    for made in [&bin, &folder.path().join("crates")] {
-        fs::create_dir(made).expect("a folder");
-    }
-    folder.file("crates.txt", b"");
-    for (name, body) in programs {
-        let path = folder.file(&format!("bin/{name}"), body.as_bytes());
-        fs::set_permissions(path, Permissions::from_mode(0o755)).expect("a program");
-    }
-    let mut command = Command::new("bash");
-    command.args([&script, "judge"]);
-    command.env("PATH", format!("{}:/usr/bin:/bin", bin.display()));
-    finished(command, b"MAAB")
-}
-
-const PROVER: &str = "#!/bin/sh
-cat > /dev/null
-mkdir -p target/staticlib && touch target/staticlib/libexports.a && echo rt: proved
-";
-const BUILDER: &str = "#!/bin/sh
-cat > /dev/null
-mkdir -p \"$CARGO_TARGET_DIR/release\" && cd \"$CARGO_TARGET_DIR/release\"
-printf '#!/bin/sh\\ncat\\n' > cesr && chmod +x cesr
-";
-
-/// A build that fails is no pass, and says what is missing.
-#[test]
-fn the_first_command_fails_where_nothing_can_be_built() {
-    let fails = "#!/bin/sh\nexit 1\n";
-    for (programs, said) in [
-        (&[][..], "cesr: rt is not installed: the library could not"),
-        (&[("rt", fails)], "the library could not be built; run rt"),
-        (&[("rt", "#!/bin/sh\necho rt: done\n")], "is missing"),
-        (
-            &[("rt", PROVER), ("cargo", fails)],
-            "the command could not be built",
-        ),
-    ] {
-        let ran = first_use(programs);
-        assert_eq!((ran.status, ran.text()), (2, String::new()));
-        assert!(ran.err.contains(said), "{}", ran.err);
-    }
-}
-
-/// Prover and builder would read all of standard input here; the stream still
-/// reaches the command.
-#[test]
-fn a_stream_reaches_the_command_on_first_use() {
-    let ran = first_use(&[("rt", PROVER), ("cargo", BUILDER)]);
-    assert_eq!((ran.status, ran.text().as_str()), (0, "MAAB"));
-    assert!(ran.err.ends_with("\nrt: proved\n"), "{}", ran.err);
 }

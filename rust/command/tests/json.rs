@@ -73,7 +73,7 @@ def look(at):
 for line in sys.stdin:
     look(json.loads(line))
 table = open('docs/GUIDE.md').read().split('| Key | Stands where | Holds |')[1].split('\\n\\n')[0]
-said = set(re.findall('`([a-z]+)`', table))
+said = set(re.findall('`([a-z0-9]+)`', table))
 words = {'passed', 'failed', 'empty', 'text', 'binary'}
 print(sorted(used - said), sorted(said - used - words))
 ";
@@ -91,14 +91,58 @@ fn names_come_back_whole() {
         "\u{e9}\u{1f600}\u{85}",
         "\u{7f}",
         "a\u{202e}b\u{2028}c",
+        "\u{61c}\u{feff}\u{e0041}",
     ] {
         let path = folder.file(name, b"MAAB");
         let ran = run(&["judge", "--json", &path]);
         let script = "import json, sys; sys.stdout.buffer.write(json.loads(sys.stdin.buffer.read())['stream'].encode())";
         assert_eq!(python(script, &ran.out), path);
         assert_eq!(ran.out.iter().filter(|byte| **byte == b'\n').count(), 1);
-        assert!(!ran.text().contains(['\u{1b}', '\u{85}', '\u{202e}']));
+        let odd = [
+            '\u{1b}',
+            '\u{85}',
+            '\u{202e}',
+            '\u{61c}',
+            '\u{feff}',
+            '\u{e0041}',
+        ];
+        assert!(!ran.text().contains(odd));
     }
+}
+
+/// 01: for 5 the place is the character. It is character 6 here, in an item
+/// that starts at 4 and can't be framed.
+#[test]
+fn a_remainder_tells_the_characters_place() {
+    let ran = fed(&["judge", "--json"], b"MAABMA!!");
+    let script = "
+import json, sys
+rest = json.load(sys.stdin)['remainder']
+print(rest['offset'], rest['length'], rest['number'], rest['place'])
+";
+    assert_eq!(python(script, &ran.out), "4 4 5 6\n");
+}
+
+/// What was judged is known by its digest: the bytes of a file and the same
+/// bytes from a pipe, and none where nothing was judged.
+#[test]
+fn the_digest_is_of_what_was_judged() {
+    for name in ["first.cesr", "clean-binary.cesr"] {
+        let path = format!("samples/{name}");
+        let script = "
+import hashlib, json, sys
+bytes, told = open(sys.argv[1], 'rb').read(), json.load(sys.stdin)
+print(told['sha256'] == hashlib.sha256(bytes).hexdigest(), told['length'] == len(bytes))
+";
+        let script = script.replace("sys.argv[1]", &format!("{path:?}"));
+        let file = run(&["judge", "--json", &path]);
+        let piped = fed(&["judge", "--json"], &common::sample(name));
+        for ran in [file, piped] {
+            assert_eq!(python(&script, &ran.out), "True True\n");
+        }
+    }
+    let ran = run(&["judge", "--json", "gone.cesr"]);
+    assert!(!ran.text().contains("sha256"));
 }
 
 /// The sums of a long stream agree with its rows.

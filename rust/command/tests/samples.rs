@@ -81,7 +81,7 @@ fn standard_input_is_judged_as_a_file_is() {
         let ran = fed(arguments, &sample("first.cesr"));
         let mut told = file.text().replace("samples/first.cesr", "standard input");
         if arguments.len() > 2 {
-            told = told.replace(" (told from the first bytes)", "");
+            told = told.replace(" (detected from the first bytes)", "");
         }
         assert_eq!((ran.text(), ran.status), (told, 1));
     }
@@ -143,7 +143,7 @@ fn streams_are_converted_both_ways() {
         assert_eq!((ran.out, ran.status), (sample(text), 0));
         assert_eq!(
             ran.err,
-            "cesr: standard input: binary (told from the first bytes)\n"
+            "cesr: standard input: binary (detected from the first bytes)\n"
         );
     }
     // 01: `1AAM` in B is D4 00 0C.

@@ -1,24 +1,30 @@
 //! The two programs beside the oracle, at lengths around 8,192: the report on
-//! standard output, or the single byte 01 for a longer stream.
+//! standard output, or the single byte 01 for a longer stream; and on standard
+//! error what they could not do.
 //!
 //! They are built by `rt check program_text program_binary`; then:
 //! `cargo test --release --test programs -- --ignored`
 
 use oracle::report::write_report;
+use std::fs::File;
 use std::io::Write;
 use std::path::Path;
-use std::process::{Command, Stdio};
+use std::process::{Command, Output, Stdio};
 use streams::form::FORMS;
 use streams::{decks, Form, Random};
 
-/// What the program writes for a stream.
-fn judged(form: Form, stream: &[u8]) -> Vec<u8> {
+fn program(form: Form) -> Command {
     let name = match form {
         Form::Text => "program_text",
         Form::Binary => "program_binary",
     };
     let folder = Path::new(env!("CARGO_MANIFEST_DIR")).join("../../target/bin");
-    let mut child = Command::new(folder.join(name))
+    Command::new(folder.join(name))
+}
+
+/// What the program writes for a stream.
+fn judged(form: Form, stream: &[u8]) -> Vec<u8> {
+    let mut child = program(form)
         .stdin(Stdio::piped())
         .stdout(Stdio::piped())
         .spawn()
@@ -61,6 +67,35 @@ fn lengths_around_8192() {
                 );
             }
         }
+    }
+}
+
+fn ended(mut program: Command) -> Output {
+    let program = program.stderr(Stdio::piped());
+    let child = program.spawn().expect("the program, built by rt check");
+    child.wait_with_output().expect("an end")
+}
+
+/// A folder can't be read, a full device takes nothing. The exit status is 0
+/// all the same: the language has no other.
+#[test]
+#[ignore = "needs the programs in target/bin"]
+fn what_could_not_be_done_is_said() {
+    for form in FORMS {
+        let mut unread = program(form);
+        unread
+            .stdout(Stdio::piped())
+            .stdin(File::open("/").expect("a folder"));
+        let Output { stdout, stderr, .. } = ended(unread);
+        let said = "cesr: standard input could not be read: nothing was judged\n";
+        assert_eq!((stdout, stderr), (vec![], said.as_bytes().to_vec()));
+        let mut unwritten = program(form);
+        let full = File::options().write(true).open("/dev/full");
+        unwritten
+            .stdin(Stdio::null())
+            .stdout(full.expect("a device"));
+        let said = "cesr: standard output could not be written: the report is not whole\n";
+        assert_eq!(ended(unwritten).stderr, said.as_bytes());
     }
 }
 

@@ -10,49 +10,49 @@ use Rattle.program.proofs.answer_binary.Reads as reads
 use Rattle.program.proofs.answer_binary.Lts as lts
 use Rattle.report.proofs.report_binary.Reads as report-binary-reads
 
--- src/lib.rt:77:9
+-- src/lib.rt:78:9
 returns : tie.Need-returns
 returns c = prints-none binary (c .before .before .before .args .s .now) (c .before .before .before .args .out .now) (search needs)
 
--- src/lib.rt:80:9
+-- src/lib.rt:81:9
 slice-write-out : tie.Need-slice-write-out
 slice-write-out c = search needs
 
--- src/lib.rt:81:9
+-- src/lib.rt:82:9
 same-length : tie.Need-same-length
 same-length c = search needs
 
--- src/lib.rt:81:9
+-- src/lib.rt:82:9
 returns-2 : tie.Need-returns-2
 returns-2 c = prints-one binary binary-reader (c .before .before .before .before .args .s .now) (c .before .before .before .before .args .out .now) (search needs) (search needs)
 
--- src/lib.rt:83:11
+-- src/lib.rt:84:11
 report-binary-requires : tie.Need-report-binary-requires
 report-binary-requires c κs = search needs
 
--- src/lib.rt:84:27
+-- src/lib.rt:85:27
 enum-known-n : tie.Need-enum-known-n
 enum-known-n c = search needs
 
--- src/lib.rt:85:36
+-- src/lib.rt:86:36
 enum-told : tie.Need-enum-told
 enum-told c = search needs
 
--- src/lib.rt:71:1
+-- src/lib.rt:72:1
 same-length-2 : tie.Need-same-length-2
 same-length-2 c = search needs
 
--- src/lib.rt:71:1
+-- src/lib.rt:72:1
 returns-3 : tie.Need-returns-3
 returns-3 c =
     prints binary binary-reader binary-demand3 (omega arith) (omega arith) (c .before .before .before .before .before .before .before .before .before .before .before .args .s .now) (c .before .before .before .before .before .before .before .before .before .before .before .args .out .now) (search needs) (search needs) _ (c .before .before .before .before .before .report-binary .ensures .0) _ (c .before .before .before .before .before .report-binary .ensures .1) _
     (c .before .n .given .1)
 
--- src/lib.rt:71:1
+-- src/lib.rt:72:1
 same-length-3 : tie.Need-same-length-3
 same-length-3 c = search needs
 
--- src/lib.rt:71:1
+-- src/lib.rt:72:1
 returns-4 : tie.Need-returns-4
 returns-4 c =
     let z = never binary binary-reader binary-demand3 (omega arith) (omega arith) (c .before .before .before .before .before .before .before .before .before .before .args .s .now) (c .before .before .before .before .before .before .before .before .before .before .args .out .now) (search needs) (search needs) _ (c .before .before .before .before .report-binary .ensures .0) _ _ (c .enum-told .given .1) in

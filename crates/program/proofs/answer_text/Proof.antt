@@ -10,49 +10,49 @@ use Rattle.program.proofs.answer_text.Reads as reads
 use Rattle.program.proofs.answer_text.Lts as lts
 use Rattle.report.proofs.report_text.Reads as report-text-reads
 
--- src/lib.rt:58:9
+-- src/lib.rt:59:9
 returns : tie.Need-returns
 returns c = prints-none text (c .before .before .before .args .s .now) (c .before .before .before .args .out .now) (search needs)
 
--- src/lib.rt:61:9
+-- src/lib.rt:62:9
 slice-write-out : tie.Need-slice-write-out
 slice-write-out c = search needs
 
--- src/lib.rt:62:9
+-- src/lib.rt:63:9
 same-length : tie.Need-same-length
 same-length c = search needs
 
--- src/lib.rt:62:9
+-- src/lib.rt:63:9
 returns-2 : tie.Need-returns-2
 returns-2 c = prints-one text text-reader (c .before .before .before .before .args .s .now) (c .before .before .before .before .args .out .now) (search needs) (search needs)
 
--- src/lib.rt:64:11
+-- src/lib.rt:65:11
 report-text-requires : tie.Need-report-text-requires
 report-text-requires c κs = search needs
 
--- src/lib.rt:65:27
+-- src/lib.rt:66:27
 enum-known-n : tie.Need-enum-known-n
 enum-known-n c = search needs
 
--- src/lib.rt:66:36
+-- src/lib.rt:67:36
 enum-told : tie.Need-enum-told
 enum-told c = search needs
 
--- src/lib.rt:52:1
+-- src/lib.rt:53:1
 same-length-2 : tie.Need-same-length-2
 same-length-2 c = search needs
 
--- src/lib.rt:52:1
+-- src/lib.rt:53:1
 returns-3 : tie.Need-returns-3
 returns-3 c =
     prints text text-reader text-demand3 (omega arith) (omega arith) (c .before .before .before .before .before .before .before .before .before .before .before .args .s .now) (c .before .before .before .before .before .before .before .before .before .before .before .args .out .now) (search needs) (search needs) _ (c .before .before .before .before .before .report-text .ensures .0) _ (c .before .before .before .before .before .report-text .ensures .1) _
     (c .before .n .given .1)
 
--- src/lib.rt:52:1
+-- src/lib.rt:53:1
 same-length-3 : tie.Need-same-length-3
 same-length-3 c = search needs
 
--- src/lib.rt:52:1
+-- src/lib.rt:53:1
 returns-4 : tie.Need-returns-4
 returns-4 c =
     let z = never text text-reader text-demand3 (omega arith) (omega arith) (c .before .before .before .before .before .before .before .before .before .before .args .s .now) (c .before .before .before .before .before .before .before .before .before .before .args .out .now) (search needs) (search needs) _ (c .before .before .before .before .report-text .ensures .0) _ _ (c .enum-told .given .1) in

@@ -56,6 +56,11 @@ pub fn shell(line: &str) -> Ran {
     finished(command, b"")
 }
 
+/// The same in a folder of the test's own.
+pub fn within(folder: &Folder, line: &str) -> Ran {
+    shell(&format!("cd {} && {line}", folder.path().display()))
+}
+
 /// The search path with the command in front.
 pub fn path_with_program() -> String {
     let folder = Path::new(program()).parent().expect("a folder");
