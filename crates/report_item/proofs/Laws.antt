@@ -183,6 +183,15 @@ module _ (f : Form) (s : List ℕ) (l : ℕ) (first : Bool) (at stop : ℕ) (I :
       let z = found-sizes (domain f .sextets s) l first at stop wide lt r F k a n e in
       (z .0, z .1, z .2, found-levels (domain f .sextets s) l first at stop wide lt r F k a n e)
 
+-- ---- a group's contents
+
+module _ {d : Domain} {s : List ℕ} {l at stop : ℕ} (I : Inside d s at stop) (g : Framed) (F : Fits l at stop g) (k : Kind) (h n : ℕ) (e : g ≡ Item k h n) where
+  pub inner-inside : (0 < h) × (h ≤ n) × (at + n ≤ stop) × Inside d s (at + h) (at + n)
+  inner-inside = let w = F k h n e in (w .0, w .1, w .2, inside-part d s at stop (at + h) (at + n) I (omega (arith, w .1)) (w .2))
+
+  pub inner-levels : (b : Bool) → b ≡ isEntered k → b ≡ true → 0 < l
+  inner-levels b is t = F k h n e .3 (sym is ∙ t)
+
 pub none-fits : (l at stop m p : ℕ) → Fits l at stop (Unframed m p)
 none-fits l at stop m p k h n e = absurd (other-variant e)
   where

@@ -140,19 +140,19 @@ fn whole(form: Form, s: &[u8], levels: usize, first: bool, at: usize, stop: usiz
     requires { ⌜ Inside (domain form) (now s) at stop × (at < stop) ⌝ }
     ensures { λ r. ⌜ Whole (domain form .sextets (now (s .entry))) levels first at stop r ⌝ }
 {
-    let found = next(form, s, levels, first, at, stop);
-    match found {
+    let item = found(form, s, levels, first, at, stop);
+    match item {
         Framed::Unframed {
             number: _,
             place: _,
-        } => found,
+        } => item,
         Framed::Item { kind, head, size } => {
             if report_next::is_entered(kind) {
                 let marks = report_next::is_ruled(kind);
                 let v = level(form, s, levels - 1, marks, at + head, at + size);
-                judging::told(found, v)
+                judging::told(item, v)
             } else {
-                found
+                item
             }
         }
     }

@@ -9,7 +9,7 @@ use borrow.Fn.PlainCycle.{Measures, is, falls, and}
 use Rattle.format.specs.Units.{domain}
 use Rattle.laws.specs.Domains.{reader}
 use Rattle.report_item.specs.Items.{Whole}
-use Rattle.report_item.proofs.Laws.{long, wide, found-fits, taken-fits, inside-on, inside-part, whole-refused, whole-passed, whole-told, Left, left-start, left-more, left-refused, left-end}
+use Rattle.report_item.proofs.Laws.{long, wide, inner-inside, inner-levels, taken-fits, inside-on, whole-refused, whole-passed, whole-told, Left, left-start, left-more, left-refused, left-end}
 use Rattle.report_item.proofs.level.Reads as level
 use Rattle.report_item.proofs.level.Kinds as level-kinds
 use Rattle.report_item.proofs.+level+whole.Lts-level as level-lts
@@ -19,7 +19,7 @@ use Rattle.report_item.proofs.+level+whole.Lts-whole as whole-lts
 use Rattle.report_next.proofs.is_entered.Reads as is-entered-reads
 use Rattle.report_next.proofs.is_ruled.Reads as is-ruled-reads
 use Rattle.judging.proofs.told.Reads as told-reads
-use Rattle.report_item.proofs.next.Reads as next-reads
+use Rattle.report_item.proofs.found.Reads as found-reads
 use Rattle.report_item.proofs.+level+whole.{statement}
 use Rattle.report_item.proofs.+level+whole.Tie.{close}
 
@@ -69,8 +69,8 @@ pub +level+whole-spec : {M : Type 1} → statement M
     (λ c. left-more _ _ _ _ _ _ _ (c .before .before .before .before .before .loop .inv) _ (long (domain (c .before .before .before .before .before .before .before .args .form)) (reader (c .before .before .before .before .before .before .before .args .form)) (c .before .before .before .before .before .before .before .args .s .now) _ _ (c .before .before .before .before .before .before .before .pre .1)) (subst (Whole _ _ _ _ _) (c .before .size .given .1) (c .before .before .before .whole .ensures)))
     (λ c. left-end _ _ _ _ _ _ _ (c .before .loop .inv) (c .loop-test .left)))
     λ t. whole-lts.spec (
-      next-reads.Asked,
-      next-reads.Learnt,
+      found-reads.Asked,
+      found-reads.Learnt,
       is-entered-reads.Asked,
       is-entered-reads.Learnt,
       is-ruled-reads.Asked,
@@ -82,20 +82,17 @@ pub +level+whole-spec : {M : Type 1} → statement M
     )
     (whole-at t)
     whole.Post
-    (λ c κs. c .before .pre .1)
+    (λ c κs. search needs)
     (λ c. search needs)
     (λ c. search needs)
     (λ c κs. search needs)
     (λ c κs. search needs)
-    (λ c. let h = found-fits (c .before .before .before .before .before .before .before .before .args .form) (c .before .before .before .before .before .before .before .before .args .s .now) _ _ _ _ (c .before .before .before .before .before .before .before .before .pre .1 .0) (c .before .before .before .before .before .before .before .before .pre .1 .1) _ (c .before .before .before .before .before .before .next .ensures) _ _ _ (c .before .before .before .before .found .given .1) in omega (arith, h .3 (sym (c .before .before .is-entered .ensures) ∙ c .before .if1 .taken)))
-    (λ c. let h = found-fits (c .before .before .before .before .before .before .before .before .args .form) (c .before .before .before .before .before .before .before .before .args .s .now) _ _ _ _ (c .before .before .before .before .before .before .before .before .pre .1 .0) (c .before .before .before .before .before .before .before .before .pre .1 .1) _ (c .before .before .before .before .before .before .next .ensures) _ _ _ (c .before .before .before .before .found .given .1) in search needs)
-    (λ c. let h = found-fits (c .before .before .before .before .before .before .before .before .args .form) (c .before .before .before .before .before .before .before .before .args .s .now) _ _ _ _ (c .before .before .before .before .before .before .before .before .pre .1 .0) (c .before .before .before .before .before .before .before .before .pre .1 .1) _ (c .before .before .before .before .before .before .next .ensures) _ _ _ (c .before .before .before .before .found .given .1) in search needs)
-    (λ c κs.
-    let h = found-fits (c .before .before .before .before .before .before .before .before .args .form) (c .before .before .before .before .before .before .before .before .args .s .now) _ _ _ _ (c .before .before .before .before .before .before .before .before .pre .1 .0) (c .before .before .before .before .before .before .before .before .pre .1 .1) _ (c .before .before .before .before .before .before .next .ensures) _ _ _ (c .before .before .before .before .found .given .1) in
-    let w = h .3 (sym (c .before .before .is-entered .ensures) ∙ c .before .if1 .taken) in
-    (omega (arith, c .before .before .before .before .before .before .before .before .pre .0), inside-part _ _ _ _ _ _ (c .before .before .before .before .before .before .before .before .pre .1 .0) (omega arith) (h .2)))
+    (λ c. inner-levels (c .before .before .before .before .before .before .before .before .pre .1 .0) (c .before .before .before .before .before .before .found .result) (c .before .before .before .before .before .before .found .ensures .0) _ _ _ (c .before .before .before .before .item .given .1) (c .before .before .is-entered .result) (c .before .before .is-entered .ensures) (c .before .if1 .taken))
+    (λ c. let h = inner-inside (c .before .before .before .before .before .before .before .before .pre .1 .0) (c .before .before .before .before .before .before .found .result) (c .before .before .before .before .before .before .found .ensures .0) _ _ _ (c .before .before .before .before .item .given .1) in search needs)
+    (λ c. let h = inner-inside (c .before .before .before .before .before .before .before .before .pre .1 .0) (c .before .before .before .before .before .before .found .result) (c .before .before .before .before .before .before .found .ensures .0) _ _ _ (c .before .before .before .before .item .given .1) in search needs)
+    (λ c κs. (omega (arith, c .before .before .before .before .before .before .before .before .pre .0, inner-levels (c .before .before .before .before .before .before .before .before .pre .1 .0) (c .before .before .before .before .before .before .found .result) (c .before .before .before .before .before .before .found .ensures .0) _ _ _ (c .before .before .before .before .item .given .1) (c .before .before .is-entered .result) (c .before .before .is-entered .ensures) (c .before .if1 .taken)), inner-inside (c .before .before .before .before .before .before .before .before .pre .1 .0) (c .before .before .before .before .before .before .found .result) (c .before .before .before .before .before .before .found .ensures .0) _ _ _ (c .before .before .before .before .item .given .1) .3))
     (λ c κs. search needs)
-    (λ c. whole-refused _ _ _ _ _ (wide (c .before .before .before .before .args .form) (c .before .before .before .before .args .s .now) (c .before .before .before .before .args .levels) (c .before .before .before .before .args .first) _ _ (c .before .before .before .before .pre .1 .0)) (c .before .before .before .before .pre .1 .1) _ (c .before .before .next .ensures) _ _ (c .enum-told .given .1))
-    (λ c. whole-told _ _ _ _ _ (wide (c .before .before .before .before .before .before .before .before .before .before .args .form) (c .before .before .before .before .before .before .before .before .before .before .args .s .now) (c .before .before .before .before .before .before .before .before .before .before .args .levels) (c .before .before .before .before .before .before .before .before .before .before .args .first) _ _ (c .before .before .before .before .before .before .before .before .before .before .pre .1 .0)) (c .before .before .before .before .before .before .before .before .before .before .pre .1 .1) _ (c .before .before .before .before .before .before .before .before .next .ensures) _ _ _ (c .before .before .before .before .before .before .found .given .1)
+    (λ c. whole-refused _ _ _ _ _ (wide (c .before .before .before .before .args .form) (c .before .before .before .before .args .s .now) (c .before .before .before .before .args .levels) (c .before .before .before .before .args .first) _ _ (c .before .before .before .before .pre .1 .0)) (c .before .before .before .before .pre .1 .1) _ (c .before .before .found .ensures .1 (c .before .before .before .before .pre .1 .0) (c .before .before .before .before .pre .1 .1)) _ _ (c .enum-told .given .1))
+    (λ c. whole-told _ _ _ _ _ (wide (c .before .before .before .before .before .before .before .before .before .before .args .form) (c .before .before .before .before .before .before .before .before .before .before .args .s .now) (c .before .before .before .before .before .before .before .before .before .before .args .levels) (c .before .before .before .before .before .before .before .before .before .before .args .first) _ _ (c .before .before .before .before .before .before .before .before .before .before .pre .1 .0)) (c .before .before .before .before .before .before .before .before .before .before .pre .1 .1) _ (c .before .before .before .before .before .before .before .before .found .ensures .1 (c .before .before .before .before .before .before .before .before .before .before .pre .1 .0) (c .before .before .before .before .before .before .before .before .before .before .pre .1 .1)) _ _ _ (c .before .before .before .before .before .before .item .given .1)
     (sym (c .before .before .before .before .is-entered .ensures) ∙ c .before .before .before .if1 .taken) _ (c .before .before .is-ruled .ensures) _ (c .before .level .ensures) _ (c .told .ensures))
-    (λ c. whole-passed _ _ _ _ _ (wide (c .before .before .before .before .before .before .before .args .form) (c .before .before .before .before .before .before .before .args .s .now) (c .before .before .before .before .before .before .before .args .levels) (c .before .before .before .before .before .before .before .args .first) _ _ (c .before .before .before .before .before .before .before .pre .1 .0)) (c .before .before .before .before .before .before .before .pre .1 .1) _ (c .before .before .before .before .before .next .ensures) _ _ _ (c .before .before .before .found .given .1) (sym (c .before .is-entered .ensures) ∙ c .if1 .left))
+    (λ c. whole-passed _ _ _ _ _ (wide (c .before .before .before .before .before .before .before .args .form) (c .before .before .before .before .before .before .before .args .s .now) (c .before .before .before .before .before .before .before .args .levels) (c .before .before .before .before .before .before .before .args .first) _ _ (c .before .before .before .before .before .before .before .pre .1 .0)) (c .before .before .before .before .before .before .before .pre .1 .1) _ (c .before .before .before .before .before .found .ensures .1 (c .before .before .before .before .before .before .before .pre .1 .0) (c .before .before .before .before .before .before .before .pre .1 .1)) _ _ _ (c .before .before .before .item .given .1) (sym (c .before .is-entered .ensures) ∙ c .if1 .left))
