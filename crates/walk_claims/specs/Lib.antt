@@ -12,4 +12,5 @@ pub mod Outer
 pub mod Reported
 pub mod Forms
 pub mod Numbers
+pub mod Orders
 pub mod Proved

@@ -1,0 +1,4 @@
+pub mod Words
+pub mod Claims
+pub mod Numbers
+pub mod Proved

@@ -1,0 +1,6 @@
+-- The claims on what C sees hold. Assumes nothing.
+use Rattle.exports_claims.specs.Claims.{ExportsClaims}
+use Rattle.exports_claims.specs.Numbers.{zero-claims, keep-claims}
+
+pub proved : ExportsClaims
+proved = record { zero-accepted = zero-claims; refused-kept = keep-claims }
