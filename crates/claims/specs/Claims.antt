@@ -4,7 +4,6 @@
 use Prim.Native.Nat.{ℕ, _+_, _*_, _/_, _≤_, _<_}
 use mathlib.Core.Path.{_≡_}
 use mathlib.Core.List.{List, [], _∷_, _++_}
-use mathlib.Core.Logic.{_⊎_}
 use lib.ListN.{length, drop}
 use Rattle.format.specs.declared.Kind.{Kind}
 use Rattle.format.specs.declared.TextOffset.{TextOffset}
@@ -25,11 +24,16 @@ use Rattle.format.specs.Report.{rowsIn, refusalsIn, remainderIn, refusal, frame
 use Rattle.format.specs.Report.{rowBytes, refusalBytes, remainderBytes, concat, section, report, reportAnswer, reportLeft}
 use Rattle.format.specs.Reading.{readText, rawLeft, readBinary, partAt}
 use Rattle.format.specs.Writing.{writeText, textItemLeft, writeBinary, binaryItemLeft}
+use Rattle.format.specs.declared.Opening.the-variants.{Unknown}
+use Rattle.format.specs.declared.Framed.the-variants.{Item, Unframed}
+use Rattle.format.specs.Registry.{opening, headerUnits, extent}
+use Rattle.format.specs.Framing.{digits4, sextet, frame}
 use Rattle.format.specs.Values.{rawStart, rawOf}
 use Rattle.damage.specs.Words.{row, itemAt, headOf, Alike, accepted, withIndex, Damaged, ByItself, Partition}
 use Rattle.claims.specs.Order.{None, Refusal}
 use Rattle.claims.specs.Conditions.{toBinaryRules, toTextRules, reportRules, readTextRules, readBinaryRules, writeRules}
-use Rattle.claims.specs.Words.{WholeText, WholeBinary, SameReport, remainderAt}
+use Rattle.claims.specs.Conditions.{framing, openingOf, itemKind}
+use Rattle.claims.specs.Words.{WholeText, WholeBinary, SameReport, headerOf, remainderAt}
 
 -- ---- demand 1: "Take any bytes of any length. Every public entry refuses bad input by number and asks nothing of its caller. Where a call
 -- itself is refused, every output buffer holds what it held before." The walk's step is in walk_claims' Claims, what C sees of the
@@ -117,9 +121,10 @@ pub record Demand3 (d : Domain) : Type 0 where
   -- "The report that demand 2 defines": 01's three sections, each after its count
   pub sections : (xs : List ℕ) → report d xs ≡ section rowBytes (rowsIn d xs)
       ++ (section refusalBytes (refusalsIn d xs) ++ section remainderBytes (remainderIn d xs))
-  -- 01: "A header is the first unit, or the first two"
+  -- 01: "A header is the first unit, or the first two for selectors `7` `8` `9` and codes `--` `-_`": of each item
   pub headers : (xs : List ℕ) (k : ℕ) → k < length (rowsIn d xs)
-      → let h = headOf (frameIn d (itemAt xs (row (rowsIn d xs) k))) in (h ≡ d .unit) ⊎ (h ≡ 2 * d .unit)
+      → let own : List ℕ = itemAt xs (row (rowsIn d xs) k) in
+      headOf (frameIn d own) ≡ headerOf (sextet (d .sextets own) 0) (sextet (d .sextets own) 1) * d .unit
   -- "then has the same items in the same order, at the same offsets and lengths,"
   pub same-items : (xs ys : List ℕ) → Changed d xs ys → Alike (rowsIn d xs) (rowsIn d ys)
   -- "and the same remainder."
@@ -143,10 +148,24 @@ pub record Demand3 (d : Domain) : Type 0 where
   -- "and no remainder is counted as either": it has a section of its own, with at most one row
   pub apart : (xs : List ℕ) → length (remainderIn d xs) ≤ 1
 
+-- ---- framing, which the report, the reader and the walk share
+
+pub record FramingClaims : Type 0 where
+  -- 01: "Framing an item: 4 (first unit), 5 (its first bad character), 6, 4 (second unit), 5, 4 (extent)."
+  pub refuses : (s : List ℕ) (m p : ℕ) → frame s ≡ Unframed m p → Refusal (4 ∷ 5 ∷ 6 ∷ []) (framing s) m
+  pub accepts : (s : List ℕ) (k : Kind) (h n : ℕ) → frame s ≡ Item k h n → None (framing s)
+  -- an item's header and full size are the registry's rules of what its first unit opens, and of the second unit's digits
+  pub header : (s : List ℕ) (k : Kind) (h n : ℕ) → frame s ≡ Item k h n → h ≡ headerUnits (openingOf s)
+  pub extent-by : (s : List ℕ) (k : Kind) (h n : ℕ) → frame s ≡ Item k h n → n ≡ extent (openingOf s) (digits4 (sextet s))
+  pub kind-by : (s : List ℕ) (k : Kind) (h n : ℕ) → frame s ≡ Item k h n → k ≡ itemKind s
+  -- which header has one unit and which two
+  pub one-or-two : (a b c d : ℕ) → (opening a b c d ≡ Unknown → ⊥) → headerUnits (opening a b c d) ≡ headerOf a b
+
 -- ---- all of it
 
 pub record Claims : Type 0 where
   pub demand1 : Demand1
   pub demand2 : Demand2
+  pub framing : FramingClaims
   pub demand3-text : Demand3 text
   pub demand3-binary : Demand3 binary

@@ -5,6 +5,7 @@ pub mod Conditions
 pub mod Framed
 pub mod Judged
 pub mod Claims
+pub mod Header
 pub mod Demand1
 pub mod Numbers
 pub mod Demand3

@@ -5,9 +5,10 @@ use Prim.Native.Nat.{ℕ}
 use mathlib.Core.Path.{_≡_}
 use mathlib.Core.List.{List}
 use mathlib.Core.Logic.{_↔_}
-use lib.ListN.{length}
+use lib.ListN.{length, replicate}
 use Rattle.format.specs.declared.Code.{Code}
-use Rattle.format.specs.Units.{Domain}
+use Rattle.format.specs.Units.{Domain, text, binary}
+use Rattle.format.specs.Judging.{maxDepth}
 use Rattle.format.specs.Conversion.{textToBinary, toBinaryNumber, binaryLeft, binaryToText, toTextNumber, textLeft}
 use Rattle.format.specs.Report.{reportAnswer, reportNumber, reportLeft}
 use Rattle.format.specs.Reading.{readText, rawLeft, readBinary}
@@ -15,11 +16,14 @@ use Rattle.format.specs.Writing.{writeText, textItemLeft, writeBinary, binaryIt
 use Rattle.walk.specs.declared.Walk.{Walk}
 use Rattle.walk.specs.declared.TextItem.the-variants as TI
 use Rattle.walk.specs.declared.BinaryItem.the-variants as BI
-use Rattle.walk.specs.Walking.{textStep, binaryStep}
+use Rattle.walk.specs.Walking.{start, textStep, binaryStep}
+use Rattle.walk_claims.specs.Words.{after}
 use Rattle.exports_values.specs.Answers.{textFoundNumber, textTagLeft, textInfoLeft, binaryFoundNumber, binaryTagLeft, binaryInfoLeft}
 use Rattle.exports_values.specs.Answers.{textWrittenNumber, binaryWrittenNumber}
+use Rattle.exports_values.specs.Lent.{stateSize, walkOf, stateOf}
 use Rattle.exports_values.specs.Lent.{textStepNumber, textYieldLeft, textStateLeft, binaryStepNumber, binaryYieldLeft, binaryStateLeft}
 use Rattle.exports_claims.specs.Words.{InBinary, InText, Report, ReadText, ReadBinary, WroteText, WroteBinary, YieldsText, YieldsBinary}
+use Rattle.exports_claims.specs.Words.{textLent, binaryLent}
 
 -- ---- the numbers: 0 is answered exactly where the call is accepted, so that no refusal can be taken for a pass; 255 exactly at the end of
 -- a walk
@@ -61,8 +65,20 @@ pub record KeepClaims : Type 0 where
   pub walk-binary : (s : List ℕ) (w : Walk) (state item : List ℕ) → let a = binaryStep s w in (binaryStepNumber (a .found) ≡ 0 → ⊥)
       → (binaryYieldLeft (a .found) item ≡ item) × (binaryStateLeft (a .found) (a .next) state ≡ state)
 
+-- ---- the walk over a state that C lends
+
+pub record LentClaims : Type 0 where
+  -- a C caller's start: nineteen zeros
+  pub zeros : walkOf (replicate stateSize 0) ≡ start
+  -- a state that a call wrote is read back as it was by the next
+  pub back : (w : Walk) → length (w .ends) ≡ maxDepth → walkOf (stateOf w) ≡ w
+  -- "Each step takes the state and gives the next one back": behind k calls the state lent is the walk's behind k steps
+  pub text-walk : (xs : List ℕ) (k : ℕ) → walkOf (textLent xs k) ≡ after text xs k
+  pub binary-walk : (xs : List ℕ) (k : ℕ) → walkOf (binaryLent xs k) ≡ after binary xs k
+
 -- ---- all of it
 
 pub record ExportsClaims : Type 0 where
   pub zero-accepted : ZeroClaims
   pub refused-kept : KeepClaims
+  pub lent : LentClaims

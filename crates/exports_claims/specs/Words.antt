@@ -1,4 +1,8 @@
--- What the claims on the calls for C speak of: which answers are accepted ones. No proofs. Assumes nothing.
+-- What the claims on the calls for C speak of: which answers are accepted ones, and the state that is lent call after call. No proofs.
+-- Assumes nothing.
+use Prim.Native.Nat.{ℕ, zero, suc}
+use mathlib.Core.List.{List}
+use lib.ListN.{replicate}
 use Rattle.format.specs.declared.ToBinary.{ToBinary}
 use Rattle.format.specs.declared.ToBinary.the-variants as B
 use Rattle.format.specs.declared.ToText.{ToText}
@@ -17,6 +21,10 @@ use Rattle.walk.specs.declared.TextItem.{TextItem}
 use Rattle.walk.specs.declared.TextItem.the-variants as TI
 use Rattle.walk.specs.declared.BinaryItem.{BinaryItem}
 use Rattle.walk.specs.declared.BinaryItem.the-variants as BI
+use Rattle.walk.specs.declared.TextStep.{TextStep}
+use Rattle.walk.specs.declared.BinaryStep.{BinaryStep}
+use Rattle.walk.specs.Walking.{textStep, binaryStep}
+use Rattle.exports_values.specs.Lent.{stateSize, walkOf, textStateLeft, binaryStateLeft}
 
 -- ---- accepted
 
@@ -59,3 +67,17 @@ abbrev pub YieldsBinary : BinaryItem → Type 0
 YieldsBinary (BI.Item o n d k h) = Unit {0}
 YieldsBinary (BI.Refused m p) = ⊥
 YieldsBinary BI.End = ⊥
+
+-- ---- the state lent, behind k calls of cesr_walk_text or cesr_walk_binary: zeros at first
+
+unfoldable pub textLent : List ℕ → ℕ → List ℕ
+textLent xs zero = replicate stateSize 0
+textLent xs (suc k) =
+    let a : TextStep = textStep xs (walkOf (textLent xs k)) in
+    textStateLeft (a .found) (a .next) (textLent xs k)
+
+unfoldable pub binaryLent : List ℕ → ℕ → List ℕ
+binaryLent xs zero = replicate stateSize 0
+binaryLent xs (suc k) =
+    let a : BinaryStep = binaryStep xs (walkOf (binaryLent xs k)) in
+    binaryStateLeft (a .found) (a .next) (binaryLent xs k)
