@@ -1,4 +1,5 @@
 pub mod Words
+pub mod Deck
 pub mod Claims
 pub mod Fitting
 pub mod Steps
