@@ -102,6 +102,17 @@ Stops (F.Item o n d k h) = ⊥
 Stops (F.Refused m p) = Unit {0}
 Stops F.End = Unit {0}
 
+-- its number and place as 01 and the calls for C have them: 0 for an item, 255 for the end, or the refusal's
+unfoldable pub foundNumber : Found → ℕ
+foundNumber (F.Item o n d k h) = 0
+foundNumber (F.Refused number place) = number
+foundNumber F.End = 255
+
+unfoldable pub foundPlace : Found → ℕ
+foundPlace (F.Item o n d k h) = o
+foundPlace (F.Refused number place) = place
+foundPlace F.End = 0
+
 -- ---- a step that yields
 
 -- "An opaque group is yielded and stepped over whole. Any other group is opened."
