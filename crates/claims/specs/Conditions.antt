@@ -1,5 +1,6 @@
--- What each number of a call is given for, in 01's words, a list for each call in 01's order. Nothing here cites the definitions of the
--- calls, of framing or of judging, whose order it is to be compared with. No proofs. Assumes nothing.
+-- What each number of a call is given for, in 01's words, a list for each call in 01's order. It cites the registry's rules, single tests
+-- and the number of a report's items, and none of the definitions whose order is compared with it: those of the calls, of framing and of
+-- judging. No proofs. Assumes nothing.
 use Prim.Native.Nat.{ℕ, _+_, _-_, _*_, _/_, _%_, _≤_, _<_}
 use mathlib.Core.Path.{_≡_}
 use mathlib.Core.List.{List, [], _∷_, _++_}
