@@ -3,20 +3,80 @@
 -- the deck, in format's Deck. Assumes nothing.
 use Prim.Native.Nat.{ℕ, _+_, _*_, _/_, _≤_, _<_}
 use mathlib.Core.Path.{_≡_}
-use mathlib.Core.List.{List, [], _++_}
-use mathlib.Core.Logic.{_⊎_}
+use mathlib.Core.List.{List, [], _∷_, _++_}
 use lib.ListN.{length, drop}
 use Rattle.format.specs.declared.Kind.{Kind}
+use Rattle.format.specs.declared.TextOffset.{TextOffset}
+use Rattle.format.specs.declared.BinaryOffset.{BinaryOffset}
 use Rattle.format.specs.declared.ToBinary.the-variants as B
 use Rattle.format.specs.declared.ToText.the-variants as T
+use Rattle.format.specs.declared.Reported.the-variants as R
+use Rattle.format.specs.declared.Code.{Code}
+use Rattle.format.specs.declared.Primitive.{Primitive}
+use Rattle.format.specs.declared.TextFound.the-variants as TF
+use Rattle.format.specs.declared.BinaryFound.the-variants as BF
+use Rattle.format.specs.declared.TextWritten.the-variants as TW
+use Rattle.format.specs.declared.BinaryWritten.the-variants as BW
 use Rattle.format.specs.Units.{Domain, text, binary, textSextets, binarySextets}
 use Rattle.format.specs.Offsets.{textOffset, binaryOffset}
-use Rattle.format.specs.Conversion.{toBinary, toText, textToBinary, binaryToText}
+use Rattle.format.specs.Conversion.{toBinary, toText, textToBinary, binaryLeft, binaryToText, textLeft}
 use Rattle.format.specs.Report.{rowsIn, refusalsIn, remainderIn, refusal, frameIn, judgeIn}
-use Rattle.format.specs.Report.{rowBytes, refusalBytes, remainderBytes, concat, section, report}
+use Rattle.format.specs.Report.{rowBytes, refusalBytes, remainderBytes, concat, section, report, reportAnswer, reportLeft}
+use Rattle.format.specs.Reading.{readText, rawLeft, readBinary, partAt}
+use Rattle.format.specs.Writing.{writeText, textItemLeft, writeBinary, binaryItemLeft}
+use Rattle.format.specs.declared.Opening.the-variants.{Unknown}
+use Rattle.format.specs.declared.Framed.the-variants.{Item, Unframed}
+use Rattle.format.specs.Registry.{opening, headerUnits, extent}
+use Rattle.format.specs.Framing.{digits4, sextet, frame}
 use Rattle.format.specs.Values.{rawStart, rawOf}
 use Rattle.damage.specs.Words.{row, itemAt, headOf, Alike, accepted, withIndex, Damaged, ByItself, Partition}
-use Rattle.claims.specs.Words.{WholeText, WholeBinary, SameReport, remainderAt}
+use Rattle.claims.specs.Order.{None, Refusal}
+use Rattle.claims.specs.Conditions.{toBinaryRules, toTextRules, reportRules, readTextRules, readBinaryRules, writeRules}
+use Rattle.claims.specs.Conditions.{framing, openingOf, itemKind}
+use Rattle.claims.specs.Words.{WholeText, WholeBinary, SameReport, headerOf, remainderAt}
+
+-- ---- demand 1: "Take any bytes of any length. Every public entry refuses bad input by number and asks nothing of its caller. Where a call
+-- itself is refused, every output buffer holds what it held before." The walk's step is in walk_claims' Claims, what C sees of the
+-- numbers in exports_claims' Claims. That nothing is asked is what the calls' contracts say: they have no premise.
+
+-- a refusal has a number that is not 0, among those that 01 lists for the call, and of its conditions, in 01's order, the first that holds;
+-- and an accepted call meets none of them. d: what the buffer lent held
+pub record Demand1 : Type 0 where
+  -- 01: "T to B gives 1, 2, 5, 3"
+  pub to-binary : (s d : List ℕ) (m : ℕ) (p : TextOffset) → textToBinary s (length d) ≡ B.Refused m p
+      → Refusal (1 ∷ 2 ∷ 5 ∷ 3 ∷ []) (toBinaryRules s (length d)) m × (binaryLeft (textToBinary s (length d)) s d ≡ d)
+  pub to-binary-accepts : (s d : List ℕ) (n : BinaryOffset) → textToBinary s (length d) ≡ B.Written n → None (toBinaryRules s (length d))
+  -- 01: "B to T 1, 2, 3"
+  pub to-text : (s d : List ℕ) (m : ℕ) (p : BinaryOffset) → binaryToText s (length d) ≡ T.Refused m p
+      → Refusal (1 ∷ 2 ∷ 3 ∷ []) (toTextRules s (length d)) m × (textLeft (binaryToText s (length d)) s d ≡ d)
+  pub to-text-accepts : (s d : List ℕ) (n : TextOffset) → binaryToText s (length d) ≡ T.Written n → None (toTextRules s (length d))
+  -- 01: "Refused whole: 1, then 3"
+  pub reports : (f : Domain) (s d : List ℕ) (m p : ℕ) → reportAnswer f s (length d) ≡ R.Refused m p
+      → Refusal (1 ∷ 3 ∷ []) (reportRules f s (length d)) m × (reportLeft (reportAnswer f s (length d)) f s d ≡ d)
+  pub reports-accepts : (f : Domain) (s d : List ℕ) (n : ℕ) → reportAnswer f s (length d) ≡ R.Written n → None (reportRules f s (length d))
+  -- 01: "Reading a primitive at an offset: 1, 4 at or past the end, framing (never 7), 14, judging, then 3 for T"; framing gives 4, 5 and
+  -- 6, judging 5, 9, 8 and 10. 5 is for "character outside the alphabet (in T ..)"
+  pub read-text : (s : List ℕ) (at : ℕ) (d : List ℕ) (m : ℕ) (p : TextOffset) → readText s at (length d) .found ≡ TF.Refused m p
+      → Refusal (1 ∷ 4 ∷ 5 ∷ 6 ∷ 14 ∷ 9 ∷ 8 ∷ 10 ∷ 3 ∷ []) (readTextRules s at (length d)) m
+      × (rawLeft (readText s at (length d) .found) s at d ≡ d)
+  pub read-text-accepts : (s : List ℕ) (at : ℕ) (d : List ℕ) (q : Primitive) → readText s at (length d) .found ≡ TF.Found q
+      → None (readTextRules s at (length d))
+  -- the same in B, where nothing is written: a refused read hands "an empty part" back
+  pub read-binary : (s : List ℕ) (at m : ℕ) (p : BinaryOffset) → readBinary s at .found ≡ BF.Refused m p
+      → Refusal (1 ∷ 4 ∷ 6 ∷ 14 ∷ 9 ∷ 8 ∷ 10 ∷ []) (readBinaryRules s at) m × (partAt s at (readBinary s at .found) ≡ [])
+  pub read-binary-accepts : (s : List ℕ) (at : ℕ) (q : Primitive) → readBinary s at .found ≡ BF.Found q → None (readBinaryRules s at)
+  -- 01: "Writing, to T or B: 6 (any code that isn't a primitive's), 12, 5 (tags), 3."
+  pub write-text : (code : Code) (tag : List ℕ) (tags : ℕ) (raw d : List ℕ) (m p : ℕ) → writeText code tag tags raw (length d) ≡ TW.Refused m p
+      → Refusal (6 ∷ 12 ∷ 5 ∷ 3 ∷ []) (writeRules 4 code tag tags (length raw) (length d)) m
+      × (textItemLeft (writeText code tag tags raw (length d)) code tag tags raw d ≡ d)
+  pub write-text-accepts : (code : Code) (tag : List ℕ) (tags : ℕ) (raw d : List ℕ) (n : TextOffset)
+      → writeText code tag tags raw (length d) ≡ TW.Written n → None (writeRules 4 code tag tags (length raw) (length d))
+  pub write-binary : (code : Code) (tag : List ℕ) (tags : ℕ) (raw d : List ℕ) (m p : ℕ)
+      → writeBinary code tag tags raw (length d) ≡ BW.Refused m p
+      → Refusal (6 ∷ 12 ∷ 5 ∷ 3 ∷ []) (writeRules 3 code tag tags (length raw) (length d)) m
+      × (binaryItemLeft (writeBinary code tag tags raw (length d)) code tag tags raw d ≡ d)
+  pub write-binary-accepts : (code : Code) (tag : List ℕ) (tags : ℕ) (raw d : List ℕ) (n : BinaryOffset)
+      → writeBinary code tag tags raw (length d) ≡ BW.Written n → None (writeRules 3 code tag tags (length raw) (length d))
 
 -- ---- demand 2: "A binary stream of whole triplets, or a text one of whole quadlets in the alphabet, either within the length
 -- limit, is the premise."
@@ -61,9 +121,10 @@ pub record Demand3 (d : Domain) : Type 0 where
   -- "The report that demand 2 defines": 01's three sections, each after its count
   pub sections : (xs : List ℕ) → report d xs ≡ section rowBytes (rowsIn d xs)
       ++ (section refusalBytes (refusalsIn d xs) ++ section remainderBytes (remainderIn d xs))
-  -- 01: "A header is the first unit, or the first two"
+  -- 01: "A header is the first unit, or the first two for selectors `7` `8` `9` and codes `--` `-_`": of each item
   pub headers : (xs : List ℕ) (k : ℕ) → k < length (rowsIn d xs)
-      → let h = headOf (frameIn d (itemAt xs (row (rowsIn d xs) k))) in (h ≡ d .unit) ⊎ (h ≡ 2 * d .unit)
+      → let own : List ℕ = itemAt xs (row (rowsIn d xs) k) in
+      headOf (frameIn d own) ≡ headerOf (sextet (d .sextets own) 0) (sextet (d .sextets own) 1) * d .unit
   -- "then has the same items in the same order, at the same offsets and lengths,"
   pub same-items : (xs ys : List ℕ) → Changed d xs ys → Alike (rowsIn d xs) (rowsIn d ys)
   -- "and the same remainder."
@@ -87,9 +148,24 @@ pub record Demand3 (d : Domain) : Type 0 where
   -- "and no remainder is counted as either": it has a section of its own, with at most one row
   pub apart : (xs : List ℕ) → length (remainderIn d xs) ≤ 1
 
+-- ---- framing, which the report, the reader and the walk share
+
+pub record FramingClaims : Type 0 where
+  -- 01: "Framing an item: 4 (first unit), 5 (its first bad character), 6, 4 (second unit), 5, 4 (extent)."
+  pub refuses : (s : List ℕ) (m p : ℕ) → frame s ≡ Unframed m p → Refusal (4 ∷ 5 ∷ 6 ∷ []) (framing s) m
+  pub accepts : (s : List ℕ) (k : Kind) (h n : ℕ) → frame s ≡ Item k h n → None (framing s)
+  -- an item's header and full size are the registry's rules of what its first unit opens, and of the second unit's digits
+  pub header : (s : List ℕ) (k : Kind) (h n : ℕ) → frame s ≡ Item k h n → h ≡ headerUnits (openingOf s)
+  pub extent-by : (s : List ℕ) (k : Kind) (h n : ℕ) → frame s ≡ Item k h n → n ≡ extent (openingOf s) (digits4 (sextet s))
+  pub kind-by : (s : List ℕ) (k : Kind) (h n : ℕ) → frame s ≡ Item k h n → k ≡ itemKind s
+  -- which header has one unit and which two
+  pub one-or-two : (a b c d : ℕ) → (opening a b c d ≡ Unknown → ⊥) → headerUnits (opening a b c d) ≡ headerOf a b
+
 -- ---- all of it
 
 pub record Claims : Type 0 where
+  pub demand1 : Demand1
   pub demand2 : Demand2
+  pub framing : FramingClaims
   pub demand3-text : Demand3 text
   pub demand3-binary : Demand3 binary

@@ -1,5 +1,12 @@
 pub mod Words
+pub mod Order
+pub mod Rules
+pub mod Conditions
+pub mod Framed
+pub mod Judged
 pub mod Claims
+pub mod Header
+pub mod Demand1
 pub mod Numbers
 pub mod Demand3
 pub mod Aligned

@@ -1,11 +1,14 @@
--- What demand 2 speaks of. No proofs. Assumes nothing.
+-- What demands 2 and 3 speak of. No proofs. Assumes nothing.
 use Prim.Native.Nat.{ℕ, _*_, _%_, _≤_}
 use mathlib.Core.Path.{_≡_}
 use mathlib.Core.List.{List, [], _∷_}
 use lib.ListN.{length, drop}
+use lib.Dec.{leb, eqb}
+use Rattle.base.specs.Pick.{pick}
 use Rattle.base.specs.Digits.{Below}
 use Rattle.format.specs.declared.Verdict.{Verdict}
 use Rattle.format.specs.declared.Verdict.the-variants.{Accepted, Refused}
+use Rattle.format.specs.Alphabet.{within}
 use Rattle.format.specs.Units.{text, binary, textSextets}
 use Rattle.format.specs.Report.{ItemRow, RefusalRow, RemainderRow, rowsIn, refusalsIn, remainderIn}
 
@@ -57,6 +60,13 @@ pub record SameReport (t b : List ℕ) : Type 0 where
   pub items : Pairwise ItemRatio (rowsIn text t) (rowsIn binary b)
   pub refused : Pairwise RefusalRatio (refusalsIn text t) (refusalsIn binary b)
   pub left : Pairwise RemainderRatio (remainderIn text t) (remainderIn binary b)
+
+-- ---- headers
+
+-- "A header is the first unit, or the first two for selectors `7` `8` `9` and codes `--` `-_`": its units by the first two sextets; 59 to
+-- 61 are `7` `8` `9`, 62 is `-`, 63 is `_`
+unfoldable pub headerOf : ℕ → ℕ → ℕ
+headerOf a b = pick (within 59 61 a) 2 (pick (eqb a 62) (pick (leb 62 b) 2 1) 1)
 
 -- ---- a stream's parts
 

@@ -40,9 +40,9 @@ pub extern "C" fn cesr_text_to_binary(src: &[u8], dst: &mut [u8], answer: &mut u
             *answer = n.0;
             0
         }
-        ToBinary::Refused(number, place) => {
+        ToBinary::Refused(refusal, place) => {
             *answer = place.0;
-            number
+            refusal
         }
     }
 }
@@ -59,8 +59,8 @@ pub extern "C" fn cesr_binary_to_text(src: &[u8], dst: &mut [u8], answer: &mut u
             *answer = n.0;
             0
         }
-        ToText::Refused(number, place) => {
-            *answer = place.0;
+        ToText::Refused(number, byte) => {
+            *answer = byte.0;
             number
         }
     }
@@ -74,8 +74,8 @@ pub extern "C" fn cesr_report_text(stream: &[u8], out: &mut [u8], answer: &mut u
     ensures { λ r. ⌜ now (out .exit) ≡ reportLeft (reportAnswer text (now (stream .entry)) (length (now (out .entry)))) text (now (stream .entry)) (now (out .entry)) ⌝ }
 {
     match report::report_text(stream, out) {
-        Reported::Written(n) => {
-            *answer = n;
+        Reported::Written(length) => {
+            *answer = length;
             0
         }
         Reported::Refused(number, place) => {

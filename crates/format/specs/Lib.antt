@@ -7,7 +7,11 @@ pub mod Framing
 pub mod Cutting
 pub mod Judging
 pub mod Report
+pub mod Numbers
 pub mod Values
 pub mod Reading
 pub mod Writing
 pub mod Deck
+pub mod RawSizes
+pub mod Readings
+pub mod Calls

@@ -28,7 +28,7 @@ abbrev pub Fits : Input → ℕ → ℕ → Type 0
 Fits Failed at n = 0 ≤ n
 Fits (Whole m) at n = at + m ≤ n
 
--- no read failed, and this many bytes came, which stand at the buffer's start
+-- a count that is answered is at most the buffer's length; which bytes came, no contract can say
 abbrev pub Came : Input → List ℕ → Type 0
 Came Failed xs = 0 ≤ length xs
 Came (Whole n) xs = Counts n xs

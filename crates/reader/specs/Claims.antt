@@ -3,14 +3,20 @@
 use Prim.Native.Nat.{ℕ, _<_, _≤_}
 use mathlib.Core.Path.{_≡_}
 use mathlib.Core.List.{List}
+use lib.ListN.{length}
 use denote.Ref.{now}
 use Rattle.format.specs.Units.{Domain, text, binary}
+use Rattle.format.specs.Judging.{maxDepth}
+use Rattle.walk.specs.declared.Walk.{Walk}
+use Rattle.walk.specs.declared.Found.the-variants as F
 use Rattle.walk.specs.Walking.{start, textStep, binaryStep}
 use Rattle.walk_claims.specs.Words.{unitsIn, foundAt, Yields, Stops}
 use Rattle.reader.specs.declared.Reader.{Reader}
 use Rattle.reader.specs.Reading.{textTaken, binaryTaken}
 use Rattle.reader.specs.Behind.{textAt, binaryAt}
-use Rattle.reader.specs.Counting.{restIn}
+use Rattle.reader.specs.declared.TextEnd.the-variants as T
+use Rattle.reader.specs.declared.BinaryEnd.the-variants as B
+use Rattle.reader.specs.Counting.{restIn, textTally, binaryTally}
 
 -- ---- of the walk of a stream, counted from the start
 
@@ -23,6 +29,12 @@ pub record CountClaims (d : Domain) (xs : List ℕ) : Type 0 where
   -- an item takes a unit at least
   pub bound : restIn d xs start .items ≤ unitsIn d xs
 
+-- ---- counted from any state of sixteen slots, whoever made it: the code's states have as many
+
+pub record RestClaims (d : Domain) (xs : List ℕ) : Type 0 where
+  -- no count stops at an item, so that what Counting's textEnd and binaryEnd have for one is never given
+  pub stops : (w : Walk) → length (w .ends) ≡ maxDepth → Stops (restIn d xs w .last)
+
 -- ---- all of it
 
 pub record ReaderClaims : Type 0 where
@@ -33,3 +45,10 @@ pub record ReaderClaims : Type 0 where
   -- "the number of items of a stream and how the walk ended"
   pub of-text : (xs : List ℕ) → CountClaims text xs
   pub of-binary : (xs : List ℕ) → CountClaims binary xs
+  pub text-rest : (xs : List ℕ) → RestClaims text xs
+  pub binary-rest : (xs : List ℕ) → RestClaims binary xs
+  -- "or the end": where the rest of a walk is told to have ended, it has
+  pub text-end : (xs : List ℕ) (w : Walk) → length (w .ends) ≡ maxDepth → textTally (restIn text xs w) .end ≡ T.End
+      → restIn text xs w .last ≡ F.End
+  pub binary-end : (xs : List ℕ) (w : Walk) → length (w .ends) ≡ maxDepth → binaryTally (restIn binary xs w) .end ≡ B.End
+      → restIn binary xs w .last ≡ F.End

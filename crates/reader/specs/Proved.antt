@@ -1,20 +1,25 @@
 -- The claims on the reader and on the counted walk hold. Assumes nothing.
 use Prim.Native.Nat.{ℕ, zero, suc, _+_, _<_, _≤_}
-use mathlib.Core.Path.{_≡_, sym, ap, _∙_, subst}
+use mathlib.Core.Path.{_≡_, refl, sym, ap, _∙_, subst}
 use mathlib.Core.List.{List}
 use mathlib.Core.Logic.{⊎-elim}
 use native.Mathlib.Omega.{arith}
 use lib.ListN.{length, length-replicate}
 use Rattle.format.specs.Units.{Domain, text, binary}
 use Rattle.format.specs.Judging.{maxDepth}
+use Rattle.walk.specs.declared.Walk.{Walk}
+use Rattle.walk.specs.declared.Found.{Found}
+use Rattle.walk.specs.declared.Found.the-variants as F
 use Rattle.walk.specs.Walking.{start}
 use Rattle.walk_claims.specs.Words.{unitsIn, after, foundAt, Yields, Stops}
 use Rattle.walk_claims.specs.Claims.{StreamClaims}
 use Rattle.walk_claims.specs.Proved as W
-use Rattle.reader.specs.Counting.{Tally, none, plus, runIn, restIn}
+use Rattle.reader.specs.declared.TextEnd.the-variants as T
+use Rattle.reader.specs.declared.BinaryEnd.the-variants as B
+use Rattle.reader.specs.Counting.{Tally, none, plus, runIn, restIn, textEnd, binaryEnd}
 use Rattle.reader.specs.Runs.{one-of, run-stopped, run-yields, run-stops}
 use Rattle.reader.specs.Behind.{text-taken, binary-taken}
-use Rattle.reader.specs.Claims.{CountClaims, ReaderClaims}
+use Rattle.reader.specs.Claims.{CountClaims, RestClaims, ReaderClaims}
 
 module _ (d : Domain) (xs : List ℕ) where
   -- k steps at most, from the state behind j
@@ -67,10 +72,30 @@ module _ (d : Domain) (xs : List ℕ) where
         bound = c .bound;
       }
 
+  rest-claims : StreamClaims d xs → RestClaims d xs
+  unfolding restIn
+  rest-claims C = record { stops = λ w full. run-stops d xs C (unitsIn d xs) w full (omega arith) }
+
+text-end : (f : Found) → Stops f → textEnd f ≡ T.End → f ≡ F.End
+unfolding textEnd
+text-end (F.Item o n d k h) s e = absurd s
+text-end (F.Refused m p) s e = let z : _≡_ {A = ℕ} 0 1 = cc in absurd (omega arith)
+text-end F.End s e = refl
+
+binary-end : (f : Found) → Stops f → binaryEnd f ≡ B.End → f ≡ F.End
+unfolding binaryEnd
+binary-end (F.Item o n d k h) s e = absurd s
+binary-end (F.Refused m p) s e = let z : _≡_ {A = ℕ} 0 1 = cc in absurd (omega arith)
+binary-end F.End s e = refl
+
 pub proved : ReaderClaims
 proved = record {
   text-next = text-taken;
   binary-next = binary-taken;
   of-text = λ xs. claims text xs (W.proved .of-text xs);
   of-binary = λ xs. claims binary xs (W.proved .of-binary xs);
+  text-rest = λ xs. rest-claims text xs (W.proved .of-text xs);
+  binary-rest = λ xs. rest-claims binary xs (W.proved .of-binary xs);
+  text-end = λ xs w full. text-end _ (rest-claims text xs (W.proved .of-text xs) .stops w full);
+  binary-end = λ xs w full. binary-end _ (rest-claims binary xs (W.proved .of-binary xs) .stops w full);
 }

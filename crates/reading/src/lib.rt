@@ -8,13 +8,13 @@ use format::TextFound;
 use format::TextOffset;
 use format::TextRead;
 ghost use mathlib.Core.Path.{_≡_};
-ghost use Prim.Native.Nat.{_≤_};
+ghost use Prim.Native.Nat.{_+_, _≤_};
 ghost use lib.ListN.{length};
 ghost use Rattle.format.specs.declared.Framed.the-variants.{Item};
 ghost use Rattle.format.specs.Units.{textSextets, binarySextets};
 ghost use Rattle.format.specs.Reading.{reading, textAnswer, readText, rawLeft, binaryAnswer, readBinary, partAt};
 ghost use Rattle.format.specs.Reading.Reading.{found};
-ghost use Rattle.reading.specs.Outcome.{outcome, noBinary, noText};
+ghost use Rattle.reading.specs.Outcome.{outcome, noBinary, noText, partStart};
 
 // ---- framing, 14, judging: one for each form, with the place in sextets
 
@@ -111,10 +111,11 @@ pub fn read_binary(s: &[u8], at: BinaryOffset) -> BinaryRead
     }
 }
 
-// The part of the binary where the raw value of the primitive at an offset lies: at the item's end. An empty part where reading
-// refuses.
+// The part of the binary where the raw value of the primitive at an offset lies: at the item's end. An empty part, at the stream's
+// start, where reading refuses.
 pub fn raw_binary(s: &[u8], at: BinaryOffset) -> &[u8]
     ensures { λ r. ⌜ now r ≡ partAt (now (s .entry)) (at .0) (readBinary (now (s .entry)) (at .0) .found) ⌝ }
+    ensures { λ r. ⌜ r .ptr ≡ (s .entry .ptr .0, partStart (at .0) (readBinary (now (s .entry)) (at .0) .found) + s .entry .ptr .1) ⌝ }
 {
     let from = at.0;
     let read = read_binary(s, at);

@@ -1,9 +1,9 @@
 -- What is claimed of the walk, over its definition in walk's Walking. Statements only, a field a sentence, each below 01's own
 -- words in quotes, or what is asked of the walk where they say so. What the words mean is in Words. Proved in Proved.
 -- Assumes nothing.
-use Prim.Native.Nat.{ℕ, _+_, _≤_, _<_}
+use Prim.Native.Nat.{ℕ, _+_, _*_, _≤_, _<_}
 use mathlib.Core.Path.{_≡_}
-use mathlib.Core.List.{List, [], map}
+use mathlib.Core.List.{List, [], _∷_, map}
 use mathlib.Core.Bool.{true, false}
 use lib.ListN.{length, take}
 use Rattle.format.specs.declared.Kind.{Kind}
@@ -13,10 +13,11 @@ use Rattle.format.specs.Conversion.{toBinary, toText}
 use Rattle.format.specs.Judging.{maxDepth}
 use Rattle.format.specs.Report.{rowsIn, refusalsIn, remainderIn, frameIn, judgeIn}
 use Rattle.claims.specs.Words.{WholeText, WholeBinary}
+use Rattle.claims.specs.Order.{None, Refusal}
 use Rattle.walk.specs.declared.Walk.{Walk}
 use Rattle.walk.specs.declared.Found.the-variants as F
 use Rattle.walk.specs.Walking.{isFit, stepIn}
-use Rattle.walk_claims.specs.Words.{Fit, unitsIn, after, foundAt, Yields, Stops, Behind, outerItems, spanOf, upToRefusal}
+use Rattle.walk_claims.specs.Words.{Fit, stepRules, unitsIn, after, foundAt, Yields, Stops, Behind, outerItems, spanOf, upToRefusal}
 use Rattle.walk_claims.specs.Words.{foundOf, firstRefusal, Last, SameStep}
 
 -- ---- of the test on a state
@@ -31,6 +32,15 @@ pub record ThirteenClaims : Type 0 where
 -- ---- of a stream, text or binary
 
 pub record StreamClaims (d : Domain) (xs : List ℕ) : Type 0 where
+  -- demand 1: "Every public entry refuses bad input by number": neither 0, which is how a call for C says accepted, nor 255, by which it
+  -- tells the end; 01's numbers for a step, in 01's order; and the state is left
+  pub refuses : (w : Walk) (m p : ℕ) → stepIn d xs w .found ≡ F.Refused m p
+      → Refusal (1 ∷ 13 ∷ 4 ∷ 5 ∷ 6 ∷ 7 ∷ 11 ∷ 9 ∷ 8 ∷ 10 ∷ []) (stepRules d xs w) m × (m < 255) × (stepIn d xs w .next ≡ w)
+  -- an item is yielded only where none of them is to be given
+  pub accepts : (w : Walk) (o n e h : ℕ) (k : Kind) → stepIn d xs w .found ≡ F.Item o n e k h → None (stepRules d xs w)
+  -- and the end is told only of a fit state behind the last byte of a stream within the limit
+  pub finishes : (w : Walk) → stepIn d xs w .found ≡ F.End
+      → (length xs ≤ d .limit) × Fit w (unitsIn d xs) × (w .depth ≡ 0) × (w .at * d .unit ≡ length xs)
   -- "stream longer than 4,194,304 characters or 3,145,728 bytes", "1 comes before 13"
   pub one : (w : Walk) → d .limit < length xs → stepIn d xs w ≡ record { next = w; found = F.Refused 1 0 }
   pub only-one : (w : Walk) (p : ℕ) → stepIn d xs w .found ≡ F.Refused 1 p → d .limit < length xs

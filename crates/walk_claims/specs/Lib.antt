@@ -1,4 +1,5 @@
 pub mod Words
+pub mod Deck
 pub mod Claims
 pub mod Fitting
 pub mod Steps
@@ -12,4 +13,5 @@ pub mod Outer
 pub mod Reported
 pub mod Forms
 pub mod Numbers
+pub mod Orders
 pub mod Proved

@@ -15,11 +15,15 @@ use Rattle.walk_claims.specs.Firsts.{stops-first, own-first}
 use Rattle.walk_claims.specs.Outer.{all-outer}
 use Rattle.walk_claims.specs.Reported.{last-answer, all-accepted, front}
 use Rattle.walk_claims.specs.Forms.{same-step, same-after}
+use Rattle.walk_claims.specs.Orders.{step-refuses, step-low, step-accepts, step-finishes}
 use Rattle.walk_claims.specs.Numbers.{long-one, unfit-thirteen, only-long, only-unfit}
 use Rattle.walk_claims.specs.Claims.{StreamClaims, FormClaims, WalkClaims}
 
 of-stream : (d : Domain) → Reader d → (xs : List ℕ) → StreamClaims d xs
 of-stream d R xs = record {
+  refuses = λ w m p e. (step-refuses d R xs w m p e, step-low d R xs w m p e, stays d xs w (rw e tt));
+  accepts = step-accepts d R xs;
+  finishes = step-finishes d R xs;
   one = long-one d xs;
   only-one = only-long d xs;
   thirteen = unfit-thirteen d xs;

@@ -2,8 +2,10 @@
 use Prim.Native.Nat.{ℕ, zero, suc, _+_, _-_, _*_, _/_, _%_, _≤_, _<_}
 use mathlib.Core.Path.{_≡_}
 use mathlib.Core.List.{List, [], _∷_, _++_}
-use mathlib.Core.Bool.{Bool, false, not}
+use mathlib.Core.Bool.{Bool, true, false, not}
+use mathlib.Core.Logic.{_⊎_}
 use lib.ListN.{length, getD}
+use lib.Seq.{slice}
 use lib.Dec.{ltb}
 use Rattle.base.specs.Pick.{pick}
 use Rattle.format.specs.declared.Kind.{Kind}
@@ -14,17 +16,20 @@ use Rattle.format.specs.declared.Verdict.{Verdict}
 use Rattle.format.specs.declared.Verdict.the-variants.{Accepted, Refused}
 use Rattle.format.specs.Units.{Domain}
 use Rattle.format.specs.Registry.{isOpaque, isOverrideable}
+use Rattle.format.specs.Framing.{isOurs, sextet}
 use Rattle.format.specs.Cutting.{Cut, cut}
 use Rattle.format.specs.Cutting.Cut.{done, stopped, item}
 use Rattle.format.specs.Judging.{shift, andThen, maxDepth}
 use Rattle.format.specs.Report.{ItemRow, RemainderRow, frameIn, judgeIn, placed}
 use Rattle.damage.specs.Words.{itemAt}
 use Rattle.claims.specs.Words.{Ratio}
+use Rattle.claims.specs.Order.{Rule, _when_}
+use Rattle.claims.specs.Conditions.{framing, itemKind, itemHead, itemSize, ownRules}
 use Rattle.walk.specs.declared.Walk.{Walk}
 use Rattle.walk.specs.declared.Found.{Found}
 use Rattle.walk.specs.declared.Found.the-variants as F
 use Rattle.walk.specs.declared.Stepped.{Stepped}
-use Rattle.walk.specs.Walking.{start, stepIn}
+use Rattle.walk.specs.Walking.{start, stopOf, stepIn}
 
 -- ---- 13
 
@@ -44,6 +49,28 @@ pub record Fit (w : Walk) (n : ℕ) : Type 0 where
   pub outermost : 0 < w .depth → getD (w .ends) 0 0 ≤ n
   -- "or the first-item mark set with none open"
   pub unmarked : w .depth ≡ 0 → w .first ≡ false
+
+-- ---- a step's numbers, in order: 1, 13, framing, 7 where it is asked, judging
+
+-- the sextets from the position to the innermost end
+abbrev pub aheadOf : Domain → List ℕ → Walk → List ℕ
+aheadOf d xs w = slice (4 * w .at) (4 * stopOf w (length xs / d .unit)) (d .sextets xs)
+
+-- those of an item of n units
+abbrev pub ownOf : Domain → List ℕ → Walk → ℕ → List ℕ
+ownOf d xs w n = slice (4 * w .at) (4 * (w .at + n)) (d .sextets xs)
+
+-- "genus/version required but not `AAACAA`": at top level, and where the first-item mark is set
+abbrev pub OtherGenus : Walk → List ℕ → Type 0
+OtherGenus w s = ((w .depth ≡ 0) ⊎ (w .first ≡ true)) × (itemKind s ≡ Genus) × (isOurs (sextet s) ≡ false)
+
+-- s: the sextets that are left; "of a group it judges only 11 and, if opaque, 5"
+abbrev pub stepRules : Domain → List ℕ → Walk → List Rule
+stepRules d xs w =
+    let s : List ℕ = aheadOf d xs w in
+    1 when (d .limit < length xs) ∷
+    13 when (Fit w (length xs / d .unit) → ⊥) ∷
+    (framing s ++ (7 when (OtherGenus w s) ∷ ownRules (maxDepth - w .depth) (itemKind s) (itemHead s) (ownOf d xs w (itemSize s))))
 
 -- ---- the walk from the start
 
@@ -74,6 +101,17 @@ abbrev pub Stops : Found → Type 0
 Stops (F.Item o n d k h) = ⊥
 Stops (F.Refused m p) = Unit {0}
 Stops F.End = Unit {0}
+
+-- its number and place as 01 and the calls for C have them: 0 for an item, 255 for the end, or the refusal's
+unfoldable pub foundNumber : Found → ℕ
+foundNumber (F.Item o n d k h) = 0
+foundNumber (F.Refused number place) = number
+foundNumber F.End = 255
+
+unfoldable pub foundPlace : Found → ℕ
+foundPlace (F.Item o n d k h) = o
+foundPlace (F.Refused number place) = place
+foundPlace F.End = 0
 
 -- ---- a step that yields
 

@@ -10,8 +10,8 @@ use Rattle.exports.proofs.cesr_report_text.Tie as tie
 report-text-requires : tie.Need-report-text-requires
 report-text-requires c κs = search needs
 
-enum-known-n : tie.Need-enum-known-n
-enum-known-n c = search needs
+enum-known-length : tie.Need-enum-known-length
+enum-known-length c = search needs
 
 enum-known-number : tie.Need-enum-known-number
 enum-known-number c = search needs
@@ -24,9 +24,9 @@ unfolding reportNumber reportValue
 returns c =
     let t = c .before .before .before .before .before .report-text in
     let a = c .before .before .before .before .before .before .before .before .before .args in (
-      ap reportNumber (sym (c .before .n .given .1) ∙ t .ensures .0),
+      ap reportNumber (sym (c .before .length .given .1) ∙ t .ensures .0),
       (
-        ap reportValue (sym (c .before .n .given .1) ∙ t .ensures .0),
+        ap reportValue (sym (c .before .length .given .1) ∙ t .ensures .0),
         t .ensures .1 ∙ ap (λ (r : Reported). reportLeft r text (a .stream .now) (a .out .now)) (t .ensures .0),
       ),
     )
@@ -51,7 +51,7 @@ cesr-report-text-spec =
     tie.close
     (tie.spec
     report-text-requires
-    enum-known-n
+    enum-known-length
     enum-known-number
     same-length
     returns

@@ -12,8 +12,8 @@ text-to-binary-requires c κs = search needs
 enum-known-n : tie.Need-enum-known-n
 enum-known-n c = search needs
 
-enum-known-number : tie.Need-enum-known-number
-enum-known-number c = search needs
+enum-known-refusal : tie.Need-enum-known-refusal
+enum-known-refusal c = search needs
 
 same-length : tie.Need-same-length
 same-length c = search needs
@@ -38,9 +38,9 @@ unfolding toBinaryNumber toBinaryValue
 returns-2 c =
     let t = c .before .before .before .before .before .text-to-binary in
     let a = c .before .before .before .before .before .before .before .before .before .args in (
-      ap toBinaryNumber (sym (c .before .number .given .1) ∙ t .ensures .0),
+      ap toBinaryNumber (sym (c .before .refusal .given .1) ∙ t .ensures .0),
       (
-        ap toBinaryValue (sym (c .before .number .given .1) ∙ t .ensures .0),
+        ap toBinaryValue (sym (c .before .refusal .given .1) ∙ t .ensures .0),
         t .ensures .1 ∙ ap (λ (r : ToBinary). binaryLeft r (a .src .now) (a .dst .now)) (t .ensures .0),
       ),
     )
@@ -51,7 +51,7 @@ cesr-text-to-binary-spec =
     (tie.spec
     text-to-binary-requires
     enum-known-n
-    enum-known-number
+    enum-known-refusal
     same-length
     returns
     same-length-2

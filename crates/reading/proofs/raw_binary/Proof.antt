@@ -1,8 +1,10 @@
 use mathlib.Core.Path.{_≡_, ap, sym, _∙_}
-use Prim.Native.Nat.{_+_, _-_}
+use Prim.Native.Nat.{ℕ, _+_, _-_}
+use native.Mathlib.Nat.{zero-add}
 use native.Mathlib.Omega.{arith}
 use Rattle.format.specs.declared.BinaryRead.{BinaryRead}
 use Rattle.format.specs.Reading.{partAt}
+use Rattle.reading.specs.Outcome.{partStart}
 use Rattle.reading.proofs.Answers.{found-inside}
 use borrow.Author.Needs.{needs}
 use Rattle.reading.proofs.raw_binary.Statement.{statement}
@@ -52,17 +54,20 @@ part-result-end c =
 
 -- src/lib.rt:294:1
 returns : tie.Need-returns
-unfolding partAt
-returns c = rw (ap (λ (r : BinaryRead). r .found) (sym (c .before .before .before .read-binary .ensures)) ∙ c .before .enum-told .given .1)
+unfolding partAt partStart
+returns c =
+    let e = ap (λ (r : BinaryRead). r .found) (sym (c .before .before .before .read-binary .ensures)) ∙ c .before .enum-told .given .1 in
+    (rw e, rw e (ap (λ (n : ℕ). (c .before .before .before .before .before .args .s .ptr .0, n)) (sym (zero-add _))))
 
 -- src/lib.rt:294:1
 returns-2 : tie.Need-returns-2
-unfolding partAt
+unfolding partAt partStart
 returns-2 c =
     let a = c .before .before .before .before .before .before .before .before .args in
     let p = c .before .before .before .before .found .given .0 .0 in
     let z : a .at .0 + p .start + p .raw - (a .at .0 + p .start) ≡ p .raw = omega arith in
-    rw (z, ap (λ (r : BinaryRead). r .found) (sym (c .before .before .before .before .before .before .read-binary .ensures)) ∙ c .before .before .before .before .found .given .1)
+    let e = ap (λ (r : BinaryRead). r .found) (sym (c .before .before .before .before .before .before .read-binary .ensures)) ∙ c .before .before .before .before .found .given .1 in
+    (rw (z, e), rw e)
 
 pub raw-binary-spec : {M : Type 1} → statement M
 raw-binary-spec =

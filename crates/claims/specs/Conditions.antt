@@ -1,0 +1,178 @@
+-- What each number of a call is given for, in 01's words, a list for each call in 01's order. It cites the registry's rules, single tests
+-- and the number of a report's items, and none of the definitions whose order is compared with it: those of the calls, of framing and of
+-- judging. No proofs. Assumes nothing.
+use Prim.Native.Nat.{ℕ, _+_, _-_, _*_, _/_, _%_, _≤_, _<_}
+use mathlib.Core.Path.{_≡_}
+use mathlib.Core.List.{List, [], _∷_, _++_}
+use mathlib.Core.Bool.{Bool, true, false}
+use lib.ListN.{length, getD, take, drop}
+use Rattle.format.specs.declared.CodeRow.{CodeRow}
+use Rattle.format.specs.declared.Kind.{Kind}
+use Rattle.format.specs.declared.Kind.the-variants.{Fixed, Variable, Group, Genus}
+use Rattle.format.specs.declared.Opening.{Opening}
+use Rattle.format.specs.declared.Opening.the-variants.{Unknown, Short, LargeVariable, LargeGroup, Version}
+use Rattle.format.specs.declared.Code.{Code}
+use Rattle.format.specs.Alphabet.{sextetOf}
+use Rattle.format.specs.Units.{Domain, text, binary}
+use Rattle.format.specs.Registry.{isOpaque, zeroBitsOf, prepadOf, opening, headerUnits, extent}
+use Rattle.format.specs.Framing.{digits4, sextet}
+use Rattle.format.specs.Judging.{zeroBits, prepadRight}
+use Rattle.format.specs.Values.{rawStart}
+use Rattle.format.specs.Report.{rowsIn}
+use Rattle.format.specs.Reading.{isPrimitive}
+use Rattle.format.specs.Writing.{Named, rawSize, rawLimit, named, unitsOf}
+use Rattle.format.specs.Writing.Named.{unknown, row, variable}
+use Rattle.claims.specs.Order.{Rule, _when_}
+
+-- ---- 5: "character outside the alphabet"
+
+-- one of the first n characters
+abbrev pub StrangerIn : ℕ → List ℕ → Type 0
+StrangerIn n s = (i : ℕ) × (i < n) × (64 ≤ sextetOf (getD s i 0))
+
+-- one of the sextets from one place to before another
+abbrev pub StrangeFrom : List ℕ → ℕ → ℕ → Type 0
+StrangeFrom s from to = (i : ℕ) × (from ≤ i) × (i < to) × (64 ≤ sextet s i)
+
+-- ---- "Calls: T to B gives 1, 2, 5, 3; B to T 1, 2, 3. Room asked .. is the exact size written."
+
+abbrev pub toBinaryRules : List ℕ → ℕ → List Rule
+toBinaryRules s room =
+    1 when (text .limit < length s) ∷
+    2 when (0 < length s % 4) ∷
+    5 when (StrangerIn (length s) s) ∷
+    3 when (room < length s / 4 * 3) ∷
+    []
+
+abbrev pub toTextRules : List ℕ → ℕ → List Rule
+toTextRules s room =
+    1 when (binary .limit < length s) ∷
+    2 when (0 < length s % 3) ∷
+    3 when (room < length s / 3 * 4) ∷
+    []
+
+-- ---- "Refused whole: 1, then 3 exactly if room is below 17 + 18 x items."
+
+abbrev pub reportRules : Domain → List ℕ → ℕ → List Rule
+reportRules d xs room =
+    1 when (d .limit < length xs) ∷
+    3 when (room < 17 + 18 * length (rowsIn d xs)) ∷
+    []
+
+-- ---- "Framing an item: 4 (first unit), 5 (its first bad character), 6, 4 (second unit), 5, 4 (extent)." Over the sextets from the
+-- item's start, with so many whole units left
+
+abbrev pub framingRules : Opening → (ℕ → ℕ) → ℕ → List Rule
+framingRules o at len =
+    4 when (len < 1) ∷
+    5 when ((i : ℕ) × (i < 4) × (64 ≤ at i)) ∷
+    6 when (o ≡ Unknown) ∷
+    4 when (len < headerUnits o) ∷
+    5 when ((i : ℕ) × (4 ≤ i) × (i < 4 * headerUnits o) × (64 ≤ at i)) ∷
+    4 when (len < extent o (digits4 at)) ∷
+    []
+
+-- what the item's first unit opens
+abbrev pub openingOf : List ℕ → Opening
+openingOf s = opening (sextet s 0) (sextet s 1) (sextet s 2) (sextet s 3)
+
+-- the item's kind, the second unit's digits being n
+abbrev pub kindIn : Opening → ℕ → Kind
+kindIn Unknown n = Genus
+kindIn (Short k size) n = k
+kindIn (LargeVariable t l) n = Variable t l n
+kindIn (LargeGroup l d) n = Group l
+kindIn Version n = Genus
+
+-- the item that starts the sextets s: its kind, its header in units, its full size in units
+abbrev pub itemKind : List ℕ → Kind
+itemKind s = kindIn (openingOf s) (digits4 (sextet s))
+
+abbrev pub itemHead : List ℕ → ℕ
+itemHead s = headerUnits (openingOf s)
+
+abbrev pub itemSize : List ℕ → ℕ
+itemSize s = extent (openingOf s) (digits4 (sextet s))
+
+abbrev pub framing : List ℕ → List Rule
+framing s = framingRules (openingOf s) (sextet s) (length s / 4)
+
+-- ---- "Judging a framed primitive: 5 behind the header, 9, 8, 10." Of its own sextets and a header of h units
+
+-- "selector 5, 6, 8, 9 with n = 0"
+abbrev pub Empty : Kind → Type 0
+Empty (Fixed c) = ⊥
+Empty (Variable t lead n) = (0 < lead) × (n ≡ 0)
+Empty (Group letter) = ⊥
+Empty Genus = ⊥
+
+-- "pad bit or lead byte not zero"
+abbrev pub NotZero : Kind → ℕ → List ℕ → Type 0
+NotZero (Fixed c) h s = zeroBits s (c .chars) (zeroBitsOf c) ≡ false
+NotZero (Variable t lead n) h s = zeroBits s (4 * h) (8 * lead) ≡ false
+NotZero (Group letter) h s = ⊥
+NotZero Genus h s = ⊥
+
+-- "tag prepad not `_`"
+abbrev pub OtherPrepad : Kind → List ℕ → Type 0
+OtherPrepad (Fixed c) s = prepadRight s (c .chars) (prepadOf c) ≡ false
+OtherPrepad (Variable t lead n) s = ⊥
+OtherPrepad (Group letter) s = ⊥
+OtherPrepad Genus s = ⊥
+
+abbrev pub judging : Kind → ℕ → List ℕ → List Rule
+judging k h s =
+    5 when (StrangeFrom s (4 * h) (length s)) ∷
+    9 when (Empty k) ∷
+    8 when (NotZero k h s) ∷
+    10 when (OtherPrepad k s) ∷
+    []
+
+-- ---- "Judging a group: 11, then its items one by one .. An opaque group: 11, then 5." A step of the walk judges of a group only 11 and,
+-- if opaque, 5; l more groups may be entered
+
+abbrev pub groupRules : ℕ → ℕ → ℕ → List ℕ → List Rule
+groupRules l letter h s =
+    11 when (l ≡ 0) ∷
+    5 when ((isOpaque letter ≡ true) × StrangeFrom s (4 * h) (length s)) ∷
+    []
+
+abbrev pub ownRules : ℕ → Kind → ℕ → List ℕ → List Rule
+ownRules l (Fixed c) h s = judging (Fixed c) h s
+ownRules l (Variable t lead n) h s = judging (Variable t lead n) h s
+ownRules l (Group letter) h s = groupRules l letter h s
+ownRules l Genus h s = []
+
+-- ---- "Reading a primitive at an offset: 1, 4 at or past the end, framing (never 7), 14, judging, then 3 for T"
+
+-- s: the sextets from the offset on
+abbrev pub readRules : Domain → List ℕ → ℕ → List ℕ → List Rule
+readRules d xs at s =
+    1 when (d .limit < length xs) ∷
+    4 when (length xs ≤ at) ∷
+    (framing s ++ (14 when (isPrimitive (itemKind s) ≡ false) ∷ judging (itemKind s) (itemHead s) (take (4 * itemSize s) s)))
+
+abbrev pub readTextRules : List ℕ → ℕ → ℕ → List Rule
+readTextRules xs at room =
+    let s : List ℕ = text .sextets (drop at xs) in
+    readRules text xs at s ++ (3 when (room < 3 * itemSize s - rawStart (itemKind s) (itemHead s)) ∷ [])
+
+abbrev pub readBinaryRules : List ℕ → ℕ → List Rule
+readBinaryRules xs at = readRules binary xs at (binary .sextets (drop at xs))
+
+-- ---- "Writing, to T or B: 6 (any code that isn't a primitive's), 12, 5 (tags), 3."
+
+-- "raw length or tag length unfit for the code"
+abbrev pub Unfit : Named → ℕ → ℕ → Type 0
+Unfit unknown tags raw = ⊥
+Unfit (row c) tags raw = (tags ≡ c .tag) × (raw ≡ rawSize c) → ⊥
+Unfit (variable t h) tags raw = (tags ≡ 0) × (raw ≤ rawLimit h) → ⊥
+
+-- u elements to the unit
+abbrev pub writeRules : ℕ → Code → List ℕ → ℕ → ℕ → ℕ → List Rule
+writeRules u code tag tags raw room =
+    6 when (named code ≡ unknown) ∷
+    12 when (Unfit (named code) tags raw) ∷
+    5 when (StrangerIn tags tag) ∷
+    3 when (room < unitsOf (named code) raw * u) ∷
+    []

@@ -1,0 +1,157 @@
+-- Framing refuses by Conditions, in order, and an item that it finds is what the first unit opens: the header's units and the full size
+-- are the registry's rules. Assumes nothing.
+use Prim.Native.Nat.{ℕ, _+_, _*_, _/_, _≤_, _<_}
+use mathlib.Core.Path.{_≡_, refl, subst}
+use mathlib.Core.List.{List, [], _∷_}
+use mathlib.Core.Bool.{true, false}
+use mathlib.Core.Logic.{_⊎_, inl, inr, ⊎-elim}
+use native.Mathlib.Omega.{arith}
+use lib.ListN.{length}
+use lib.Dec.{ltb}
+use borrow.Author.Tests.{ltb-true, ltb-false}
+use Rattle.base.specs.Pick.{pick, pick-by}
+use Rattle.base.specs.Cases.{lt-or-ge}
+use Rattle.format.specs.declared.Kind.{Kind}
+use Rattle.format.specs.declared.Opening.{Opening}
+use Rattle.format.specs.declared.Opening.the-variants.{Unknown, Short, LargeVariable, LargeGroup, Version}
+use Rattle.format.specs.declared.Framed.{Framed}
+use Rattle.format.specs.declared.Framed.the-variants.{Item, Unframed}
+use Rattle.format.specs.Registry.{opening, headerUnits, extent}
+use Rattle.format.specs.Framing.{fit, known, second, digits4, headed, frameWith, sextet, frame}
+use Rattle.claims.specs.Order.{Rule, _when_, First, None}
+use Rattle.claims.specs.Conditions.{framingRules, openingOf, kindIn, itemKind, itemHead, itemSize, framing}
+
+-- what an opening and the digits behind it make of an item, or the first number that is given
+data By (o : Opening) (n : ℕ) (rs : List Rule) : Framed → Type 0 where
+  item : {k : Kind} {h size : ℕ} → None rs → k ≡ kindIn o n → h ≡ headerUnits o → size ≡ extent o n → By o n rs (Item k h size)
+  told : {m p : ℕ} → First rs m → By o n rs (Unframed m p)
+
+skip : (o : Opening) (n : ℕ) (r : Rule) (rs : List Rule) (f : Framed) → (r .given → ⊥) → By o n rs f → By o n (r ∷ rs) f
+skip o n r rs f not (item none k h size) = item (not, none) k h size
+skip o n r rs f not (told first) = told (inr (not, first))
+
+-- the four sextets from i on
+known-split : (P : Framed → Type 0) (at : ℕ → ℕ) (i : ℕ) (next : Framed)
+    → ((j : ℕ) → i ≤ j → j < i + 4 → 64 ≤ at j → P (Unframed 5 j))
+    → (((j : ℕ) → i ≤ j → j < i + 4 → 64 ≤ at j → ⊥) → P next)
+    → P (known at i next)
+unfolding known
+known-split P at i next bad good =
+    pick-by P (ltb (at i) 64) _ _
+    (λ a. pick-by P (ltb (at (i + 1)) 64) _ _
+    (λ b. pick-by P (ltb (at (i + 2)) 64) _ _
+    (λ c. pick-by P (ltb (at (i + 3)) 64) _ _
+    (λ d. good (none (ltb-true (at i) 64 a) (ltb-true (at (i + 1)) 64 b) (ltb-true (at (i + 2)) 64 c) (ltb-true (at (i + 3)) 64 d)))
+    (λ d. bad (i + 3) (omega arith) (omega arith) (ltb-false (at (i + 3)) 64 d)))
+    (λ c. bad (i + 2) (omega arith) (omega arith) (ltb-false (at (i + 2)) 64 c)))
+    (λ b. bad (i + 1) (omega arith) (omega arith) (ltb-false (at (i + 1)) 64 b)))
+    (λ a. bad i (omega arith) (omega arith) (ltb-false (at i) 64 a))
+  where
+    none : at i < 64 → at (i + 1) < 64 → at (i + 2) < 64 → at (i + 3) < 64 → (j : ℕ) → i ≤ j → j < i + 4 → 64 ≤ at j → ⊥
+    none a b c d j l u s =
+        ⊎-elim (λ p. let e : j ≡ i = omega arith in below e a)
+        (λ g. ⊎-elim (λ p. let e : j ≡ i + 1 = omega arith in below e b)
+        (λ g′. ⊎-elim (λ p. let e : j ≡ i + 2 = omega arith in below e c)
+        (λ g″. let e : j ≡ i + 3 = omega arith in below e d)
+        (lt-or-ge j (i + 3)))
+        (lt-or-ge j (i + 2)))
+        (lt-or-ge j (i + 1))
+      where
+        below : {k : ℕ} → j ≡ k → at k < 64 → ⊥
+        below e q = omega (arith, rw e at s)
+
+-- ---- the rules from each place on
+
+module _ (o : Opening) (at : ℕ → ℕ) (len : ℕ) where
+  abbrev Second : Type 0
+  Second = (i : ℕ) × (4 ≤ i) × (i < 4 * headerUnits o) × (64 ≤ at i)
+
+  abbrev fromExtent : List Rule
+  fromExtent = 4 when (len < extent o (digits4 at)) ∷ []
+
+  abbrev fromSecond : List Rule
+  fromSecond = 5 when Second ∷ fromExtent
+
+  abbrev fromHeader : List Rule
+  fromHeader = 4 when (len < headerUnits o) ∷ fromSecond
+
+  abbrev fromCode : List Rule
+  fromCode = 6 when (o ≡ Unknown) ∷ fromHeader
+
+  abbrev fromFirst : List Rule
+  fromFirst = 5 when ((i : ℕ) × (i < 4) × (64 ≤ at i)) ∷ fromCode
+
+  -- 4 (extent)
+  fit-by : (k : Kind) (h size : ℕ) → k ≡ kindIn o (digits4 at) → h ≡ headerUnits o → size ≡ extent o (digits4 at)
+      → By o (digits4 at) fromExtent (fit k h size len)
+  unfolding fit
+  fit-by k h size ek eh es =
+      pick-by (By o (digits4 at) fromExtent) (ltb len size) _ _ (λ e. told (inl (omega (arith, es, ltb-true len size e), refl)))
+      (λ e. item (λ l. omega (arith, es, ltb-false len size e), tt) ek eh es)
+
+  -- 4 (second unit), 5, of an opening whose header has two units
+  second-by : (k : Kind) → k ≡ kindIn o (digits4 at) → headerUnits o ≡ 2
+      → By o (digits4 at) fromHeader (second at len (fit k 2 (extent o (digits4 at)) len))
+  unfolding second
+  second-by k ek two =
+      pick-by (By o (digits4 at) fromHeader) (ltb len 2) _ _ (λ e. told (inl (rw two (ltb-true len 2 e), refl)))
+      (λ e. skip o (digits4 at) (4 when (len < headerUnits o)) fromSecond _ (λ l. omega (arith, two, ltb-false len 2 e))
+      (known-split (By o (digits4 at) fromSecond) at 4 _ (λ j a b s. told (inl ((j, a, rw two (omega arith), s), refl)))
+      (λ none. skip o (digits4 at) (5 when Second) fromExtent _ (λ q. none (q .0) (q .1) (omega (arith, two, q .2)) (q .3))
+      (fit-by k 2 (extent o (digits4 at)) ek (rw two) refl))))
+
+-- 6
+headed-by : (o : Opening) (at : ℕ → ℕ) (len : ℕ) → 1 ≤ len → By o (digits4 at) (fromCode o at len) (headed o at len)
+unfolding headed headerUnits extent
+headed-by Unknown at len l = told (inl (refl, refl))
+headed-by (Short k n) at len l =
+    skip (Short k n) (digits4 at) (6 when (Short k n ≡ Unknown)) _ _ (λ e. let z : _≡_ {A = ℕ} 0 1 = cc in omega arith)
+    (skip (Short k n) (digits4 at) (4 when (len < 1)) _ _ (λ g. omega arith)
+    (skip (Short k n) (digits4 at) (5 when (Second (Short k n) at len)) _ _ (λ q. omega (arith, q .1, q .2))
+    (fit-by (Short k n) at len k 1 n refl refl refl)))
+headed-by (LargeVariable t v) at len l =
+    skip (LargeVariable t v) (digits4 at) (6 when (LargeVariable t v ≡ Unknown)) _ _ (λ e. let z : _≡_ {A = ℕ} 0 1 = cc in omega arith)
+    (second-by (LargeVariable t v) at len _ refl refl)
+headed-by (LargeGroup t d) at len l =
+    skip (LargeGroup t d) (digits4 at) (6 when (LargeGroup t d ≡ Unknown)) _ _ (λ e. let z : _≡_ {A = ℕ} 0 1 = cc in omega arith)
+    (second-by (LargeGroup t d) at len _ refl refl)
+headed-by Version at len l =
+    skip Version (digits4 at) (6 when (Version ≡ Unknown)) _ _ (λ e. let z : _≡_ {A = ℕ} 0 1 = cc in omega arith)
+    (second-by Version at len _ refl refl)
+
+-- 4 (first unit), 5
+module _ (s : List ℕ) where
+  abbrev Framing : List Rule → Framed → Type 0
+  Framing = By (openingOf s) (digits4 (sextet s))
+
+  frame-by : Framing (framing s) (frame s)
+  unfolding frame frameWith
+  frame-by =
+      pick-by (Framing (framing s)) (ltb (length s / 4) 1) _ _ (λ e. told (inl (ltb-true (length s / 4) 1 e, refl)))
+      (λ e. skip _ _ (4 when (length s / 4 < 1)) (fromFirst (openingOf s) (sextet s) (length s / 4)) _
+      (λ l. omega (arith, ltb-false (length s / 4) 1 e))
+      (known-split (Framing (fromFirst (openingOf s) (sextet s) (length s / 4))) (sextet s) 0 _
+      (λ j a b g. told (inl ((j, omega arith, g), refl)))
+      (λ none. skip _ _ (5 when ((i : ℕ) × (i < 4) × (64 ≤ sextet s i))) _ _
+      (λ q. none (q .0) (omega arith) (omega (arith, q .1)) (q .2))
+      (headed-by (openingOf s) (sextet s) (length s / 4) (ltb-false (length s / 4) 1 e)))))
+
+-- ---- as claims
+
+pub record Found (s : List ℕ) (k : Kind) (h n : ℕ) : Type 0 where
+  pub none : None (framing s)
+  pub kind : k ≡ itemKind s
+  pub head : h ≡ itemHead s
+  pub size : n ≡ itemSize s
+
+found : (s : List ℕ) (k : Kind) (h n : ℕ) → Framing s (framing s) (Item k h n) → Found s k h n
+found s k h n (item none kind head size) = record { none = none; kind = kind; head = head; size = size }
+
+pub framed-found : (s : List ℕ) (k : Kind) (h n : ℕ) → frame s ≡ Item k h n → Found s k h n
+framed-found s k h n e = found s k h n (subst (Framing s (framing s)) e (frame-by s))
+
+first : (s : List ℕ) (m p : ℕ) → Framing s (framing s) (Unframed m p) → First (framing s) m
+first s m p (told f) = f
+
+pub unframed-first : (s : List ℕ) (m p : ℕ) → frame s ≡ Unframed m p → First (framing s) m
+unframed-first s m p e = first s m p (subst (Framing s (framing s)) e (frame-by s))

@@ -1,0 +1,84 @@
+-- What is claimed of the numbers that the calls for C answer and of the state that C lends, over the definitions that their contracts
+-- cite. Statements only, each below the words of the mission or of 01 in quotes. What the words mean is in Words. Proved in Proved.
+-- Assumes nothing.
+use Prim.Native.Nat.{ℕ}
+use mathlib.Core.Path.{_≡_}
+use mathlib.Core.List.{List}
+use mathlib.Core.Logic.{_↔_}
+use lib.ListN.{length, replicate}
+use Rattle.format.specs.declared.Code.{Code}
+use Rattle.format.specs.Units.{Domain, text, binary}
+use Rattle.format.specs.Judging.{maxDepth}
+use Rattle.format.specs.Conversion.{textToBinary, toBinaryNumber, binaryLeft, binaryToText, toTextNumber, textLeft}
+use Rattle.format.specs.Report.{reportAnswer, reportNumber, reportLeft}
+use Rattle.format.specs.Reading.{readText, rawLeft, readBinary}
+use Rattle.format.specs.Writing.{writeText, textItemLeft, writeBinary, binaryItemLeft}
+use Rattle.walk.specs.declared.Walk.{Walk}
+use Rattle.walk.specs.declared.TextItem.the-variants as TI
+use Rattle.walk.specs.declared.BinaryItem.the-variants as BI
+use Rattle.walk.specs.Walking.{start, textStep, binaryStep}
+use Rattle.walk_claims.specs.Words.{after}
+use Rattle.exports_values.specs.Answers.{textFoundNumber, textTagLeft, textInfoLeft, binaryFoundNumber, binaryTagLeft, binaryInfoLeft}
+use Rattle.exports_values.specs.Answers.{textWrittenNumber, binaryWrittenNumber}
+use Rattle.exports_values.specs.Lent.{stateSize, walkOf, stateOf}
+use Rattle.exports_values.specs.Lent.{textStepNumber, textYieldLeft, textStateLeft, binaryStepNumber, binaryYieldLeft, binaryStateLeft}
+use Rattle.exports_claims.specs.Words.{InBinary, InText, Report, ReadText, ReadBinary, WroteText, WroteBinary, YieldsText, YieldsBinary}
+use Rattle.exports_claims.specs.Words.{textLent, binaryLent}
+
+-- ---- the numbers: 0 is answered exactly where the call is accepted, so that no refusal can be taken for a pass; 255 exactly at the end of
+-- a walk
+
+pub record ZeroClaims : Type 0 where
+  pub to-binary : (s d : List ℕ) → (toBinaryNumber (textToBinary s (length d)) ≡ 0) ↔ InBinary (textToBinary s (length d))
+  pub to-text : (s d : List ℕ) → (toTextNumber (binaryToText s (length d)) ≡ 0) ↔ InText (binaryToText s (length d))
+  pub reports : (f : Domain) (s d : List ℕ) → (reportNumber (reportAnswer f s (length d)) ≡ 0) ↔ Report (reportAnswer f s (length d))
+  pub read-text : (s : List ℕ) (at : ℕ) (d : List ℕ)
+      → (textFoundNumber (readText s at (length d) .found) ≡ 0) ↔ ReadText (readText s at (length d) .found)
+  pub read-binary : (s : List ℕ) (at : ℕ) → (binaryFoundNumber (readBinary s at .found) ≡ 0) ↔ ReadBinary (readBinary s at .found)
+  pub write-text : (code : Code) (tag : List ℕ) (tags : ℕ) (raw d : List ℕ)
+      → (textWrittenNumber (writeText code tag tags raw (length d)) ≡ 0) ↔ WroteText (writeText code tag tags raw (length d))
+  pub write-binary : (code : Code) (tag : List ℕ) (tags : ℕ) (raw d : List ℕ)
+      → (binaryWrittenNumber (writeBinary code tag tags raw (length d)) ≡ 0) ↔ WroteBinary (writeBinary code tag tags raw (length d))
+  pub walk-text : (s : List ℕ) (w : Walk) → (textStepNumber (textStep s w .found) ≡ 0) ↔ YieldsText (textStep s w .found)
+  pub walk-binary : (s : List ℕ) (w : Walk) → (binaryStepNumber (binaryStep s w .found) ≡ 0) ↔ YieldsBinary (binaryStep s w .found)
+  pub end-text : (s : List ℕ) (w : Walk) → (textStepNumber (textStep s w .found) ≡ 255) ↔ (textStep s w .found ≡ TI.End)
+  pub end-binary : (s : List ℕ) (w : Walk) → (binaryStepNumber (binaryStep s w .found) ≡ 255) ↔ (binaryStep s w .found ≡ BI.End)
+
+-- ---- "Where a call itself is refused, every output buffer holds what it held before": where the number is not 0, each place that is lent
+-- but the one for `answer`
+
+pub record KeepClaims : Type 0 where
+  pub to-binary : (s d : List ℕ) → let a = textToBinary s (length d) in (toBinaryNumber a ≡ 0 → ⊥) → binaryLeft a s d ≡ d
+  pub to-text : (s d : List ℕ) → let a = binaryToText s (length d) in (toTextNumber a ≡ 0 → ⊥) → textLeft a s d ≡ d
+  pub reports : (f : Domain) (s d : List ℕ) → let a = reportAnswer f s (length d) in (reportNumber a ≡ 0 → ⊥) → reportLeft a f s d ≡ d
+  pub read-text : (s : List ℕ) (at : ℕ) (d tag info : List ℕ) → let a = readText s at (length d) in (textFoundNumber (a .found) ≡ 0 → ⊥)
+      → (rawLeft (a .found) s at d ≡ d) × (textTagLeft (a .found) (a .tag) tag ≡ tag) × (textInfoLeft (a .found) info ≡ info)
+  pub read-binary : (s : List ℕ) (at : ℕ) (tag info : List ℕ) → let a = readBinary s at in (binaryFoundNumber (a .found) ≡ 0 → ⊥)
+      → (binaryTagLeft (a .found) (a .tag) tag ≡ tag) × (binaryInfoLeft (a .found) info ≡ info)
+  pub write-text : (code : Code) (tag : List ℕ) (tags : ℕ) (raw d : List ℕ) → let a = writeText code tag tags raw (length d) in
+      (textWrittenNumber a ≡ 0 → ⊥) → textItemLeft a code tag tags raw d ≡ d
+  pub write-binary : (code : Code) (tag : List ℕ) (tags : ℕ) (raw d : List ℕ) → let a = writeBinary code tag tags raw (length d) in
+      (binaryWrittenNumber a ≡ 0 → ⊥) → binaryItemLeft a code tag tags raw d ≡ d
+  -- "At a refusal or the end the state stays as it was."
+  pub walk-text : (s : List ℕ) (w : Walk) (state item : List ℕ) → let a = textStep s w in (textStepNumber (a .found) ≡ 0 → ⊥)
+      → (textYieldLeft (a .found) item ≡ item) × (textStateLeft (a .found) (a .next) state ≡ state)
+  pub walk-binary : (s : List ℕ) (w : Walk) (state item : List ℕ) → let a = binaryStep s w in (binaryStepNumber (a .found) ≡ 0 → ⊥)
+      → (binaryYieldLeft (a .found) item ≡ item) × (binaryStateLeft (a .found) (a .next) state ≡ state)
+
+-- ---- the walk over a state that C lends
+
+pub record LentClaims : Type 0 where
+  -- a C caller's start: nineteen zeros
+  pub zeros : walkOf (replicate stateSize 0) ≡ start
+  -- a state that a call wrote is read back as it was by the next
+  pub back : (w : Walk) → length (w .ends) ≡ maxDepth → walkOf (stateOf w) ≡ w
+  -- "Each step takes the state and gives the next one back": behind k calls the state lent is the walk's behind k steps
+  pub text-walk : (xs : List ℕ) (k : ℕ) → walkOf (textLent xs k) ≡ after text xs k
+  pub binary-walk : (xs : List ℕ) (k : ℕ) → walkOf (binaryLent xs k) ≡ after binary xs k
+
+-- ---- all of it
+
+pub record ExportsClaims : Type 0 where
+  pub zero-accepted : ZeroClaims
+  pub refused-kept : KeepClaims
+  pub lent : LentClaims

@@ -1,0 +1,89 @@
+-- The state that C lends is the walk's: zeros are the start, a state that was written is read back as it was, and so the calls step as the
+-- walk does. Assumes nothing.
+use Prim.Native.Nat.{ℕ, zero, suc}
+use mathlib.Core.Path.{_≡_, refl, sym, ap, _∙_}
+use mathlib.Core.List.{List, [], _∷_}
+use mathlib.Core.Bool.{Bool, true, false}
+use native.Mathlib.Omega.{arith}
+use lib.ListN.{length, replicate}
+use Rattle.format.specs.Units.{Domain, text, binary}
+use Rattle.format.specs.Judging.{maxDepth}
+use Rattle.laws.specs.Domains.{text-reader, binary-reader}
+use Rattle.walk.specs.declared.Walk.{Walk}
+use Rattle.walk.specs.declared.Found.{Found}
+use Rattle.walk.specs.declared.Found.the-variants as F
+use Rattle.walk.specs.Walking.{start, stepIn, textItem, textStep, binaryItem, binaryStep}
+use Rattle.walk_claims.specs.Words.{Stops, after}
+use Rattle.walk_claims.specs.Runs.{stays, after-fits}
+use Rattle.exports_values.specs.Lent.{stateSize, walkOf, stateOf, slotsOf, textStateLeft, binaryStateLeft}
+use Rattle.exports_claims.specs.Words.{textLent, binaryLent}
+use Rattle.exports_claims.specs.Claims.{LentClaims}
+
+-- sixteen slots, one by one
+back-by : (ends : List ℕ) (depth at : ℕ) (first : Bool) → length ends ≡ 16
+    → walkOf (stateOf (record { ends = ends; depth = depth; at = at; first = first }))
+    ≡ record { ends = ends; depth = depth; at = at; first = first }
+unfolding walkOf stateOf slotsOf
+back-by (a ∷ b ∷ c ∷ d ∷ e ∷ f ∷ g ∷ h ∷ i ∷ j ∷ k ∷ l ∷ m ∷ n ∷ o ∷ p ∷ []) depth at true q = refl
+back-by (a ∷ b ∷ c ∷ d ∷ e ∷ f ∷ g ∷ h ∷ i ∷ j ∷ k ∷ l ∷ m ∷ n ∷ o ∷ p ∷ []) depth at false q = refl
+back-by (a ∷ b ∷ c ∷ d ∷ e ∷ f ∷ g ∷ h ∷ i ∷ j ∷ k ∷ l ∷ m ∷ n ∷ o ∷ p ∷ r ∷ s) depth at first q = absurd (omega arith)
+back-by [] depth at first q = absurd (omega arith)
+back-by (a ∷ []) depth at first q = absurd (omega arith)
+back-by (a ∷ b ∷ []) depth at first q = absurd (omega arith)
+back-by (a ∷ b ∷ c ∷ []) depth at first q = absurd (omega arith)
+back-by (a ∷ b ∷ c ∷ d ∷ []) depth at first q = absurd (omega arith)
+back-by (a ∷ b ∷ c ∷ d ∷ e ∷ []) depth at first q = absurd (omega arith)
+back-by (a ∷ b ∷ c ∷ d ∷ e ∷ f ∷ []) depth at first q = absurd (omega arith)
+back-by (a ∷ b ∷ c ∷ d ∷ e ∷ f ∷ g ∷ []) depth at first q = absurd (omega arith)
+back-by (a ∷ b ∷ c ∷ d ∷ e ∷ f ∷ g ∷ h ∷ []) depth at first q = absurd (omega arith)
+back-by (a ∷ b ∷ c ∷ d ∷ e ∷ f ∷ g ∷ h ∷ i ∷ []) depth at first q = absurd (omega arith)
+back-by (a ∷ b ∷ c ∷ d ∷ e ∷ f ∷ g ∷ h ∷ i ∷ j ∷ []) depth at first q = absurd (omega arith)
+back-by (a ∷ b ∷ c ∷ d ∷ e ∷ f ∷ g ∷ h ∷ i ∷ j ∷ k ∷ []) depth at first q = absurd (omega arith)
+back-by (a ∷ b ∷ c ∷ d ∷ e ∷ f ∷ g ∷ h ∷ i ∷ j ∷ k ∷ l ∷ []) depth at first q = absurd (omega arith)
+back-by (a ∷ b ∷ c ∷ d ∷ e ∷ f ∷ g ∷ h ∷ i ∷ j ∷ k ∷ l ∷ m ∷ []) depth at first q = absurd (omega arith)
+back-by (a ∷ b ∷ c ∷ d ∷ e ∷ f ∷ g ∷ h ∷ i ∷ j ∷ k ∷ l ∷ m ∷ n ∷ []) depth at first q = absurd (omega arith)
+back-by (a ∷ b ∷ c ∷ d ∷ e ∷ f ∷ g ∷ h ∷ i ∷ j ∷ k ∷ l ∷ m ∷ n ∷ o ∷ []) depth at first q = absurd (omega arith)
+
+back : (w : Walk) → length (w .ends) ≡ maxDepth → walkOf (stateOf w) ≡ w
+back w full = back-by (w .ends) (w .depth) (w .at) (w .first) full
+
+zeros : walkOf (replicate stateSize 0) ≡ start
+unfolding walkOf slotsOf start
+zeros = refl
+
+-- ---- text
+
+text-left : (f : Found) (w next : Walk) (state : List ℕ) → walkOf state ≡ w → (Stops f → next ≡ w) → length (next .ends) ≡ maxDepth
+    → walkOf (textStateLeft (textItem f) next state) ≡ next
+unfolding textItem textStateLeft
+text-left (F.Item o n d k h) w next state e s full = back next full
+text-left (F.Refused m p) w next state e s full = e ∙ sym (s tt)
+text-left F.End w next state e s full = e ∙ sym (s tt)
+
+text-walk : (xs : List ℕ) (k : ℕ) → walkOf (textLent xs k) ≡ after text xs k
+unfolding textLent after textStep
+text-walk xs zero = zeros
+text-walk xs (suc k) =
+    let e : walkOf (textLent xs k) ≡ after text xs k = text-walk xs k in
+    rw e (text-left (stepIn text xs (after text xs k) .found) (after text xs k) (stepIn text xs (after text xs k) .next) (textLent xs k) e
+    (stays text xs (after text xs k)) (after-fits text text-reader xs (suc k) .nest .full))
+
+-- ---- binary
+
+binary-left : (f : Found) (w next : Walk) (state : List ℕ) → walkOf state ≡ w → (Stops f → next ≡ w) → length (next .ends) ≡ maxDepth
+    → walkOf (binaryStateLeft (binaryItem f) next state) ≡ next
+unfolding binaryItem binaryStateLeft
+binary-left (F.Item o n d k h) w next state e s full = back next full
+binary-left (F.Refused m p) w next state e s full = e ∙ sym (s tt)
+binary-left F.End w next state e s full = e ∙ sym (s tt)
+
+binary-walk : (xs : List ℕ) (k : ℕ) → walkOf (binaryLent xs k) ≡ after binary xs k
+unfolding binaryLent after binaryStep
+binary-walk xs zero = zeros
+binary-walk xs (suc k) =
+    let e : walkOf (binaryLent xs k) ≡ after binary xs k = binary-walk xs k in
+    rw e (binary-left (stepIn binary xs (after binary xs k) .found) (after binary xs k) (stepIn binary xs (after binary xs k) .next) (binaryLent xs k) e
+    (stays binary xs (after binary xs k)) (after-fits binary binary-reader xs (suc k) .nest .full))
+
+pub lent-claims : LentClaims
+lent-claims = record { zeros = zeros; back = back; text-walk = text-walk; binary-walk = binary-walk }

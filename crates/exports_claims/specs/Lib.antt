@@ -1,0 +1,5 @@
+pub mod Words
+pub mod Claims
+pub mod Numbers
+pub mod Lent
+pub mod Proved

@@ -1,0 +1,241 @@
+-- 01, "Numbers a vendor sees" and "The report": calls with what they answer and what the buffer holds afterwards, as one table under a
+-- single claim. Each order of numbers is shown by a call that tells a number from the one asked next (but 9, 8, 10, which no item tells
+-- apart: D60). Text is written by its characters' numbers; a buffer holds nines. What is expected is 01's word. Assumes nothing.
+use Prim.Native.Nat.{ℕ, _*_, _/_, _≤_, _<_}
+use mathlib.Core.Path.{_≡_, refl}
+use mathlib.Core.List.{List, [], _∷_}
+use native.Mathlib.Omega.{arith}
+use lib.ListN.{length}
+use borrow.Author.Tests.{lt-ltb, le-ltb}
+use Rattle.base.specs.Each.{each}
+use Rattle.format.specs.declared.Code.{Code}
+use Rattle.format.specs.declared.Code.the-variants as C
+use Rattle.format.specs.declared.Primitive.{Primitive}
+use Rattle.format.specs.declared.ToBinary.the-variants as TB
+use Rattle.format.specs.declared.ToBinary.{ToBinary as BinaryAnswer}
+use Rattle.format.specs.declared.ToText.the-variants as TT
+use Rattle.format.specs.declared.ToText.{ToText as TextAnswer}
+use Rattle.format.specs.declared.Reported.the-variants as R
+use Rattle.format.specs.declared.Reported.{Reported}
+use Rattle.format.specs.declared.TextFound.the-variants as TF
+use Rattle.format.specs.declared.TextFound.{TextFound}
+use Rattle.format.specs.declared.BinaryFound.the-variants as BF
+use Rattle.format.specs.declared.BinaryFound.{BinaryFound}
+use Rattle.format.specs.declared.TextWritten.the-variants as TW
+use Rattle.format.specs.declared.TextWritten.{TextWritten}
+use Rattle.format.specs.declared.BinaryWritten.the-variants as BW
+use Rattle.format.specs.declared.BinaryWritten.{BinaryWritten}
+use Rattle.format.specs.declared.InText.the-variants.{At, Past}
+use Rattle.format.specs.Alphabet.{sextetOf, charOf}
+use Rattle.format.specs.Units.{Domain, text, binary, bytesOf, sextetsOf, tripletOf, quadletOf, textSextets, binarySextets}
+use Rattle.format.specs.Offsets.{textOffset, binaryOffset, offsetInBinary, offsetInText}
+use Rattle.format.specs.Conversion.{toBinary, toText, firstStranger, textToBinary, binaryLeft, binaryToText, textLeft}
+use Rattle.format.specs.Report.{refusal, refusalsOf, refusals, be4, verdictByte, rowBytes, refusalBytes, remainderBytes, concat}
+use Rattle.format.specs.Report.{section, report, reportAnswer, reportLeft}
+use Rattle.format.specs.Reading.{codeOf, isPrimitive, tagsOf, primitiveOf, judged, readFramed, reading, from, placeFrom, padded, noTag}
+use Rattle.format.specs.Reading.{textAnswer, readText, textRaw, rawLeft, binaryAnswer, readBinary, partAt}
+use Rattle.format.specs.Writing as W
+use Rattle.format.specs.Deck.{given}
+
+infixr 5 _&_
+-- ---- calls and what they answer
+
+pub data Call : Type 0 where
+  ToBinary ToText : List ℕ → List ℕ → Call  -- the stream, the buffer
+  Reports : Domain → List ℕ → List ℕ → Call  -- the stream, the buffer
+  ReadText : List ℕ → ℕ → List ℕ → Call  -- the stream, the offset, the buffer
+  ReadBinary : List ℕ → ℕ → Call
+  WriteText WriteBinary : Code → List ℕ → ℕ → List ℕ → List ℕ → Call  -- eleven places and their number, the raw value, the buffer
+
+pub data Outcome : Type 0 where
+  refused : ℕ → ℕ → List ℕ → Outcome  -- number, place, the buffer
+  written : ℕ → List ℕ → Outcome  -- length, the buffer
+  read : Primitive → List ℕ → List ℕ → Outcome  -- tag characters, and the buffer or, in B, the part
+
+pub record Asked : Type 0 where
+  pub call : Call
+  pub gives : Outcome
+
+abbrev pub asked : Call → Outcome → Asked
+asked c o = record { call = c; gives = o }
+
+-- ---- the table
+
+unfoldable pub calls : List Asked
+calls =
+    asked (ToBinary (77 ∷ 33 ∷ 65 ∷ []) (9 ∷ 9 ∷ 9 ∷ [])) (refused 2 0 (9 ∷ 9 ∷ 9 ∷ [])) ∷  -- `M!A`, room 3: 2, then 5
+    asked (ToBinary (77 ∷ 65 ∷ 65 ∷ []) []) (refused 2 0 []) ∷  -- `MAA`, room 0: 2, then 3
+    asked (ToBinary (77 ∷ 65 ∷ 33 ∷ 66 ∷ []) []) (refused 5 2 []) ∷  -- `MA!B`, room 0: 5, then 3
+    asked (ToBinary (77 ∷ 65 ∷ 65 ∷ 66 ∷ 77 ∷ 33 ∷ 65 ∷ 33 ∷ []) (9 ∷ 9 ∷ 9 ∷ 9 ∷ 9 ∷ 9 ∷ [])) (refused 5 5 (9 ∷ 9 ∷ 9 ∷ 9 ∷ 9 ∷ 9 ∷ [])) ∷  -- `MAABM!A!`, room 6: 5 at the first bad character
+    asked (ToBinary (77 ∷ 65 ∷ 65 ∷ 66 ∷ []) (9 ∷ 9 ∷ [])) (refused 3 0 (9 ∷ 9 ∷ [])) ∷  -- `MAAB`, room 2: 3
+    asked (ToBinary (77 ∷ 65 ∷ 65 ∷ 66 ∷ []) (9 ∷ 9 ∷ 9 ∷ [])) (written 3 (48 ∷ 0 ∷ 1 ∷ [])) ∷  -- `MAAB`, room 3: the exact size
+    asked (ToBinary (77 ∷ 65 ∷ 65 ∷ 66 ∷ []) (9 ∷ 9 ∷ 9 ∷ 9 ∷ [])) (written 3 (48 ∷ 0 ∷ 1 ∷ 9 ∷ [])) ∷  -- `MAAB`, room 4: bytes behind it stay
+    asked (ToBinary [] (9 ∷ [])) (written 0 (9 ∷ [])) ∷  -- ``, room 1: nothing
+    asked (ToBinary (65 ∷ 66 ∷ 67 ∷ 68 ∷ 69 ∷ 70 ∷ 71 ∷ 72 ∷ 73 ∷ 74 ∷ 75 ∷ 76 ∷ 77 ∷ 78 ∷ 79 ∷ 80 ∷ 81 ∷ 82 ∷ 83 ∷ 84 ∷ 85 ∷ 86 ∷ 87 ∷ 88 ∷ 89 ∷ 90 ∷ 97 ∷ 98 ∷ 99 ∷ 100 ∷ 101 ∷ 102 ∷ 103 ∷ 104 ∷ 105 ∷ 106 ∷ 107 ∷ 108 ∷ 109 ∷ 110 ∷ 111 ∷ 112 ∷ 113 ∷ 114 ∷ 115 ∷ 116 ∷ 117 ∷ 118 ∷ 119 ∷ 120 ∷ 121 ∷ 122 ∷ 48 ∷ 49 ∷ 50 ∷ 51 ∷ 52 ∷ 53 ∷ 54 ∷ 55 ∷ 56 ∷ 57 ∷ 45 ∷ 95 ∷ []) (0 ∷ 0 ∷ 0 ∷ 0 ∷ 0 ∷ 0 ∷ 0 ∷ 0 ∷ 0 ∷ 0 ∷ 0 ∷ 0 ∷ 0 ∷ 0 ∷ 0 ∷ 0 ∷ 0 ∷ 0 ∷ 0 ∷ 0 ∷ 0 ∷ 0 ∷ 0 ∷ 0 ∷ 0 ∷ 0 ∷ 0 ∷ 0 ∷ 0 ∷ 0 ∷ 0 ∷ 0 ∷ 0 ∷ 0 ∷ 0 ∷ 0 ∷ 0 ∷ 0 ∷ 0 ∷ 0 ∷ 0 ∷ 0 ∷ 0 ∷ 0 ∷ 0 ∷ 0 ∷ 0 ∷ 0 ∷ [])) (written 48 (0 ∷ 16 ∷ 131 ∷ 16 ∷ 81 ∷ 135 ∷ 32 ∷ 146 ∷ 139 ∷ 48 ∷ 211 ∷ 143 ∷ 65 ∷ 20 ∷ 147 ∷ 81 ∷ 85 ∷ 151 ∷ 97 ∷ 150 ∷ 155 ∷ 113 ∷ 215 ∷ 159 ∷ 130 ∷ 24 ∷ 163 ∷ 146 ∷ 89 ∷ 167 ∷ 162 ∷ 154 ∷ 171 ∷ 178 ∷ 219 ∷ 175 ∷ 195 ∷ 28 ∷ 179 ∷ 211 ∷ 93 ∷ 183 ∷ 227 ∷ 158 ∷ 187 ∷ 243 ∷ 223 ∷ 191 ∷ [])) ∷  -- the whole alphabet, 0 to 63
+    asked (ToText (48 ∷ 0 ∷ []) []) (refused 2 0 []) ∷  -- two bytes, no room: 2, then 3
+    asked (ToText (48 ∷ 0 ∷ 1 ∷ []) (9 ∷ 9 ∷ 9 ∷ [])) (refused 3 0 (9 ∷ 9 ∷ 9 ∷ [])) ∷  -- `MAAB` in B, room 3: 3
+    asked (ToText (48 ∷ 0 ∷ 1 ∷ []) (9 ∷ 9 ∷ 9 ∷ 9 ∷ 9 ∷ [])) (written 4 (77 ∷ 65 ∷ 65 ∷ 66 ∷ 9 ∷ [])) ∷  -- room 5: bytes behind it stay
+    asked (ToText (0 ∷ 16 ∷ 131 ∷ 16 ∷ 81 ∷ 135 ∷ 32 ∷ 146 ∷ 139 ∷ 48 ∷ 211 ∷ 143 ∷ 65 ∷ 20 ∷ 147 ∷ 81 ∷ 85 ∷ 151 ∷ 97 ∷ 150 ∷ 155 ∷ 113 ∷ 215 ∷ 159 ∷ 130 ∷ 24 ∷ 163 ∷ 146 ∷ 89 ∷ 167 ∷ 162 ∷ 154 ∷ 171 ∷ 178 ∷ 219 ∷ 175 ∷ 195 ∷ 28 ∷ 179 ∷ 211 ∷ 93 ∷ 183 ∷ 227 ∷ 158 ∷ 187 ∷ 243 ∷ 223 ∷ 191 ∷ []) (0 ∷ 0 ∷ 0 ∷ 0 ∷ 0 ∷ 0 ∷ 0 ∷ 0 ∷ 0 ∷ 0 ∷ 0 ∷ 0 ∷ 0 ∷ 0 ∷ 0 ∷ 0 ∷ 0 ∷ 0 ∷ 0 ∷ 0 ∷ 0 ∷ 0 ∷ 0 ∷ 0 ∷ 0 ∷ 0 ∷ 0 ∷ 0 ∷ 0 ∷ 0 ∷ 0 ∷ 0 ∷ 0 ∷ 0 ∷ 0 ∷ 0 ∷ 0 ∷ 0 ∷ 0 ∷ 0 ∷ 0 ∷ 0 ∷ 0 ∷ 0 ∷ 0 ∷ 0 ∷ 0 ∷ 0 ∷ 0 ∷ 0 ∷ 0 ∷ 0 ∷ 0 ∷ 0 ∷ 0 ∷ 0 ∷ 0 ∷ 0 ∷ 0 ∷ 0 ∷ 0 ∷ 0 ∷ 0 ∷ 0 ∷ [])) (written 64 (65 ∷ 66 ∷ 67 ∷ 68 ∷ 69 ∷ 70 ∷ 71 ∷ 72 ∷ 73 ∷ 74 ∷ 75 ∷ 76 ∷ 77 ∷ 78 ∷ 79 ∷ 80 ∷ 81 ∷ 82 ∷ 83 ∷ 84 ∷ 85 ∷ 86 ∷ 87 ∷ 88 ∷ 89 ∷ 90 ∷ 97 ∷ 98 ∷ 99 ∷ 100 ∷ 101 ∷ 102 ∷ 103 ∷ 104 ∷ 105 ∷ 106 ∷ 107 ∷ 108 ∷ 109 ∷ 110 ∷ 111 ∷ 112 ∷ 113 ∷ 114 ∷ 115 ∷ 116 ∷ 117 ∷ 118 ∷ 119 ∷ 120 ∷ 121 ∷ 122 ∷ 48 ∷ 49 ∷ 50 ∷ 51 ∷ 52 ∷ 53 ∷ 54 ∷ 55 ∷ 56 ∷ 57 ∷ 45 ∷ 95 ∷ [])) ∷  -- the whole alphabet back
+    asked (Reports text (45 ∷ 65 ∷ 65 ∷ 66 ∷ 48 ∷ 65 ∷ 65 ∷ 65 ∷ 77 ∷ 65 ∷ 65 ∷ 66 ∷ []) (9 ∷ 9 ∷ 9 ∷ 9 ∷ 9 ∷ 9 ∷ 9 ∷ 9 ∷ 9 ∷ 9 ∷ 9 ∷ 9 ∷ 9 ∷ 9 ∷ 9 ∷ 9 ∷ 9 ∷ 9 ∷ 9 ∷ 9 ∷ 9 ∷ 9 ∷ 9 ∷ 9 ∷ 9 ∷ 9 ∷ 9 ∷ 9 ∷ 9 ∷ 9 ∷ 9 ∷ 9 ∷ 9 ∷ 9 ∷ 9 ∷ 9 ∷ 9 ∷ 9 ∷ 9 ∷ 9 ∷ 9 ∷ 9 ∷ 9 ∷ 9 ∷ 9 ∷ 9 ∷ 9 ∷ 9 ∷ 9 ∷ 9 ∷ 9 ∷ 9 ∷ [])) (refused 3 0 (9 ∷ 9 ∷ 9 ∷ 9 ∷ 9 ∷ 9 ∷ 9 ∷ 9 ∷ 9 ∷ 9 ∷ 9 ∷ 9 ∷ 9 ∷ 9 ∷ 9 ∷ 9 ∷ 9 ∷ 9 ∷ 9 ∷ 9 ∷ 9 ∷ 9 ∷ 9 ∷ 9 ∷ 9 ∷ 9 ∷ 9 ∷ 9 ∷ 9 ∷ 9 ∷ 9 ∷ 9 ∷ 9 ∷ 9 ∷ 9 ∷ 9 ∷ 9 ∷ 9 ∷ 9 ∷ 9 ∷ 9 ∷ 9 ∷ 9 ∷ 9 ∷ 9 ∷ 9 ∷ 9 ∷ 9 ∷ 9 ∷ 9 ∷ 9 ∷ 9 ∷ [])) ∷  -- `-AAB0AAAMAAB`, room 52: 3
+    asked (Reports text (45 ∷ 65 ∷ 65 ∷ 66 ∷ 48 ∷ 65 ∷ 65 ∷ 65 ∷ 77 ∷ 65 ∷ 65 ∷ 66 ∷ []) (9 ∷ 9 ∷ 9 ∷ 9 ∷ 9 ∷ 9 ∷ 9 ∷ 9 ∷ 9 ∷ 9 ∷ 9 ∷ 9 ∷ 9 ∷ 9 ∷ 9 ∷ 9 ∷ 9 ∷ 9 ∷ 9 ∷ 9 ∷ 9 ∷ 9 ∷ 9 ∷ 9 ∷ 9 ∷ 9 ∷ 9 ∷ 9 ∷ 9 ∷ 9 ∷ 9 ∷ 9 ∷ 9 ∷ 9 ∷ 9 ∷ 9 ∷ 9 ∷ 9 ∷ 9 ∷ 9 ∷ 9 ∷ 9 ∷ 9 ∷ 9 ∷ 9 ∷ 9 ∷ 9 ∷ 9 ∷ 9 ∷ 9 ∷ 9 ∷ 9 ∷ 9 ∷ [])) (written 39 (0 ∷ 0 ∷ 0 ∷ 2 ∷ 0 ∷ 0 ∷ 0 ∷ 0 ∷ 0 ∷ 0 ∷ 0 ∷ 8 ∷ 4 ∷ 0 ∷ 0 ∷ 0 ∷ 8 ∷ 0 ∷ 0 ∷ 0 ∷ 4 ∷ 0 ∷ 0 ∷ 0 ∷ 0 ∷ 1 ∷ 0 ∷ 0 ∷ 0 ∷ 0 ∷ 4 ∷ 0 ∷ 0 ∷ 0 ∷ 4 ∷ 0 ∷ 0 ∷ 0 ∷ 0 ∷ 9 ∷ 9 ∷ 9 ∷ 9 ∷ 9 ∷ 9 ∷ 9 ∷ 9 ∷ 9 ∷ 9 ∷ 9 ∷ 9 ∷ 9 ∷ 9 ∷ [])) ∷  -- room 53, 39 bytes
+    asked (Reports text [] (9 ∷ 9 ∷ 9 ∷ 9 ∷ 9 ∷ 9 ∷ 9 ∷ 9 ∷ 9 ∷ 9 ∷ 9 ∷ 9 ∷ 9 ∷ 9 ∷ 9 ∷ 9 ∷ [])) (refused 3 0 (9 ∷ 9 ∷ 9 ∷ 9 ∷ 9 ∷ 9 ∷ 9 ∷ 9 ∷ 9 ∷ 9 ∷ 9 ∷ 9 ∷ 9 ∷ 9 ∷ 9 ∷ 9 ∷ [])) ∷  -- the empty stream, room 16: 3
+    asked (Reports text [] (9 ∷ 9 ∷ 9 ∷ 9 ∷ 9 ∷ 9 ∷ 9 ∷ 9 ∷ 9 ∷ 9 ∷ 9 ∷ 9 ∷ 9 ∷ 9 ∷ 9 ∷ 9 ∷ 9 ∷ [])) (written 12 (0 ∷ 0 ∷ 0 ∷ 0 ∷ 0 ∷ 0 ∷ 0 ∷ 0 ∷ 0 ∷ 0 ∷ 0 ∷ 0 ∷ 9 ∷ 9 ∷ 9 ∷ 9 ∷ 9 ∷ [])) ∷  -- room 17, 12 bytes
+    asked (Reports text (77 ∷ 65 ∷ 65 ∷ 66 ∷ []) (9 ∷ 9 ∷ 9 ∷ 9 ∷ 9 ∷ 9 ∷ 9 ∷ 9 ∷ 9 ∷ 9 ∷ 9 ∷ 9 ∷ 9 ∷ 9 ∷ 9 ∷ 9 ∷ 9 ∷ 9 ∷ 9 ∷ 9 ∷ 9 ∷ 9 ∷ 9 ∷ 9 ∷ 9 ∷ 9 ∷ 9 ∷ 9 ∷ 9 ∷ 9 ∷ 9 ∷ 9 ∷ 9 ∷ 9 ∷ [])) (refused 3 0 (9 ∷ 9 ∷ 9 ∷ 9 ∷ 9 ∷ 9 ∷ 9 ∷ 9 ∷ 9 ∷ 9 ∷ 9 ∷ 9 ∷ 9 ∷ 9 ∷ 9 ∷ 9 ∷ 9 ∷ 9 ∷ 9 ∷ 9 ∷ 9 ∷ 9 ∷ 9 ∷ 9 ∷ 9 ∷ 9 ∷ 9 ∷ 9 ∷ 9 ∷ 9 ∷ 9 ∷ 9 ∷ 9 ∷ 9 ∷ [])) ∷  -- `MAAB`, nothing refused, room 34: 3
+    asked (Reports text (77 ∷ 65 ∷ 65 ∷ 66 ∷ []) (9 ∷ 9 ∷ 9 ∷ 9 ∷ 9 ∷ 9 ∷ 9 ∷ 9 ∷ 9 ∷ 9 ∷ 9 ∷ 9 ∷ 9 ∷ 9 ∷ 9 ∷ 9 ∷ 9 ∷ 9 ∷ 9 ∷ 9 ∷ 9 ∷ 9 ∷ 9 ∷ 9 ∷ 9 ∷ 9 ∷ 9 ∷ 9 ∷ 9 ∷ 9 ∷ 9 ∷ 9 ∷ 9 ∷ 9 ∷ 9 ∷ [])) (written 21 (0 ∷ 0 ∷ 0 ∷ 1 ∷ 0 ∷ 0 ∷ 0 ∷ 0 ∷ 0 ∷ 0 ∷ 0 ∷ 4 ∷ 0 ∷ 0 ∷ 0 ∷ 0 ∷ 0 ∷ 0 ∷ 0 ∷ 0 ∷ 0 ∷ 9 ∷ 9 ∷ 9 ∷ 9 ∷ 9 ∷ 9 ∷ 9 ∷ 9 ∷ 9 ∷ 9 ∷ 9 ∷ 9 ∷ 9 ∷ 9 ∷ [])) ∷  -- room 35, 21 bytes
+    asked (Reports text (77 ∷ 65 ∷ 65 ∷ 66 ∷ 77 ∷ 81 ∷ 65 ∷ 65 ∷ []) (9 ∷ 9 ∷ 9 ∷ 9 ∷ 9 ∷ 9 ∷ 9 ∷ 9 ∷ 9 ∷ 9 ∷ 9 ∷ 9 ∷ 9 ∷ 9 ∷ 9 ∷ 9 ∷ 9 ∷ 9 ∷ 9 ∷ 9 ∷ 9 ∷ 9 ∷ 9 ∷ 9 ∷ 9 ∷ 9 ∷ 9 ∷ 9 ∷ 9 ∷ 9 ∷ 9 ∷ 9 ∷ 9 ∷ 9 ∷ 9 ∷ 9 ∷ 9 ∷ 9 ∷ 9 ∷ 9 ∷ 9 ∷ 9 ∷ 9 ∷ 9 ∷ 9 ∷ 9 ∷ 9 ∷ 9 ∷ 9 ∷ 9 ∷ 9 ∷ 9 ∷ [])) (refused 3 0 (9 ∷ 9 ∷ 9 ∷ 9 ∷ 9 ∷ 9 ∷ 9 ∷ 9 ∷ 9 ∷ 9 ∷ 9 ∷ 9 ∷ 9 ∷ 9 ∷ 9 ∷ 9 ∷ 9 ∷ 9 ∷ 9 ∷ 9 ∷ 9 ∷ 9 ∷ 9 ∷ 9 ∷ 9 ∷ 9 ∷ 9 ∷ 9 ∷ 9 ∷ 9 ∷ 9 ∷ 9 ∷ 9 ∷ 9 ∷ 9 ∷ 9 ∷ 9 ∷ 9 ∷ 9 ∷ 9 ∷ 9 ∷ 9 ∷ 9 ∷ 9 ∷ 9 ∷ 9 ∷ 9 ∷ 9 ∷ 9 ∷ 9 ∷ 9 ∷ 9 ∷ [])) ∷  -- `MAABMQAA`, the second item refused, room 52: 3
+    asked (Reports text (77 ∷ 65 ∷ 65 ∷ 66 ∷ 77 ∷ 81 ∷ 65 ∷ 65 ∷ []) (9 ∷ 9 ∷ 9 ∷ 9 ∷ 9 ∷ 9 ∷ 9 ∷ 9 ∷ 9 ∷ 9 ∷ 9 ∷ 9 ∷ 9 ∷ 9 ∷ 9 ∷ 9 ∷ 9 ∷ 9 ∷ 9 ∷ 9 ∷ 9 ∷ 9 ∷ 9 ∷ 9 ∷ 9 ∷ 9 ∷ 9 ∷ 9 ∷ 9 ∷ 9 ∷ 9 ∷ 9 ∷ 9 ∷ 9 ∷ 9 ∷ 9 ∷ 9 ∷ 9 ∷ 9 ∷ 9 ∷ 9 ∷ 9 ∷ 9 ∷ 9 ∷ 9 ∷ 9 ∷ 9 ∷ 9 ∷ 9 ∷ 9 ∷ 9 ∷ 9 ∷ 9 ∷ [])) (written 39 (0 ∷ 0 ∷ 0 ∷ 2 ∷ 0 ∷ 0 ∷ 0 ∷ 0 ∷ 0 ∷ 0 ∷ 0 ∷ 4 ∷ 0 ∷ 0 ∷ 0 ∷ 0 ∷ 4 ∷ 0 ∷ 0 ∷ 0 ∷ 4 ∷ 8 ∷ 0 ∷ 0 ∷ 0 ∷ 1 ∷ 0 ∷ 0 ∷ 0 ∷ 1 ∷ 8 ∷ 0 ∷ 0 ∷ 0 ∷ 4 ∷ 0 ∷ 0 ∷ 0 ∷ 0 ∷ 9 ∷ 9 ∷ 9 ∷ 9 ∷ 9 ∷ 9 ∷ 9 ∷ 9 ∷ 9 ∷ 9 ∷ 9 ∷ 9 ∷ 9 ∷ 9 ∷ [])) ∷  -- room 53, 39 bytes
+    asked (Reports text (77 ∷ 65 ∷ 65 ∷ 66 ∷ 77 ∷ 65 ∷ 33 ∷ 33 ∷ []) (9 ∷ 9 ∷ 9 ∷ 9 ∷ 9 ∷ 9 ∷ 9 ∷ 9 ∷ 9 ∷ 9 ∷ 9 ∷ 9 ∷ 9 ∷ 9 ∷ 9 ∷ 9 ∷ 9 ∷ 9 ∷ 9 ∷ 9 ∷ 9 ∷ 9 ∷ 9 ∷ 9 ∷ 9 ∷ 9 ∷ 9 ∷ 9 ∷ 9 ∷ 9 ∷ 9 ∷ 9 ∷ 9 ∷ 9 ∷ [])) (refused 3 0 (9 ∷ 9 ∷ 9 ∷ 9 ∷ 9 ∷ 9 ∷ 9 ∷ 9 ∷ 9 ∷ 9 ∷ 9 ∷ 9 ∷ 9 ∷ 9 ∷ 9 ∷ 9 ∷ 9 ∷ 9 ∷ 9 ∷ 9 ∷ 9 ∷ 9 ∷ 9 ∷ 9 ∷ 9 ∷ 9 ∷ 9 ∷ 9 ∷ 9 ∷ 9 ∷ 9 ∷ 9 ∷ 9 ∷ 9 ∷ [])) ∷  -- `MAABMA!!`, a remainder from the item's start, room 34: 3
+    asked (Reports text (77 ∷ 65 ∷ 65 ∷ 66 ∷ 77 ∷ 65 ∷ 33 ∷ 33 ∷ []) (9 ∷ 9 ∷ 9 ∷ 9 ∷ 9 ∷ 9 ∷ 9 ∷ 9 ∷ 9 ∷ 9 ∷ 9 ∷ 9 ∷ 9 ∷ 9 ∷ 9 ∷ 9 ∷ 9 ∷ 9 ∷ 9 ∷ 9 ∷ 9 ∷ 9 ∷ 9 ∷ 9 ∷ 9 ∷ 9 ∷ 9 ∷ 9 ∷ 9 ∷ 9 ∷ 9 ∷ 9 ∷ 9 ∷ 9 ∷ 9 ∷ [])) (written 26 (0 ∷ 0 ∷ 0 ∷ 1 ∷ 0 ∷ 0 ∷ 0 ∷ 0 ∷ 0 ∷ 0 ∷ 0 ∷ 4 ∷ 0 ∷ 0 ∷ 0 ∷ 0 ∷ 0 ∷ 0 ∷ 0 ∷ 0 ∷ 1 ∷ 0 ∷ 0 ∷ 0 ∷ 4 ∷ 5 ∷ 9 ∷ 9 ∷ 9 ∷ 9 ∷ 9 ∷ 9 ∷ 9 ∷ 9 ∷ 9 ∷ [])) ∷  -- room 35, 26 bytes
+    asked (Reports text (77 ∷ 65 ∷ 65 ∷ 66 ∷ 77 ∷ 65 ∷ []) (9 ∷ 9 ∷ 9 ∷ 9 ∷ 9 ∷ 9 ∷ 9 ∷ 9 ∷ 9 ∷ 9 ∷ 9 ∷ 9 ∷ 9 ∷ 9 ∷ 9 ∷ 9 ∷ 9 ∷ 9 ∷ 9 ∷ 9 ∷ 9 ∷ 9 ∷ 9 ∷ 9 ∷ 9 ∷ 9 ∷ 9 ∷ 9 ∷ 9 ∷ 9 ∷ 9 ∷ 9 ∷ 9 ∷ 9 ∷ [])) (refused 3 0 (9 ∷ 9 ∷ 9 ∷ 9 ∷ 9 ∷ 9 ∷ 9 ∷ 9 ∷ 9 ∷ 9 ∷ 9 ∷ 9 ∷ 9 ∷ 9 ∷ 9 ∷ 9 ∷ 9 ∷ 9 ∷ 9 ∷ 9 ∷ 9 ∷ 9 ∷ 9 ∷ 9 ∷ 9 ∷ 9 ∷ 9 ∷ 9 ∷ 9 ∷ 9 ∷ 9 ∷ 9 ∷ 9 ∷ 9 ∷ [])) ∷  -- `MAABMA`, not whole units, room 34: 3
+    asked (Reports text (77 ∷ 65 ∷ 65 ∷ 66 ∷ 77 ∷ 65 ∷ []) (9 ∷ 9 ∷ 9 ∷ 9 ∷ 9 ∷ 9 ∷ 9 ∷ 9 ∷ 9 ∷ 9 ∷ 9 ∷ 9 ∷ 9 ∷ 9 ∷ 9 ∷ 9 ∷ 9 ∷ 9 ∷ 9 ∷ 9 ∷ 9 ∷ 9 ∷ 9 ∷ 9 ∷ 9 ∷ 9 ∷ 9 ∷ 9 ∷ 9 ∷ 9 ∷ 9 ∷ 9 ∷ 9 ∷ 9 ∷ 9 ∷ [])) (written 26 (0 ∷ 0 ∷ 0 ∷ 1 ∷ 0 ∷ 0 ∷ 0 ∷ 0 ∷ 0 ∷ 0 ∷ 0 ∷ 4 ∷ 0 ∷ 0 ∷ 0 ∷ 0 ∷ 0 ∷ 0 ∷ 0 ∷ 0 ∷ 1 ∷ 0 ∷ 0 ∷ 0 ∷ 4 ∷ 4 ∷ 9 ∷ 9 ∷ 9 ∷ 9 ∷ 9 ∷ 9 ∷ 9 ∷ 9 ∷ 9 ∷ [])) ∷  -- room 35, 26 bytes
+    asked (Reports binary (248 ∷ 0 ∷ 1 ∷ 208 ∷ 0 ∷ 0 ∷ 48 ∷ 0 ∷ 1 ∷ []) (9 ∷ 9 ∷ 9 ∷ 9 ∷ 9 ∷ 9 ∷ 9 ∷ 9 ∷ 9 ∷ 9 ∷ 9 ∷ 9 ∷ 9 ∷ 9 ∷ 9 ∷ 9 ∷ 9 ∷ 9 ∷ 9 ∷ 9 ∷ 9 ∷ 9 ∷ 9 ∷ 9 ∷ 9 ∷ 9 ∷ 9 ∷ 9 ∷ 9 ∷ 9 ∷ 9 ∷ 9 ∷ 9 ∷ 9 ∷ 9 ∷ 9 ∷ 9 ∷ 9 ∷ 9 ∷ 9 ∷ 9 ∷ 9 ∷ 9 ∷ 9 ∷ 9 ∷ 9 ∷ 9 ∷ 9 ∷ 9 ∷ 9 ∷ 9 ∷ 9 ∷ [])) (refused 3 0 (9 ∷ 9 ∷ 9 ∷ 9 ∷ 9 ∷ 9 ∷ 9 ∷ 9 ∷ 9 ∷ 9 ∷ 9 ∷ 9 ∷ 9 ∷ 9 ∷ 9 ∷ 9 ∷ 9 ∷ 9 ∷ 9 ∷ 9 ∷ 9 ∷ 9 ∷ 9 ∷ 9 ∷ 9 ∷ 9 ∷ 9 ∷ 9 ∷ 9 ∷ 9 ∷ 9 ∷ 9 ∷ 9 ∷ 9 ∷ 9 ∷ 9 ∷ 9 ∷ 9 ∷ 9 ∷ 9 ∷ 9 ∷ 9 ∷ 9 ∷ 9 ∷ 9 ∷ 9 ∷ 9 ∷ 9 ∷ 9 ∷ 9 ∷ 9 ∷ 9 ∷ [])) ∷  -- `-AAB0AAAMAAB` in B, room 52: 3
+    asked (Reports binary (248 ∷ 0 ∷ 1 ∷ 208 ∷ 0 ∷ 0 ∷ 48 ∷ 0 ∷ 1 ∷ []) (9 ∷ 9 ∷ 9 ∷ 9 ∷ 9 ∷ 9 ∷ 9 ∷ 9 ∷ 9 ∷ 9 ∷ 9 ∷ 9 ∷ 9 ∷ 9 ∷ 9 ∷ 9 ∷ 9 ∷ 9 ∷ 9 ∷ 9 ∷ 9 ∷ 9 ∷ 9 ∷ 9 ∷ 9 ∷ 9 ∷ 9 ∷ 9 ∷ 9 ∷ 9 ∷ 9 ∷ 9 ∷ 9 ∷ 9 ∷ 9 ∷ 9 ∷ 9 ∷ 9 ∷ 9 ∷ 9 ∷ 9 ∷ 9 ∷ 9 ∷ 9 ∷ 9 ∷ 9 ∷ 9 ∷ 9 ∷ 9 ∷ 9 ∷ 9 ∷ 9 ∷ 9 ∷ [])) (written 39 (0 ∷ 0 ∷ 0 ∷ 2 ∷ 0 ∷ 0 ∷ 0 ∷ 0 ∷ 0 ∷ 0 ∷ 0 ∷ 6 ∷ 4 ∷ 0 ∷ 0 ∷ 0 ∷ 6 ∷ 0 ∷ 0 ∷ 0 ∷ 3 ∷ 0 ∷ 0 ∷ 0 ∷ 0 ∷ 1 ∷ 0 ∷ 0 ∷ 0 ∷ 0 ∷ 4 ∷ 0 ∷ 0 ∷ 0 ∷ 3 ∷ 0 ∷ 0 ∷ 0 ∷ 0 ∷ 9 ∷ 9 ∷ 9 ∷ 9 ∷ 9 ∷ 9 ∷ 9 ∷ 9 ∷ 9 ∷ 9 ∷ 9 ∷ 9 ∷ 9 ∷ 9 ∷ [])) ∷  -- room 53, 39 bytes
+    asked (ReadText (77 ∷ 65 ∷ 65 ∷ 66 ∷ []) 4 (9 ∷ [])) (refused 4 4 (9 ∷ [])) ∷  -- `MAAB` at 4, room 1: 4 at the end
+    asked (ReadText (77 ∷ 65 ∷ 65 ∷ 66 ∷ []) 9 (9 ∷ [])) (refused 4 9 (9 ∷ [])) ∷  -- `MAAB` at 9, room 1: 4 past the end, with the offset for its place
+    asked (ReadText (77 ∷ 65 ∷ 65 ∷ 66 ∷ 77 ∷ 33 ∷ 65 ∷ 66 ∷ []) 4 (9 ∷ [])) (refused 5 5 (9 ∷ [])) ∷  -- `MAABM!AB` at 4, room 1: framing, places counted from the stream's start
+    asked (ReadText (33 ∷ 65 ∷ 65 ∷ 33 ∷ []) 0 []) (refused 5 0 []) ∷  -- `!AA!` at 0, room 0: 5 (its first bad character)
+    asked (ReadText (77 ∷ 33 ∷ 33 ∷ 66 ∷ []) 0 []) (refused 5 1 []) ∷  -- `M!!B` at 0, room 0
+    asked (ReadText (77 ∷ 65 ∷ 33 ∷ 33 ∷ []) 0 []) (refused 5 2 []) ∷  -- `MA!!` at 0, room 0
+    asked (ReadText (77 ∷ 65 ∷ 65 ∷ 33 ∷ []) 0 []) (refused 5 3 []) ∷  -- `MAA!` at 0, room 0
+    asked (ReadText (55 ∷ 65 ∷ 65 ∷ 66 ∷ 65 ∷ 65 ∷ 33 ∷ 33 ∷ []) 0 []) (refused 5 6 []) ∷  -- `7AABAA!!` at 0, room 0: 5 of the second unit
+    asked (ReadText (98 ∷ 65 ∷ 65 ∷ 65 ∷ []) 0 []) (refused 6 0 []) ∷  -- `bAAA` at 0, room 0: 6, then 3
+    asked (ReadText (45 ∷ 65 ∷ 65 ∷ 66 ∷ []) 0 (9 ∷ [])) (refused 4 0 (9 ∷ [])) ∷  -- `-AAB` at 0, room 1: framing, then 14
+    asked (ReadText (45 ∷ 65 ∷ 65 ∷ 66 ∷ 77 ∷ 81 ∷ 65 ∷ 65 ∷ []) 0 (9 ∷ [])) (refused 14 0 (9 ∷ [])) ∷  -- `-AABMQAA` at 0, room 1: 14, whatever is in the group
+    asked (ReadText (77 ∷ 65 ∷ 65 ∷ 66 ∷ 45 ∷ 75 ∷ 65 ∷ 66 ∷ 33 ∷ 33 ∷ 33 ∷ 33 ∷ []) 4 (9 ∷ [])) (refused 14 4 (9 ∷ [])) ∷  -- `MAAB-KAB!!!!` at 4, room 1: 14, then 5
+    asked (ReadText (45 ∷ 95 ∷ 65 ∷ 65 ∷ 65 ∷ 66 ∷ 65 ∷ 65 ∷ []) 0 (9 ∷ [])) (refused 14 0 (9 ∷ [])) ∷  -- `-_AAABAA` at 0, room 1: never 7
+    asked (ReadText (48 ∷ 72 ∷ 69 ∷ 65 ∷ 65 ∷ 33 ∷ 65 ∷ 65 ∷ []) 0 []) (refused 5 5 []) ∷  -- `0HEAA!AA` at 0, room 0: 5 behind the header, then 8, then 3
+    asked (ReadText (53 ∷ 66 ∷ 65 ∷ 65 ∷ []) 0 []) (refused 9 0 []) ∷  -- `5BAA` at 0, room 0: 9
+    asked (ReadText (77 ∷ 65 ∷ 65 ∷ 66 ∷ 77 ∷ 81 ∷ 65 ∷ 65 ∷ []) 4 []) (refused 8 4 []) ∷  -- `MAABMQAA` at 4, room 0: 8, then 3
+    asked (ReadText (77 ∷ 65 ∷ 65 ∷ 66 ∷ 48 ∷ 74 ∷ 65 ∷ 65 ∷ []) 4 []) (refused 10 4 []) ∷  -- `MAAB0JAA` at 4, room 0: 10
+    asked (ReadText (77 ∷ 65 ∷ 65 ∷ 66 ∷ 77 ∷ 65 ∷ 65 ∷ 66 ∷ []) 4 (9 ∷ [])) (refused 3 0 (9 ∷ [])) ∷  -- `MAABMAAB` at 4, room 1: 3, at place 0
+    asked (ReadText (77 ∷ 65 ∷ 65 ∷ 66 ∷ []) 0 (9 ∷ 9 ∷ 9 ∷ [])) (read (record { code = (C.Fixed 1 77); size = 1; start = 1; raw = 2; tags = 0 }) (0 ∷ 0 ∷ 0 ∷ 0 ∷ 0 ∷ 0 ∷ 0 ∷ 0 ∷ 0 ∷ 0 ∷ 0 ∷ []) (0 ∷ 1 ∷ 9 ∷ [])) ∷  -- `MAAB` at 0, room 3: raw 00 01, bytes behind it stay
+    asked (ReadText (65 ∷ 77 ∷ 65 ∷ 65 ∷ 66 ∷ []) 1 (9 ∷ 9 ∷ [])) (read (record { code = (C.Fixed 1 77); size = 1; start = 1; raw = 2; tags = 0 }) (0 ∷ 0 ∷ 0 ∷ 0 ∷ 0 ∷ 0 ∷ 0 ∷ 0 ∷ 0 ∷ 0 ∷ 0 ∷ []) (0 ∷ 1 ∷ [])) ∷  -- `AMAAB` at 1, room 2: any offset
+    asked (ReadText (86 ∷ 65 ∷ 66 ∷ 104 ∷ []) 0 (9 ∷ [])) (read (record { code = (C.Fixed 1 86); size = 1; start = 2; raw = 1; tags = 0 }) (0 ∷ 0 ∷ 0 ∷ 0 ∷ 0 ∷ 0 ∷ 0 ∷ 0 ∷ 0 ∷ 0 ∷ 0 ∷ []) (97 ∷ [])) ∷  -- `VABh` at 0, room 1: one zero lead byte more
+    asked (ReadText (48 ∷ 74 ∷ 95 ∷ 65 ∷ []) 0 (9 ∷ [])) (read (record { code = (C.Fixed 2 74); size = 1; start = 3; raw = 0; tags = 1 }) (65 ∷ 0 ∷ 0 ∷ 0 ∷ 0 ∷ 0 ∷ 0 ∷ 0 ∷ 0 ∷ 0 ∷ 0 ∷ []) (9 ∷ [])) ∷  -- `0J_A` at 0, room 1: a tag: no raw, at the item's end
+    asked (ReadText (49 ∷ 65 ∷ 65 ∷ 78 ∷ 65 ∷ 66 ∷ 67 ∷ 68 ∷ 69 ∷ 70 ∷ 71 ∷ 72 ∷ []) 0 []) (read (record { code = (C.Fixed 4 78); size = 3; start = 9; raw = 0; tags = 8 }) (65 ∷ 66 ∷ 67 ∷ 68 ∷ 69 ∷ 70 ∷ 71 ∷ 72 ∷ 0 ∷ 0 ∷ 0 ∷ []) []) ∷  -- `1AANABCDEFGH` at 0, room 0: eight tag characters
+    asked (ReadText (53 ∷ 66 ∷ 65 ∷ 66 ∷ 65 ∷ 71 ∷ 104 ∷ 112 ∷ []) 0 (9 ∷ 9 ∷ [])) (read (record { code = (C.Small 66); size = 2; start = 4; raw = 2; tags = 0 }) (0 ∷ 0 ∷ 0 ∷ 0 ∷ 0 ∷ 0 ∷ 0 ∷ 0 ∷ 0 ∷ 0 ∷ 0 ∷ []) (104 ∷ 105 ∷ [])) ∷  -- `5BABAGhp` at 0, room 2: small
+    asked (ReadText (56 ∷ 65 ∷ 65 ∷ 66 ∷ 65 ∷ 65 ∷ 65 ∷ 66 ∷ 65 ∷ 71 ∷ 104 ∷ 112 ∷ []) 0 (9 ∷ 9 ∷ [])) (read (record { code = (C.Large 66); size = 3; start = 7; raw = 2; tags = 0 }) (0 ∷ 0 ∷ 0 ∷ 0 ∷ 0 ∷ 0 ∷ 0 ∷ 0 ∷ 0 ∷ 0 ∷ 0 ∷ []) (104 ∷ 105 ∷ [])) ∷  -- `8AABAAABAGhp` at 0, room 2: large
+    asked (ReadBinary (48 ∷ 0 ∷ 1 ∷ []) 3) (refused 4 3 []) ∷  -- `MAAB` in B at 3: 4 at the end
+    asked (ReadBinary (48 ∷ 0 ∷ 1 ∷ 49 ∷ 0 ∷ 0 ∷ []) 3) (refused 8 3 []) ∷  -- `MAABMQAA` in B at 3: places in bytes
+    asked (ReadBinary (248 ∷ 0 ∷ 1 ∷ 49 ∷ 0 ∷ 0 ∷ []) 0) (refused 14 0 []) ∷  -- `-AABMQAA` in B at 0: 14
+    asked (ReadBinary (251 ∷ 240 ∷ 0 ∷ 0 ∷ 16 ∷ 0 ∷ []) 0) (refused 14 0 []) ∷  -- `-_AAABAA` in B at 0: never 7
+    asked (ReadBinary (48 ∷ 0 ∷ 1 ∷ 48 ∷ 255 ∷ 255 ∷ []) 3) (read (record { code = (C.Fixed 1 77); size = 1; start = 1; raw = 2; tags = 0 }) (0 ∷ 0 ∷ 0 ∷ 0 ∷ 0 ∷ 0 ∷ 0 ∷ 0 ∷ 0 ∷ 0 ∷ 0 ∷ []) (255 ∷ 255 ∷ [])) ∷  -- `MAABMP__` in B at 3: the part where it lies
+    asked (ReadBinary (208 ∷ 159 ∷ 192 ∷ []) 0) (read (record { code = (C.Fixed 2 74); size = 1; start = 3; raw = 0; tags = 1 }) (65 ∷ 0 ∷ 0 ∷ 0 ∷ 0 ∷ 0 ∷ 0 ∷ 0 ∷ 0 ∷ 0 ∷ 0 ∷ []) []) ∷  -- `0J_A` in B at 0: an empty part
+    asked (ReadBinary (244 ∷ 0 ∷ 1 ∷ 0 ∷ 0 ∷ 1 ∷ 0 ∷ 0 ∷ 97 ∷ []) 0) (read (record { code = (C.Large 66); size = 3; start = 8; raw = 1; tags = 0 }) (0 ∷ 0 ∷ 0 ∷ 0 ∷ 0 ∷ 0 ∷ 0 ∷ 0 ∷ 0 ∷ 0 ∷ 0 ∷ []) (97 ∷ [])) ∷  -- `9AABAAABAABh` in B at 0: behind the lead bytes
+    asked (WriteText (C.Fixed 3 65) (33 ∷ 33 ∷ 33 ∷ 33 ∷ 33 ∷ 33 ∷ 33 ∷ 33 ∷ 33 ∷ 33 ∷ 33 ∷ []) 12 [] []) (refused 6 0 []) ∷  -- no code of three characters: 6, then 12
+    asked (WriteText (C.Fixed 1 98) (33 ∷ 33 ∷ 33 ∷ 33 ∷ 33 ∷ 33 ∷ 33 ∷ 33 ∷ 33 ∷ 33 ∷ 33 ∷ []) 0 [] []) (refused 6 0 []) ∷  -- `b`: 6
+    asked (WriteText (C.Small 71) (33 ∷ 33 ∷ 33 ∷ 33 ∷ 33 ∷ 33 ∷ 33 ∷ 33 ∷ 33 ∷ 33 ∷ 33 ∷ []) 0 [] []) (refused 6 0 []) ∷  -- type G: 6
+    asked (WriteText (C.Fixed 1 88) (33 ∷ 33 ∷ 33 ∷ 33 ∷ 33 ∷ 33 ∷ 33 ∷ 33 ∷ 33 ∷ 33 ∷ 33 ∷ []) 2 [] []) (refused 12 0 []) ∷  -- `X` with two tag characters: 12, then 5
+    asked (WriteText (C.Fixed 1 88) (65 ∷ 66 ∷ 67 ∷ 33 ∷ 33 ∷ 33 ∷ 33 ∷ 33 ∷ 33 ∷ 33 ∷ 33 ∷ []) 3 (1 ∷ []) (9 ∷ 9 ∷ 9 ∷ 9 ∷ [])) (refused 12 0 (9 ∷ 9 ∷ 9 ∷ 9 ∷ [])) ∷  -- tags take no raw: 12
+    asked (WriteText (C.Fixed 1 77) (65 ∷ 33 ∷ 33 ∷ 33 ∷ 33 ∷ 33 ∷ 33 ∷ 33 ∷ 33 ∷ 33 ∷ 33 ∷ []) 1 (0 ∷ 1 ∷ []) (9 ∷ 9 ∷ 9 ∷ 9 ∷ [])) (refused 12 0 (9 ∷ 9 ∷ 9 ∷ 9 ∷ [])) ∷  -- other codes no tag characters: 12
+    asked (WriteText (C.Fixed 1 77) (33 ∷ 33 ∷ 33 ∷ 33 ∷ 33 ∷ 33 ∷ 33 ∷ 33 ∷ 33 ∷ 33 ∷ 33 ∷ []) 12 (0 ∷ 1 ∷ []) (9 ∷ 9 ∷ 9 ∷ 9 ∷ [])) (refused 12 0 (9 ∷ 9 ∷ 9 ∷ 9 ∷ [])) ∷  -- a number above 11 is 12
+    asked (WriteText (C.Fixed 1 77) (33 ∷ 33 ∷ 33 ∷ 33 ∷ 33 ∷ 33 ∷ 33 ∷ 33 ∷ 33 ∷ 33 ∷ 33 ∷ []) 0 (0 ∷ 1 ∷ 2 ∷ []) []) (refused 12 0 []) ∷  -- three bytes for `M`: 12, then 3
+    asked (WriteText (C.Fixed 1 88) (65 ∷ 33 ∷ 65 ∷ 33 ∷ 33 ∷ 33 ∷ 33 ∷ 33 ∷ 33 ∷ 33 ∷ 33 ∷ []) 3 [] []) (refused 5 1 []) ∷  -- 5 at the index among the tag characters, then 3
+    asked (WriteText (C.Fixed 1 77) (33 ∷ 33 ∷ 33 ∷ 33 ∷ 33 ∷ 33 ∷ 33 ∷ 33 ∷ 33 ∷ 33 ∷ 33 ∷ []) 0 (0 ∷ 1 ∷ []) (9 ∷ 9 ∷ 9 ∷ [])) (refused 3 0 (9 ∷ 9 ∷ 9 ∷ [])) ∷  -- 3
+    asked (WriteText (C.Fixed 1 77) (33 ∷ 33 ∷ 33 ∷ 33 ∷ 33 ∷ 33 ∷ 33 ∷ 33 ∷ 33 ∷ 33 ∷ 33 ∷ []) 0 (0 ∷ 1 ∷ []) (9 ∷ 9 ∷ 9 ∷ 9 ∷ 9 ∷ [])) (written 4 (77 ∷ 65 ∷ 65 ∷ 66 ∷ 9 ∷ [])) ∷  -- `MAAB`, bytes behind it stay
+    asked (WriteText (C.Fixed 1 88) (65 ∷ 66 ∷ 67 ∷ 33 ∷ 33 ∷ 33 ∷ 33 ∷ 33 ∷ 33 ∷ 33 ∷ 33 ∷ []) 3 [] (9 ∷ 9 ∷ 9 ∷ 9 ∷ [])) (written 4 (88 ∷ 65 ∷ 66 ∷ 67 ∷ [])) ∷  -- the places behind that number are ignored
+    asked (WriteText (C.Fixed 2 74) (65 ∷ 33 ∷ 33 ∷ 33 ∷ 33 ∷ 33 ∷ 33 ∷ 33 ∷ 33 ∷ 33 ∷ 33 ∷ []) 1 [] (9 ∷ 9 ∷ 9 ∷ 9 ∷ [])) (written 4 (48 ∷ 74 ∷ 95 ∷ 65 ∷ [])) ∷  -- `0J_A`
+    asked (WriteText (C.Fixed 1 86) (33 ∷ 33 ∷ 33 ∷ 33 ∷ 33 ∷ 33 ∷ 33 ∷ 33 ∷ 33 ∷ 33 ∷ 33 ∷ []) 0 (97 ∷ []) (9 ∷ 9 ∷ 9 ∷ 9 ∷ [])) (written 4 (86 ∷ 65 ∷ 66 ∷ 104 ∷ [])) ∷  -- `VABh`
+    asked (WriteText (C.Fixed 2 72) (33 ∷ 33 ∷ 33 ∷ 33 ∷ 33 ∷ 33 ∷ 33 ∷ 33 ∷ 33 ∷ 33 ∷ 33 ∷ []) 0 (255 ∷ 255 ∷ 255 ∷ 255 ∷ []) (9 ∷ 9 ∷ 9 ∷ 9 ∷ 9 ∷ 9 ∷ 9 ∷ 9 ∷ [])) (written 8 (48 ∷ 72 ∷ 68 ∷ 95 ∷ 95 ∷ 95 ∷ 95 ∷ 95 ∷ [])) ∷  -- `0HD_____`
+    asked (WriteText (C.Fixed 4 77) (33 ∷ 33 ∷ 33 ∷ 33 ∷ 33 ∷ 33 ∷ 33 ∷ 33 ∷ 33 ∷ 33 ∷ 33 ∷ []) 0 [] (9 ∷ 9 ∷ 9 ∷ 9 ∷ [])) (written 4 (49 ∷ 65 ∷ 65 ∷ 77 ∷ [])) ∷  -- `1AAM`
+    asked (WriteText (C.Small 66) (33 ∷ 33 ∷ 33 ∷ 33 ∷ 33 ∷ 33 ∷ 33 ∷ 33 ∷ 33 ∷ 33 ∷ 33 ∷ []) 0 [] (9 ∷ 9 ∷ 9 ∷ 9 ∷ [])) (written 4 (52 ∷ 66 ∷ 65 ∷ 65 ∷ [])) ∷  -- `4BAA`: the lead follows from the raw length
+    asked (WriteText (C.Small 66) (33 ∷ 33 ∷ 33 ∷ 33 ∷ 33 ∷ 33 ∷ 33 ∷ 33 ∷ 33 ∷ 33 ∷ 33 ∷ []) 0 (0 ∷ 104 ∷ 105 ∷ []) (9 ∷ 9 ∷ 9 ∷ 9 ∷ 9 ∷ 9 ∷ 9 ∷ 9 ∷ [])) (written 8 (52 ∷ 66 ∷ 65 ∷ 66 ∷ 65 ∷ 71 ∷ 104 ∷ 112 ∷ [])) ∷  -- `4BABAGhp`
+    asked (WriteText (C.Small 66) (33 ∷ 33 ∷ 33 ∷ 33 ∷ 33 ∷ 33 ∷ 33 ∷ 33 ∷ 33 ∷ 33 ∷ 33 ∷ []) 0 (104 ∷ 105 ∷ []) (9 ∷ 9 ∷ 9 ∷ 9 ∷ 9 ∷ 9 ∷ 9 ∷ 9 ∷ [])) (written 8 (53 ∷ 66 ∷ 65 ∷ 66 ∷ 65 ∷ 71 ∷ 104 ∷ 112 ∷ [])) ∷  -- `5BABAGhp`
+    asked (WriteText (C.Small 66) (33 ∷ 33 ∷ 33 ∷ 33 ∷ 33 ∷ 33 ∷ 33 ∷ 33 ∷ 33 ∷ 33 ∷ 33 ∷ []) 0 (97 ∷ []) (9 ∷ 9 ∷ 9 ∷ 9 ∷ 9 ∷ 9 ∷ 9 ∷ 9 ∷ [])) (written 8 (54 ∷ 66 ∷ 65 ∷ 66 ∷ 65 ∷ 65 ∷ 66 ∷ 104 ∷ [])) ∷  -- `6BABAABh`
+    asked (WriteText (C.Large 72) (33 ∷ 33 ∷ 33 ∷ 33 ∷ 33 ∷ 33 ∷ 33 ∷ 33 ∷ 33 ∷ 33 ∷ 33 ∷ []) 0 (104 ∷ 105 ∷ []) (9 ∷ 9 ∷ 9 ∷ 9 ∷ 9 ∷ 9 ∷ 9 ∷ 9 ∷ 9 ∷ 9 ∷ 9 ∷ 9 ∷ [])) (written 12 (56 ∷ 65 ∷ 65 ∷ 72 ∷ 65 ∷ 65 ∷ 65 ∷ 66 ∷ 65 ∷ 71 ∷ 104 ∷ 112 ∷ [])) ∷  -- `8AAHAAABAGhp`: the caller names large
+    asked (WriteBinary (C.Fixed 1 77) (33 ∷ 33 ∷ 33 ∷ 33 ∷ 33 ∷ 33 ∷ 33 ∷ 33 ∷ 33 ∷ 33 ∷ 33 ∷ []) 0 (0 ∷ 1 ∷ []) (9 ∷ 9 ∷ [])) (refused 3 0 (9 ∷ 9 ∷ [])) ∷  -- 3 in B
+    asked (WriteBinary (C.Fixed 1 77) (33 ∷ 33 ∷ 33 ∷ 33 ∷ 33 ∷ 33 ∷ 33 ∷ 33 ∷ 33 ∷ 33 ∷ 33 ∷ []) 0 (0 ∷ 1 ∷ []) (9 ∷ 9 ∷ 9 ∷ 9 ∷ [])) (written 3 (48 ∷ 0 ∷ 1 ∷ 9 ∷ [])) ∷  -- `MAAB` in B
+    asked (WriteBinary (C.Fixed 1 88) (65 ∷ 33 ∷ 65 ∷ 33 ∷ 33 ∷ 33 ∷ 33 ∷ 33 ∷ 33 ∷ 33 ∷ 33 ∷ []) 3 [] []) (refused 5 1 []) ∷  -- 5, then 3, in B
+    asked (WriteBinary (C.Large 66) (33 ∷ 33 ∷ 33 ∷ 33 ∷ 33 ∷ 33 ∷ 33 ∷ 33 ∷ 33 ∷ 33 ∷ 33 ∷ []) 0 (97 ∷ []) (9 ∷ 9 ∷ 9 ∷ 9 ∷ 9 ∷ 9 ∷ 9 ∷ 9 ∷ 9 ∷ [])) (written 9 (244 ∷ 0 ∷ 1 ∷ 0 ∷ 0 ∷ 1 ∷ 0 ∷ 0 ∷ 97 ∷ [])) ∷  -- `9AABAAABAABh` in B
+    []
+
+-- ---- what it means
+
+abbrev inBinary : BinaryAnswer → List ℕ → Outcome
+inBinary (TB.Written n) left = written (n .0) left
+inBinary (TB.Refused m p) left = refused m (p .0) left
+
+abbrev inText : TextAnswer → List ℕ → Outcome
+inText (TT.Written n) left = written (n .0) left
+inText (TT.Refused m p) left = refused m (p .0) left
+
+abbrev reported : Reported → List ℕ → Outcome
+reported (R.Written n) left = written n left
+reported (R.Refused m p) left = refused m p left
+
+abbrev foundText : TextFound → List ℕ → List ℕ → Outcome
+foundText (TF.Found p) tag left = read p tag left
+foundText (TF.Refused m p) tag left = refused m (p .0) left
+
+abbrev foundBinary : BinaryFound → List ℕ → List ℕ → Outcome
+foundBinary (BF.Found p) tag part = read p tag part
+foundBinary (BF.Refused m p) tag part = refused m (p .0) part
+
+abbrev wroteText : TextWritten → List ℕ → Outcome
+wroteText (TW.Written n) left = written (n .0) left
+wroteText (TW.Refused m p) left = refused m p left
+
+abbrev wroteBinary : BinaryWritten → List ℕ → Outcome
+wroteBinary (BW.Written n) left = written (n .0) left
+wroteBinary (BW.Refused m p) left = refused m p left
+
+-- what the definitions answer; to compute it is to open all of them
+unfoldable pub answered : Call → Outcome
+unfolding given toText quadletOf firstStranger textToBinary binaryLeft binaryToText textLeft refusal refusalsOf refusals be4 verdictByte
+    rowBytes refusalBytes remainderBytes concat section report reportAnswer reportLeft codeOf isPrimitive tagsOf primitiveOf judged
+    readFramed reading from placeFrom padded noTag textAnswer readText textRaw rawLeft binaryAnswer readBinary partAt W.namedFixed W.named
+    W.rawSize W.fitsRow W.rawLimit W.fitsVariable W.leadFor W.countFor W.codeSextets W.rawPrefix W.tagPrefix W.rowPrefix
+    W.variableHeader W.variablePrefix W.itemBytes W.unitsOf W.isFit W.isNamed W.writing W.writtenBytes W.textOutcome W.binaryOutcome
+    W.writeText W.writeBinary W.textItemLeft W.binaryItemLeft
+answered (ToBinary s d) = inBinary (textToBinary s (length d)) (binaryLeft (textToBinary s (length d)) s d)
+answered (ToText s d) = inText (binaryToText s (length d)) (textLeft (binaryToText s (length d)) s d)
+answered (Reports f s d) = reported (reportAnswer f s (length d)) (reportLeft (reportAnswer f s (length d)) f s d)
+answered (ReadText s at d) = foundText (readText s at (length d) .found) (readText s at (length d) .tag) (rawLeft (readText s at (length d) .found) s at d)
+answered (ReadBinary s at) = foundBinary (readBinary s at .found) (readBinary s at .tag) (partAt s at (readBinary s at .found))
+answered (WriteText code tag tags raw d) =
+    wroteText (W.writeText code tag tags raw (length d)) (W.textItemLeft (W.writeText code tag tags raw (length d)) code tag tags raw d)
+answered (WriteBinary code tag tags raw d) =
+    wroteBinary (W.writeBinary code tag tags raw (length d)) (W.binaryItemLeft (W.writeBinary code tag tags raw (length d)) code tag tags raw d)
+
+-- each call is answered so
+pub data Answers : List Asked → Type 0 where
+  end : Answers []
+  _&_ : {a : Asked} {more : List Asked} → answered (a .call) ≡ a .gives → Answers more → Answers (a ∷ more)
+
+-- ---- the claim
+
+pub calls-hold : Answers calls
+unfolding answered calls
+calls-hold = refl & refl & refl & refl & refl & refl & refl & refl & refl & refl & refl & refl & refl & refl & refl & refl & refl & refl & refl & refl & refl & refl & refl & refl & refl & refl & refl & refl & refl & refl & refl & refl & refl & refl & refl & refl & refl & refl & refl & refl & refl & refl & refl & refl & refl & refl & refl & refl & refl & refl & refl & refl & refl & refl & refl & refl & refl & refl & refl & refl & refl & refl & refl & refl & refl & refl & refl & refl & refl & refl & refl & refl & refl & refl & refl & refl & refl & refl & refl & refl & refl & refl & refl & refl & end
+
+-- ---- 1, which no table shows: "stream longer than 4,194,304 characters or 3,145,728 bytes". One that is longer by one is not whole units,
+-- nor is there room; one of just that length is not refused with it
+
+pub record LimitsHold : Type 0 where
+  pub text-long : (s : List ℕ) → length s ≡ 4194305 → textToBinary s 0 ≡ TB.Refused 1 (textOffset 0)
+  pub binary-long : (s : List ℕ) → length s ≡ 3145729 → binaryToText s 0 ≡ TT.Refused 1 (binaryOffset 0)
+  pub binary-just : (s : List ℕ) (room : ℕ) → length s ≡ 3145728 → 4194304 ≤ room → binaryToText s room ≡ TT.Written (textOffset 4194304)
+  pub report-long : (s : List ℕ) → length s ≡ 4194305 → reportAnswer text s 0 ≡ R.Refused 1 0
+  pub report-long-binary : (s : List ℕ) → length s ≡ 3145729 → reportAnswer binary s 0 ≡ R.Refused 1 0
+  pub read-long : (s : List ℕ) (at : ℕ) → length s ≡ 4194305 → readText s at 0 .found ≡ TF.Refused 1 (textOffset 0)
+  pub read-long-binary : (s : List ℕ) (at : ℕ) → length s ≡ 3145729 → readBinary s at .found ≡ BF.Refused 1 (binaryOffset 0)
+
+pub limits-hold : LimitsHold
+unfolding textToBinary binaryToText reportAnswer readText readBinary
+limits-hold = record {
+  text-long = λ s e. rw e;
+  binary-long = λ s e. rw e;
+  binary-just = λ s room e l. rw (e, le-ltb room 4194304 l);
+  report-long = λ s e. rw e;
+  report-long-binary = λ s e. rw e;
+  read-long = λ s at e. rw e;
+  read-long-binary = λ s at e. rw e;
+}
+
+-- ---- offsets: "with the four-to-three conversion between them"; within a unit the unit's start
+
+pub offsets-hold : (offsetInBinary (textOffset 8) ≡ binaryOffset 6) × (offsetInBinary (textOffset 11) ≡ binaryOffset 6)
+    × (offsetInText (binaryOffset 6) ≡ At (textOffset 8)) × (offsetInText (binaryOffset 8) ≡ At (textOffset 8))
+    × (offsetInText (binaryOffset 3145728) ≡ At (textOffset 4194304)) × (offsetInText (binaryOffset 3145729) ≡ Past)
+unfolding offsetInBinary offsetInText
+offsets-hold = (refl, refl, refl, refl, refl, refl)

@@ -1,0 +1,104 @@
+-- 01, "The walk": steps with what they find and the state they leave, as one table under a single claim: each of 13's conditions, each order
+-- of numbers that a step can tell. Text is written by its characters' numbers. What is expected is 01's word. Assumes nothing.
+use Prim.Native.Nat.{ℕ, _+_, _-_, _*_, _/_, _%_}
+use mathlib.Core.Path.{_≡_, refl}
+use mathlib.Core.List.{List, [], _∷_, _++_}
+use mathlib.Core.Bool.{Bool, true, false}
+use lib.ListN.{length, replicate}
+use Rattle.format.specs.declared.Kind.{Kind}
+use Rattle.format.specs.declared.Kind.the-variants.{Fixed, Group, Genus}
+use Rattle.format.specs.Units.{Domain, text, binary}
+use Rattle.format.specs.Registry.{oneLetter}
+use Rattle.format.specs.Deck.{given}
+use Rattle.walk.specs.declared.Walk.{Walk}
+use Rattle.walk.specs.declared.Found.the-variants as F
+use Rattle.walk.specs.declared.Stepped.{Stepped}
+use Rattle.walk.specs.Walking.{start, allBelow, slotFits, isFit, closed, movedTo, opened, past, nextOf, stopOf, judged, framedBy, frameAt}
+use Rattle.walk.specs.Walking.{stepFit, step, foundIn, stepIn}
+
+infixr 5 _&_
+-- ---- a step and what is expected of it
+
+-- sixteen slots: the ends that are given, then zeros
+abbrev pub state : List ℕ → ℕ → ℕ → Bool → Walk
+state ends depth at first = record { ends = ends ++ replicate (16 - length ends) 0; depth = depth; at = at; first = first }
+
+pub data Expected : Type 0 where
+  yields : ℕ → ℕ → ℕ → Kind → ℕ → Walk → Expected  -- offset, size, depth, kind, header's units, the next state
+  refuses : ℕ → ℕ → Expected  -- number, place; the state stays
+  ends : Expected  -- the state stays
+
+pub record Asked : Type 0 where
+  pub form : Domain
+  pub stream : List ℕ
+  pub from : Walk
+  pub gives : Expected
+
+abbrev pub asked : Domain → List ℕ → Walk → Expected → Asked
+asked d s w e = record { form = d; stream = s; from = w; gives = e }
+
+-- ---- the table
+
+unfoldable pub steps : List Asked
+steps =
+    asked text (45 ∷ 65 ∷ 65 ∷ 66 ∷ 77 ∷ 65 ∷ 65 ∷ 66 ∷ []) start (yields 0 8 0 (Group 0) 1 (state (2 ∷ []) 1 1 true)) ∷  -- `-AABMAAB`: a group is opened, and marks
+    asked text (45 ∷ 65 ∷ 65 ∷ 66 ∷ 77 ∷ 65 ∷ 65 ∷ 66 ∷ []) (state (2 ∷ []) 1 1 true) (yields 4 4 1 (Fixed (oneLetter 12 4 0 0)) 1 (state [] 0 2 false)) ∷  -- its item, and the group closes
+    asked text (45 ∷ 65 ∷ 65 ∷ 66 ∷ 77 ∷ 65 ∷ 65 ∷ 66 ∷ []) (state [] 0 2 false) ends ∷  -- the end
+    asked binary (248 ∷ 0 ∷ 1 ∷ 48 ∷ 0 ∷ 1 ∷ []) start (yields 0 6 0 (Group 0) 1 (state (2 ∷ []) 1 1 true)) ∷  -- the same in B
+    asked binary (248 ∷ 0 ∷ 1 ∷ 48 ∷ 0 ∷ 1 ∷ []) (state (2 ∷ []) 1 1 true) (yields 3 3 1 (Fixed (oneLetter 12 4 0 0)) 1 (state [] 0 2 false)) ∷
+    asked text (45 ∷ 68 ∷ 65 ∷ 66 ∷ 77 ∷ 65 ∷ 65 ∷ 66 ∷ []) start (yields 0 8 0 (Group 3) 1 (state (2 ∷ []) 1 1 false)) ∷  -- `-DABMAAB`: opened, no mark
+    asked text (45 ∷ 67 ∷ 65 ∷ 66 ∷ 77 ∷ 65 ∷ 65 ∷ 66 ∷ []) start (yields 0 8 0 (Group 2) 1 (state (2 ∷ []) 1 1 true)) ∷  -- `-CABMAAB`: the last that marks
+    asked text (45 ∷ 65 ∷ 65 ∷ 65 ∷ []) start (yields 0 4 0 (Group 0) 1 (state [] 0 1 false)) ∷  -- `-AAA`: an empty group closes at once, and sets no mark
+    asked text (45 ∷ 65 ∷ 65 ∷ 66 ∷ 45 ∷ 65 ∷ 65 ∷ 65 ∷ []) (state (2 ∷ []) 1 1 true) (yields 4 4 1 (Group 0) 1 (state [] 0 2 false)) ∷  -- `-AAB-AAA`: both close
+    asked text (45 ∷ 65 ∷ 65 ∷ 67 ∷ 77 ∷ 65 ∷ 65 ∷ 66 ∷ 77 ∷ 65 ∷ 65 ∷ 66 ∷ []) (state (3 ∷ []) 1 1 true) (yields 4 4 1 (Fixed (oneLetter 12 4 0 0)) 1 (state (3 ∷ []) 1 2 false)) ∷  -- `-AACMAABMAAB`: every other yielding step clears the mark
+    asked text (45 ∷ 75 ∷ 65 ∷ 66 ∷ 77 ∷ 65 ∷ 65 ∷ 66 ∷ []) start (yields 0 8 0 (Group 10) 1 (state [] 0 2 false)) ∷  -- `-KABMAAB`: an opaque group is stepped over whole
+    asked text (45 ∷ 76 ∷ 65 ∷ 66 ∷ 77 ∷ 65 ∷ 65 ∷ 66 ∷ []) start (yields 0 8 0 (Group 11) 1 (state [] 0 2 false)) ∷
+    asked text (45 ∷ 45 ∷ 65 ∷ 65 ∷ 65 ∷ 65 ∷ 65 ∷ 66 ∷ 77 ∷ 65 ∷ 65 ∷ 66 ∷ []) start (yields 0 12 0 (Group 0) 2 (state (3 ∷ []) 1 2 true)) ∷  -- `--AAAAABMAAB`: a large group
+    asked text (45 ∷ 65 ∷ 65 ∷ 67 ∷ 45 ∷ 95 ∷ 65 ∷ 65 ∷ 65 ∷ 66 ∷ 65 ∷ 65 ∷ []) (state (3 ∷ []) 1 1 true) (refuses 7 4) ∷  -- `-AAC-_AAABAA`: 7 where the mark is set
+    asked text (45 ∷ 65 ∷ 65 ∷ 67 ∷ 45 ∷ 95 ∷ 65 ∷ 65 ∷ 65 ∷ 66 ∷ 65 ∷ 65 ∷ []) (state (3 ∷ []) 1 1 false) (yields 4 8 1 Genus 2 (state [] 0 3 false)) ∷  -- and not where it is clear
+    asked text (45 ∷ 95 ∷ 65 ∷ 65 ∷ 65 ∷ 66 ∷ 65 ∷ 65 ∷ []) start (refuses 7 0) ∷  -- 7 at top level
+    asked text (45 ∷ 65 ∷ 65 ∷ 66 ∷ 77 ∷ 81 ∷ 65 ∷ 65 ∷ []) start (yields 0 8 0 (Group 0) 1 (state (2 ∷ []) 1 1 true)) ∷  -- `-AABMQAA`: of a group only 11 and, if opaque, 5 is judged
+    asked text (45 ∷ 65 ∷ 65 ∷ 66 ∷ 77 ∷ 81 ∷ 65 ∷ 65 ∷ []) (state (2 ∷ []) 1 1 true) (refuses 8 4) ∷  -- then 8, with the place in the stream
+    asked text (45 ∷ 75 ∷ 65 ∷ 66 ∷ 77 ∷ 33 ∷ 65 ∷ 66 ∷ []) start (refuses 5 5) ∷  -- `-KABM!AB`: opaque, 5
+    asked text (45 ∷ 75 ∷ 65 ∷ 66 ∷ 77 ∷ 33 ∷ 65 ∷ 66 ∷ []) (state (2 ∷ 2 ∷ 2 ∷ 2 ∷ 2 ∷ 2 ∷ 2 ∷ 2 ∷ 2 ∷ 2 ∷ 2 ∷ 2 ∷ 2 ∷ 2 ∷ 2 ∷ []) 15 0 false) (refuses 5 5) ∷  -- within fifteen groups
+    asked text (45 ∷ 75 ∷ 65 ∷ 66 ∷ 77 ∷ 33 ∷ 65 ∷ 66 ∷ []) (state (2 ∷ 2 ∷ 2 ∷ 2 ∷ 2 ∷ 2 ∷ 2 ∷ 2 ∷ 2 ∷ 2 ∷ 2 ∷ 2 ∷ 2 ∷ 2 ∷ 2 ∷ 2 ∷ []) 16 0 false) (refuses 11 0) ∷  -- within sixteen: 11, then 5
+    asked text (45 ∷ 75 ∷ 65 ∷ 66 ∷ 77 ∷ 65 ∷ 65 ∷ 66 ∷ []) (state (1 ∷ 1 ∷ 1 ∷ 1 ∷ 1 ∷ 1 ∷ 1 ∷ 1 ∷ 1 ∷ 1 ∷ 1 ∷ 1 ∷ 1 ∷ 1 ∷ 1 ∷ 1 ∷ []) 16 0 false) (refuses 4 0) ∷  -- 4, which is framing, then 11
+    asked text (77 ∷ 65 ∷ 65 ∷ 66 ∷ 77 ∷ 65 ∷ []) (state [] 0 1 false) (refuses 4 4) ∷  -- `MAABMA`: a unit that is not whole
+    asked text (77 ∷ 65 ∷ 65 ∷ 66 ∷ 48 ∷ 72 ∷ 69 ∷ 65 ∷ 65 ∷ 33 ∷ 65 ∷ 65 ∷ []) (state [] 0 1 false) (refuses 5 9) ∷  -- 5 behind the header, then 8
+    asked text (77 ∷ 65 ∷ 65 ∷ 66 ∷ []) (state (1 ∷ []) 1 0 false) (yields 0 4 1 (Fixed (oneLetter 12 4 0 0)) 1 (state [] 0 1 false)) ∷
+    asked text (77 ∷ 65 ∷ 65 ∷ 66 ∷ 77 ∷ 65 ∷ 65 ∷ 66 ∷ []) (state (2 ∷ 2 ∷ 2 ∷ 2 ∷ 2 ∷ 2 ∷ 2 ∷ 2 ∷ 2 ∷ 2 ∷ 2 ∷ 2 ∷ 2 ∷ 2 ∷ 2 ∷ 2 ∷ []) 17 0 false) (refuses 13 0) ∷  -- 13: more than 16 open
+    asked text (77 ∷ 65 ∷ 65 ∷ 66 ∷ 77 ∷ 65 ∷ 65 ∷ 66 ∷ []) (state (2 ∷ 2 ∷ []) 1 0 false) (refuses 13 0) ∷  -- an unused slot not 0
+    asked text (77 ∷ 65 ∷ 65 ∷ 66 ∷ 77 ∷ 65 ∷ 65 ∷ 66 ∷ []) (state (1 ∷ []) 1 1 false) (refuses 13 0) ∷  -- the position not before the innermost end
+    asked text (77 ∷ 65 ∷ 65 ∷ 66 ∷ 77 ∷ 65 ∷ 65 ∷ 66 ∷ []) (state [] 0 3 false) (refuses 13 0) ∷  -- or past the stream
+    asked text (77 ∷ 65 ∷ 65 ∷ 66 ∷ 77 ∷ 65 ∷ 65 ∷ 66 ∷ []) (state (1 ∷ 2 ∷ []) 2 0 false) (refuses 13 0) ∷  -- an inner end past its outer
+    asked text (77 ∷ 65 ∷ 65 ∷ 66 ∷ 77 ∷ 65 ∷ 65 ∷ 66 ∷ []) (state (3 ∷ []) 1 0 false) (refuses 13 0) ∷  -- the outermost past the stream
+    asked text (77 ∷ 65 ∷ 65 ∷ 66 ∷ 77 ∷ 65 ∷ 65 ∷ 66 ∷ []) (state [] 0 0 true) (refuses 13 0) ∷  -- the first-item mark set with none open
+    asked text (77 ∷ 65 ∷ 65 ∷ 66 ∷ 77 ∷ 65 ∷ 65 ∷ 66 ∷ []) (state [] 0 2 true) (refuses 13 0) ∷  -- 13, then the end
+    asked text (77 ∷ 65 ∷ 65 ∷ 66 ∷ 77 ∷ 65 ∷ 65 ∷ 66 ∷ []) (state (2 ∷ 2 ∷ []) 2 0 false) (yields 0 4 2 (Fixed (oneLetter 12 4 0 0)) 1 (state (2 ∷ 2 ∷ []) 2 1 false)) ∷  -- equal ends are fit
+    asked text (77 ∷ 65 ∷ 65 ∷ 66 ∷ 77 ∷ 65 ∷ 65 ∷ 66 ∷ []) (state (2 ∷ 2 ∷ []) 2 1 false) (yields 4 4 2 (Fixed (oneLetter 12 4 0 0)) 1 (state [] 0 2 false)) ∷  -- and close together
+    asked text (33 ∷ 65 ∷ 65 ∷ 66 ∷ []) (state [] 0 0 true) (refuses 13 0) ∷  -- 13, then 5
+    []
+
+-- ---- what it means
+
+abbrev expected : Expected → Walk → Stepped
+expected (yields o n e k h next) w = record { next = next; found = F.Item o n e k h }
+expected (refuses m p) w = record { next = w; found = F.Refused m p }
+expected ends w = record { next = w; found = F.End }
+
+-- what the definition gives; to compute it is to open all of it
+unfoldable pub stepped : Domain → List ℕ → Walk → Stepped
+unfolding given start allBelow slotFits isFit closed movedTo opened past nextOf stopOf judged framedBy frameAt stepFit step foundIn stepIn
+stepped d xs w = stepIn d xs w
+
+-- each step is so
+pub data Steps : List Asked → Type 0 where
+  end : Steps []
+  _&_ : {a : Asked} {more : List Asked} → stepped (a .form) (a .stream) (a .from) ≡ expected (a .gives) (a .from) → Steps more
+      → Steps (a ∷ more)
+
+-- ---- the claim
+
+pub steps-hold : Steps steps
+unfolding stepped steps
+steps-hold = refl & refl & refl & refl & refl & refl & refl & refl & refl & refl & refl & refl & refl & refl & refl & refl & refl & refl & refl & refl & refl & refl & refl & refl & refl & refl & refl & refl & refl & refl & refl & refl & refl & refl & refl & refl & end
