@@ -9,7 +9,7 @@ ghost use Prim.Native.Nat.{_-_, _*_, _<_, _≤_};
 ghost use Rattle.format.specs.declared.Verdict.the-variants as Verdict;
 ghost use lib.ListN.{getD, take};
 ghost use Rattle.format.specs.Units.{textSextets};
-ghost use Rattle.format.specs.Registry.{isOpaque, zeroBitsOf, prepadOf};
+ghost use Rattle.format.specs.Registry.{zeroBitsOf, prepadOf};
 ghost use Rattle.format.specs.Judging.{andThen, behind, hasLead, zeroBits, prepadRight};
 ghost use Rattle.framing.specs.Heads.{unitOf, headOf};
 ghost use Rattle.judging.specs.Own.{fixedChecks, variableChecks, groupOwn, ownBy, toldBy};
@@ -184,14 +184,6 @@ fn variable_checks(lead: u8, count: usize, h: usize, cs: [u8; 12]) -> Verdict
     Verdict::Accepted
 }
 
-// ---- groups
-
-fn is_opaque(letter: u8) -> bool
-    ensures { λ r. ⌜ r ≡ isOpaque letter ⌝ }
-{
-    if letter == 10 { true } else { letter == 11 }
-}
-
 // ---- 5 behind the header, in text
 
 fn behind_text(item: &[u8], h: usize) -> Verdict
@@ -247,7 +239,7 @@ pub fn own_text(kind: Kind, h: usize, n: usize, cs: [u8; 12], item: &[u8], level
                     place: 0,
                 };
             }
-            if is_opaque(letter) {
+            if registry::is_opaque(letter) {
                 behind_text(item, h)
             } else {
                 Verdict::Accepted

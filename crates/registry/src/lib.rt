@@ -4,7 +4,7 @@ use format::Opening;
 ghost use mathlib.Core.Path.{_≡_};
 ghost use Prim.Native.Nat.{_+_, _*_, _<_};
 ghost use lib.ListN.{getD};
-ghost use Rattle.format.specs.Registry.{isType, opening, headerUnits, extent};
+ghost use Rattle.format.specs.Registry.{isOpaque, isOverrideable, isType, opening, headerUnits, extent};
 ghost use Rattle.registry.specs.Parts.{pad0Opening, smallVariable, largeVariable, groupOpening};
 
 fn wide(x: u8) -> usize
@@ -22,6 +22,22 @@ fn pad0(b: u8, c: u8, d: u8) -> Opening
         }
     }
     Opening::Unknown
+}
+
+// ---- letters
+
+// Whether the contents of the groups of a letter are no items: `-K` and `-L`.
+pub fn is_opaque(letter: u8) -> bool
+    ensures { λ r. ⌜ r ≡ isOpaque letter ⌝ }
+{
+    if letter == 10 { true } else { letter == 11 }
+}
+
+// Whether 7 is asked of the first item of the groups of a letter: `-A`, `-B` and `-C`.
+pub fn is_overrideable(letter: u8) -> bool
+    ensures { λ r. ⌜ r ≡ isOverrideable letter ⌝ }
+{
+    letter < 3
 }
 
 // Whether a sextet is a variable type's letter.

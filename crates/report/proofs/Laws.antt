@@ -20,7 +20,7 @@ use Rattle.claims.specs.Room.{report-fits}
 use Rattle.runs.specs.Levels.{Clear, clear-less}
 use Rattle.report_first.specs.First.{Lent}
 use Rattle.report_rows.specs.Stores.{put, put-fits, row-long, be4-long}
-use Rattle.report_rows.specs.Filling.{reportOf, filled-start, filled-few, filled-counts, stop-rows, end-rows, stop-all, end-all}
+use Rattle.report_filling.specs.Filling.{reportOf, filled-start, filled-few, filled-counts, stop-rows, end-rows, stop-all, end-all}
 use Rattle.report_turn.specs.declared.Turn.{Turn}
 use Rattle.report_turn.specs.declared.Turn.the-variants.{Stored, Rest}
 use Rattle.report_turn.specs.Turns.{Fill, Filling, After, Turned}

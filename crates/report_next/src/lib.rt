@@ -58,7 +58,7 @@ pub fn is_entered(kind: Kind) -> bool
             lead: _,
             count: _,
         } => false,
-        Kind::Group { letter } => if letter == 10 { false } else { letter != 11 },
+        Kind::Group { letter } => !registry::is_opaque(letter),
         Kind::Genus => false,
     }
 }
@@ -74,7 +74,7 @@ pub fn is_ruled(kind: Kind) -> bool
             lead: _,
             count: _,
         } => false,
-        Kind::Group { letter } => letter < 3,
+        Kind::Group { letter } => registry::is_overrideable(letter),
         Kind::Genus => false,
     }
 }

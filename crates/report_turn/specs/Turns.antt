@@ -10,7 +10,7 @@ use Rattle.format.specs.Report.{rowsIn, frameIn, judgeIn, rowBytes}
 use Rattle.laws.specs.Domains.{reader}
 use Rattle.laws.specs.Frames.{frames}
 use Rattle.report_rows.specs.Stores.{row-long}
-use Rattle.report_rows.specs.Filling.{Filled}
+use Rattle.report_filling.specs.Filling.{Filled}
 use Rattle.report_turn.specs.declared.Turn.{Turn}
 use Rattle.report_turn.specs.declared.Turn.the-variants.{Stored, Rest}
 

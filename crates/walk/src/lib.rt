@@ -13,7 +13,6 @@ ghost use lib.ListN.{getD, length};
 ghost use lib.Dec.{ltb};
 ghost use Rattle.base.specs.Pick.{pick};
 ghost use Rattle.format.specs.declared.Verdict.the-variants as Verdict;
-ghost use Rattle.format.specs.Registry.{isOpaque};
 ghost use Rattle.format.specs.Units.{text, binary, textSextets, binarySextets};
 ghost use Rattle.format.specs.Judging.{maxDepth};
 ghost use Rattle.walk.specs.declared.Found.the-variants as Found;
@@ -133,18 +132,12 @@ fn slots_fit(ends: &[usize; MAX_DEPTH], depth: usize, n: usize) -> bool
 
 // ---- what a kind is to the walk
 
-fn is_opaque(letter: u8) -> bool
-    ensures { λ r. ⌜ r ≡ isOpaque letter ⌝ }
-{
-    if letter == 10 { true } else { letter == 11 }
-}
-
 // Whether an item's contents are items.
 fn is_entered(kind: Kind) -> bool
     ensures { λ r. ⌜ r ≡ isEntered kind ⌝ }
 {
     match kind {
-        Kind::Group { letter } => !is_opaque(letter),
+        Kind::Group { letter } => !registry::is_opaque(letter),
         Kind::Fixed(_) => false,
         Kind::Variable {
             letter: _,
@@ -160,7 +153,7 @@ fn is_marking(kind: Kind) -> bool
     ensures { λ r. ⌜ r ≡ isMarking kind ⌝ }
 {
     match kind {
-        Kind::Group { letter } => letter < 3,
+        Kind::Group { letter } => registry::is_overrideable(letter),
         Kind::Fixed(_) => false,
         Kind::Variable {
             letter: _,

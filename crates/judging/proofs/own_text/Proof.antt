@@ -9,7 +9,7 @@ use Rattle.judging.proofs.own_text.Lts as lts
 use Rattle.judging.proofs.after.Reads as after-reads
 use Rattle.judging.proofs.behind_text.Reads as behind-text-reads
 use Rattle.judging.proofs.fixed_checks.Reads as fixed-checks-reads
-use Rattle.judging.proofs.is_opaque.Reads as is-opaque-reads
+use Rattle.registry.proofs.is_opaque.Reads as is-opaque-reads
 use Rattle.judging.proofs.variable_checks.Reads as variable-checks-reads
 
 -- src/lib.rt:227:21

@@ -1,43 +1,37 @@
 use Rattle.report_next.specs.Next.{isRuled}
-use Rattle.format.specs.Registry.{isOverrideable}
 use borrow.Author.Needs.{needs}
 use Rattle.report_next.proofs.is_ruled.Statement.{statement}
 use Rattle.report_next.proofs.is_ruled.Tie as tie
 use Rattle.report_next.proofs.is_ruled.Reads as reads
 use Rattle.report_next.proofs.is_ruled.Lts as lts
 
--- src/lib.rt:75:27
 enum-told : tie.Need-enum-told
 enum-told c = search needs
 
--- src/lib.rt:80:14
 enum-told-2 : tie.Need-enum-told-2
 enum-told-2 c = search needs
 
--- src/lib.rt:81:23
 enum-known-kind : tie.Need-enum-known-kind
 enum-known-kind c = search needs
 
--- src/lib.rt:82:24
+is-overrideable-requires : tie.Need-is-overrideable-requires
+is-overrideable-requires c κs = search needs
+
 enum-told-3 : tie.Need-enum-told-3
 enum-told-3 c = search needs
 
--- src/lib.rt:71:1
 returns : tie.Need-returns
 unfolding isRuled
 returns c = rw (c .enum-told .given .1)
 
--- src/lib.rt:71:1
 returns-2 : tie.Need-returns-2
 unfolding isRuled
 returns-2 c = rw (c .enum-told2 .given .1)
 
--- src/lib.rt:71:1
 returns-3 : tie.Need-returns-3
-unfolding isRuled isOverrideable
-returns-3 c = rw (c .before .kind .given .1)
+unfolding isRuled
+returns-3 c = rw (c .before .before .kind .given .1, c .is-overrideable .ensures)
 
--- src/lib.rt:71:1
 returns-4 : tie.Need-returns-4
 unfolding isRuled
 returns-4 c = rw (c .enum-told3 .given .1)
@@ -49,6 +43,7 @@ is-ruled-spec =
     enum-told
     enum-told-2
     enum-known-kind
+    is-overrideable-requires
     enum-told-3
     returns
     returns-2

@@ -1,5 +1,4 @@
 -- `walk::is_marking` meets its contract. Assumes nothing.
-use Rattle.format.specs.Registry.{isOverrideable}
 use Rattle.walk.specs.Stepping.{isMarking}
 use borrow.Author.Needs.{needs}
 use Rattle.walk.proofs.is_marking.Statement.{statement}
@@ -7,6 +6,9 @@ use Rattle.walk.proofs.is_marking.Tie as tie
 
 enum-known-kind : tie.Need-enum-known-kind
 enum-known-kind c = search needs
+
+is-overrideable-requires : tie.Need-is-overrideable-requires
+is-overrideable-requires c κs = search needs
 
 enum-told : tie.Need-enum-told
 enum-told c = search needs
@@ -18,8 +20,8 @@ enum-told-3 : tie.Need-enum-told-3
 enum-told-3 c = search needs
 
 returns : tie.Need-returns
-unfolding isMarking isOverrideable
-returns c = rw (c .before .kind .given .1)
+unfolding isMarking
+returns c = rw (c .before .before .kind .given .1, c .is-overrideable .ensures)
 
 returns-2 : tie.Need-returns-2
 unfolding isMarking
@@ -38,6 +40,7 @@ is-marking-spec =
     tie.close
     (tie.spec
     enum-known-kind
+    is-overrideable-requires
     enum-told
     enum-told-2
     enum-told-3

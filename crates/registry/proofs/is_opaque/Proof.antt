@@ -1,8 +1,7 @@
--- `walk::is_opaque` meets its contract. Assumes nothing.
 use borrow.Author.Tests.{eq-eqb, ne-eqb}
 use Rattle.format.specs.Registry.{isOpaque}
-use Rattle.walk.proofs.is_opaque.Statement.{statement}
-use Rattle.walk.proofs.is_opaque.Tie as tie
+use Rattle.registry.proofs.is_opaque.Statement.{statement}
+use Rattle.registry.proofs.is_opaque.Tie as tie
 
 returns : tie.Need-returns
 unfolding isOpaque
