@@ -4,22 +4,19 @@ use format::BinaryOffset;
 use format::Framed;
 use format::Kind;
 use format::TextOffset;
-use format::Verdict;
 use judging::MAX_DEPTH;
 ghost use mathlib.Core.Path.{_≡_};
 ghost use mathlib.Core.Bool.{true};
 ghost use Prim.Native.Nat.{_+_, _*_, _/_, _%_, _<_, _≤_};
-ghost use lib.ListN.{getD, length};
+ghost use lib.ListN.{length};
 ghost use lib.Dec.{ltb};
 ghost use Rattle.base.specs.Pick.{pick};
-ghost use Rattle.format.specs.declared.Verdict.the-variants as Verdict;
 ghost use Rattle.format.specs.Units.{text, binary, textSextets, binarySextets};
 ghost use Rattle.format.specs.Judging.{maxDepth};
 ghost use Rattle.walk.specs.declared.Found.the-variants as Found;
 ghost use Rattle.walk.specs.Walking.{start, allBelow, slotFits, isFit, movedTo, nextOf, stopOf, stepFit, foundIn};
 ghost use Rattle.walk.specs.Walking.{textItem, textStep, binaryItem, binaryStep};
-ghost use Rattle.walk.specs.Stepping.{finished, entered, isEntered, isMarking, barredBy, frameHead, ownOf, behindOf};
-ghost use Rattle.walk.specs.Stepping.{foundBy, partStep, reach, Slotted, Ready, Within, InReach};
+ghost use Rattle.walk.specs.Stepping.{finished, entered, barredBy, isAsked, foundBy, reach, Slotted, Ready, InReach};
 
 // The longest streams: 1.
 const MAX_CHARACTERS: usize = 4194304;
@@ -128,75 +125,6 @@ fn slots_fit(ends: &[usize; MAX_DEPTH], depth: usize, n: usize) -> bool
         k = k + 1;
     }
     true
-}
-
-// ---- what a kind is to the walk
-
-// Whether an item's contents are items.
-fn is_entered(kind: Kind) -> bool
-    ensures { λ r. ⌜ r ≡ isEntered kind ⌝ }
-{
-    match kind {
-        Kind::Group { letter } => !registry::is_opaque(letter),
-        Kind::Fixed(_) => false,
-        Kind::Variable {
-            letter: _,
-            lead: _,
-            count: _,
-        } => false,
-        Kind::Genus => false,
-    }
-}
-
-// Whether 7 is asked of its first item: `-A` `-B` `-C`.
-fn is_marking(kind: Kind) -> bool
-    ensures { λ r. ⌜ r ≡ isMarking kind ⌝ }
-{
-    match kind {
-        Kind::Group { letter } => registry::is_overrideable(letter),
-        Kind::Fixed(_) => false,
-        Kind::Variable {
-            letter: _,
-            lead: _,
-            count: _,
-        } => false,
-        Kind::Genus => false,
-    }
-}
-
-// ---- a framed item's own checks, in either form
-
-// The part starts with the item, and cs are its first sextets.
-fn verdict_text(framed: Framed, cs: [u8; 12], part: &[u8], levels: usize) -> Verdict
-    requires { ⌜ Within (length (now part) / 4) framed ⌝ }
-    ensures { λ r. ⌜ r ≡ ownOf framed cs (behindOf framed (textSextets (now (part .entry)))) levels ⌝ }
-{
-    match framed {
-        Framed::Item { kind, head, size } => {
-            let own = judging::within(cs, size);
-            let to = 4 * size;
-            judging::own_text(kind, head, size, own, &part[..to], levels)
-        }
-        Framed::Unframed {
-            number: _,
-            place: _,
-        } => Verdict::Accepted,
-    }
-}
-
-fn verdict_binary(framed: Framed, cs: [u8; 12], levels: usize) -> Verdict
-    ensures { λ r. ⌜ r ≡ ownOf framed cs Verdict.Accepted levels ⌝ }
-{
-    match framed {
-        Framed::Item { kind, head, size } => {
-            let own = judging::within(cs, size);
-            judging::own_binary(kind, head, size, own, levels)
-        }
-        Framed::Unframed {
-            number: _,
-            place: _,
-        } => Verdict::Accepted,
-    }
 }
 
 // ---- units and sextets as offsets of a form
@@ -357,17 +285,11 @@ impl Walk {
         if self.is_fit(n) { 0 } else { 13 }
     }
 
-    // The item with these first sextets, which ends within len units. 7 is asked at top level, and where the mark is set.
-    fn frame_next(self, cs: [u8; 12], len: usize) -> Framed
-        ensures { λ r. ⌜ r ≡ frameHead self (λ i. getD cs i 0) len ⌝ }
+    // 7 is asked at top level, and where the mark is set.
+    fn is_asked(self) -> bool
+        ensures { λ r. ⌜ r ≡ isAsked self ⌝ }
     {
-        if self.depth == 0 {
-            return framing::frame_ruled_head(cs, len);
-        }
-        if self.first {
-            return framing::frame_ruled_head(cs, len);
-        }
-        framing::frame_head(cs, len)
+        if self.depth == 0 { true } else { self.first }
     }
 
     // The state behind an item that is yielded.
@@ -376,24 +298,41 @@ impl Walk {
         ensures { λ r. ⌜ r ≡ nextOf self kind head size ⌝ }
     {
         let at = self.at;
-        if is_entered(kind) {
-            let mark = is_marking(kind);
+        if report_next::is_entered(kind) {
+            let mark = report_next::is_ruled(kind);
             return self.open_group(at + head, at + size, mark).close_finished();
         }
         self.moved_to(at + size).close_finished()
     }
 
-    // A refusal at a place so many sextets from the position: the state stays as it was.
-    fn refused(self, number: u8, place: usize) -> Stepped
-        requires { ⌜ (self .at ≤ reach) × (place ≤ reach) ⌝ }
-        ensures { λ r. ⌜ r ≡ record { next = self; found = Found.Refused number (4 * self .at + place) } ⌝ }
+    // What is told of the next item, framed and judged by its own checks, or of its refusal, at which the state stays as it was.
+    fn yielded(self, item: Framed) -> Stepped
+        requires { ⌜ (self .depth ≤ maxDepth) × (self .at ≤ reach) × Ready self item ⌝ }
+        ensures { λ r. ⌜ r ≡ foundBy self item ⌝ }
     {
-        Stepped {
-            next: self,
-            found: Found::Refused {
-                number,
-                place: 4 * self.at + place,
+        match item {
+            Framed::Unframed { number, place } => Stepped {
+                next: self,
+                found: Found::Refused {
+                    number,
+                    place: 4 * self.at + place,
+                },
             },
+            Framed::Item { kind, head, size } => {
+                let next = self.past_item(kind, head, size);
+                let offset = self.at;
+                let depth = self.depth;
+                Stepped {
+                    next,
+                    found: Found::Item {
+                        offset,
+                        size,
+                        depth,
+                        kind,
+                        head,
+                    },
+                }
+            }
         }
     }
 
@@ -403,7 +342,13 @@ impl Walk {
         ensures { λ r. ⌜ r ≡ record { next = self; found = pick tail (Found.Refused 4 (4 * self .at)) Found.End } ⌝ }
     {
         if tail {
-            return self.refused(4, 0);
+            return Stepped {
+                next: self,
+                found: Found::Refused {
+                    number: 4,
+                    place: 4 * self.at,
+                },
+            };
         }
         Stepped {
             next: self,
@@ -411,47 +356,7 @@ impl Walk {
         }
     }
 
-    // What framing and the own checks make of the next item.
-    fn yielded(self, framed: Framed, v: Verdict) -> Stepped
-        requires { ⌜ (self .depth ≤ maxDepth) × (self .at ≤ reach) × Ready self framed v ⌝ }
-        ensures { λ r. ⌜ r ≡ foundBy self framed v ⌝ }
-    {
-        match framed {
-            Framed::Unframed { number, place } => self.refused(number, place),
-            Framed::Item { kind, head, size } => match v {
-                Verdict::Refused { number, place } => self.refused(number, place),
-                Verdict::Accepted => {
-                    let next = self.past_item(kind, head, size);
-                    let offset = self.at;
-                    let depth = self.depth;
-                    Stepped {
-                        next,
-                        found: Found::Item {
-                            offset,
-                            size,
-                            depth,
-                            kind,
-                            head,
-                        },
-                    }
-                }
-            },
-        }
-    }
-
     // ---- a step over a text
-
-    // The part runs from the position to where the innermost group ends.
-    fn part_text(self, part: &[u8]) -> Stepped
-        requires { ⌜ (self .depth ≤ maxDepth) × (self .at ≤ reach) × (length (now part) ≤ text .limit) ⌝ }
-        ensures { λ r. ⌜ r ≡ partStep self (textSextets (now (part .entry))) ⌝ }
-    {
-        let cs = framing::text_head(part);
-        let framed = self.frame_next(cs, part.len() / 4);
-        let levels = MAX_DEPTH - self.depth;
-        let v = verdict_text(framed, cs, part, levels);
-        self.yielded(framed, v)
-    }
 
     // The step of a state that fits, without the test, so that a caller that tested once need not again. Offset and size are in
     // units, the place in sextets.
@@ -464,9 +369,11 @@ impl Walk {
         if at == n {
             return self.ended(0 < s.len() % 4);
         }
-        let from = at * 4;
-        let to = self.stop(n) * 4;
-        self.part_text(&s[from..to])
+        let from = 4 * at;
+        let to = 4 * self.stop(n);
+        let levels = MAX_DEPTH - self.depth;
+        let item = report_next::next_text(&s[from..to], self.is_asked(), levels);
+        self.yielded(item)
     }
 
     // The next item of a text at any depth, the first refusal or the end, with the next state.
@@ -494,17 +401,6 @@ impl Walk {
 
     // ---- a step over a binary
 
-    fn part_binary(self, part: &[u8]) -> Stepped
-        requires { ⌜ (self .depth ≤ maxDepth) × (self .at ≤ reach) × (length (now part) ≤ binary .limit) ⌝ }
-        ensures { λ r. ⌜ r ≡ partStep self (binarySextets (now (part .entry))) ⌝ }
-    {
-        let cs = framing::binary_head(part);
-        let framed = self.frame_next(cs, part.len() / 3);
-        let levels = MAX_DEPTH - self.depth;
-        let v = verdict_binary(framed, cs, levels);
-        self.yielded(framed, v)
-    }
-
     fn step_fit_binary(self, s: &[u8]) -> Stepped
         requires { ⌜ (length (now s) ≤ binary .limit) × (isFit self (length (now s) / 3) ≡ true) ⌝ }
         ensures { λ r. ⌜ r ≡ stepFit (binarySextets (now (s .entry))) (length (now (s .entry)) / 3) (ltb 0 (length (now (s .entry)) % 3)) self ⌝ }
@@ -514,9 +410,11 @@ impl Walk {
         if at == n {
             return self.ended(0 < s.len() % 3);
         }
-        let from = at * 3;
-        let to = self.stop(n) * 3;
-        self.part_binary(&s[from..to])
+        let from = 3 * at;
+        let to = 3 * self.stop(n);
+        let levels = MAX_DEPTH - self.depth;
+        let item = report_next::next_binary(&s[from..to], self.is_asked(), levels);
+        self.yielded(item)
     }
 
     // The same of a binary.

@@ -8,8 +8,8 @@ use Rattle.walk.proofs.Walk.past_item.Tie as tie
 is-entered-requires : tie.Need-is-entered-requires
 is-entered-requires c κs = search needs
 
-is-marking-requires : tie.Need-is-marking-requires
-is-marking-requires c κs = search needs
+is-ruled-requires : tie.Need-is-ruled-requires
+is-ruled-requires c κs = search needs
 
 add-open-group : tie.Need-add-open-group
 add-open-group c = search needs
@@ -27,7 +27,7 @@ returns : tie.Need-returns
 returns c =
     let p = c .before .before .before .before .before .pre in
     let t = sym (c .before .before .before .before .is-entered .ensures) ∙ c .before .before .before .if1 .taken in
-    enters _ _ _ _ _ _ (p .0) (c .close-finished .ensures) (p .4) t _ (c .before .before .is-marking .ensures) (c .before .open-group .ensures)
+    enters _ _ _ _ _ _ (p .0) (c .close-finished .ensures) (p .4) t _ (c .before .before .is-ruled .ensures) (c .before .open-group .ensures)
 
 add-moved-to : tie.Need-add-moved-to
 add-moved-to c = search needs
@@ -49,7 +49,7 @@ past-item-spec =
     tie.close
     (tie.spec
     is-entered-requires
-    is-marking-requires
+    is-ruled-requires
     add-open-group
     add-open-group-2
     open-group-requires

@@ -1,10 +1,10 @@
 -- `walk::Walk::step_fit_text` meets its contract. Assumes nothing.
 use native.Mathlib.Omega.{arith}
-use lib.ListN.{length-take}
 use Rattle.format.specs.Units.{text}
 use Rattle.laws.specs.Domains.{text-reader}
+use Rattle.report_next.proofs.Laws.{text-part}
 use Rattle.walk.proofs.Fitting.{fit-few, going}
-use Rattle.walk.proofs.Steps.{ends, goes-on}
+use Rattle.walk.proofs.Steps.{ends, goes-ready, goes-on}
 use borrow.Author.Needs.{needs}
 use Rattle.walk.proofs.Walk.step_fit_text.Statement.{statement}
 use Rattle.walk.proofs.Walk.step_fit_text.Tie as tie
@@ -26,27 +26,39 @@ stop-requires c κs = fit-few _ _ (c .before .before .pre .1)
 mul-to : tie.Need-mul-to
 mul-to c = let g = going _ _ (c .before .before .before .pre .1) (c .before .if1 .left) in let z = c .stop .ensures in omega arith
 
-sub-part-text : tie.Need-sub-part-text
-sub-part-text c = let g = going _ _ (c .before .before .before .pre .1) (c .before .if1 .left) in let z = c .stop .ensures in omega arith
+sub-levels : tie.Need-sub-levels
+sub-levels c = fit-few _ _ (c .before .before .before .before .pre .1)
 
-part-part-text-start : tie.Need-part-part-text-start
-part-part-text-start c = let g = going _ _ (c .before .before .before .pre .1) (c .before .if1 .left) in let z = c .stop .ensures in omega arith
+sub-next-text : tie.Need-sub-next-text
+sub-next-text c = let g = going _ _ (c .before .before .before .before .pre .1) (c .before .before .if1 .left) in let z = c .before .stop .ensures in omega arith
 
-part-part-text-end : tie.Need-part-part-text-end
-part-part-text-end c = let g = going _ _ (c .before .before .before .pre .1) (c .before .if1 .left) in let z = c .stop .ensures in omega arith
+part-next-text-start : tie.Need-part-next-text-start
+part-next-text-start c = let g = going _ _ (c .before .before .before .before .pre .1) (c .before .before .if1 .left) in let z = c .before .stop .ensures in omega arith
 
-part-text-requires : tie.Need-part-text-requires
-part-text-requires c κs =
-    let g = going _ _ (c .before .before .before .before .pre .1) (c .before .before .if1 .left) in
-    let z = c .before .stop .ensures in
-    (g .few, omega arith, rw length-take (omega arith))
+part-next-text-end : tie.Need-part-next-text-end
+part-next-text-end c = let g = going _ _ (c .before .before .before .before .pre .1) (c .before .before .if1 .left) in let z = c .before .stop .ensures in omega arith
+
+is-asked-requires : tie.Need-is-asked-requires
+is-asked-requires c κs = search needs
+
+next-text-requires : tie.Need-next-text-requires
+next-text-requires c κs = search needs
+
+yielded-requires : tie.Need-yielded-requires
+yielded-requires c κs =
+    let b = c .before .before .before .before .before .before .before in
+    let ne = c .before .before .before .before .before .if1 .left in
+    let z = c .before .before .before .before .stop .ensures in
+    let g = going _ _ (b .pre .1) ne in
+    (g .few, omega arith, goes-ready text text-reader (b .args .s .now) (b .args .self) (b .pre .1) _ _ _ _ ne z (text-part (b .args .s .now) (b .args .self .at) (c .before .before .before .before .stop .result) (omega arith)) (c .before .is-asked .ensures) (c .next-text .ensures) (omega arith))
 
 returns-2 : tie.Need-returns-2
 returns-2 c =
-    let a = c .before .before .before .before .before .args in
-    let g = going _ _ (c .before .before .before .before .before .pre .1) (c .before .before .before .if1 .left) in
-    let z = c .before .before .stop .ensures in
-    goes-on text text-reader (a .s .now) (a .self) (c .before .before .before .before .before .pre .1) _ (c .before .before .stop .result) (c .before .before .before .if1 .left) z (omega arith) (omega arith) (omega arith) (c .part-text .ensures)
+    let b = c .before .before .before .before .before .before .before .before in
+    let ne = c .before .before .before .before .before .before .if1 .left in
+    let z = c .before .before .before .before .before .stop .ensures in
+    let g = going _ _ (b .pre .1) ne in
+    goes-on text text-reader (b .args .s .now) (b .args .self) (b .pre .1) _ _ _ _ ne z (text-part (b .args .s .now) (b .args .self .at) (c .before .before .before .before .before .stop .result) (omega arith)) (c .before .before .is-asked .ensures) (c .before .next-text .ensures) _ (c .yielded .ensures)
 
 pub step-fit-text-spec : {M : Type 1} → statement M
 step-fit-text-spec =
@@ -57,8 +69,11 @@ step-fit-text-spec =
     mul-from
     stop-requires
     mul-to
-    sub-part-text
-    part-part-text-start
-    part-part-text-end
-    part-text-requires
+    sub-levels
+    sub-next-text
+    part-next-text-start
+    part-next-text-end
+    is-asked-requires
+    next-text-requires
+    yielded-requires
     returns-2)
