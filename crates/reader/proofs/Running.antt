@@ -11,14 +11,14 @@ use Rattle.format.specs.declared.BinaryOffset.{BinaryOffset}
 use Rattle.format.specs.declared.Kind.{Kind}
 use Rattle.format.specs.Units.{Domain, text, binary}
 use Rattle.format.specs.Judging.{maxDepth}
-use Rattle.walk.specs.declared.Walk.{Walk}
-use Rattle.walk.specs.declared.Found.{Found}
-use Rattle.walk.specs.declared.Found.the-variants as F
-use Rattle.walk.specs.declared.TextStep.{TextStep}
-use Rattle.walk.specs.declared.TextItem.the-variants as T
-use Rattle.walk.specs.declared.BinaryStep.{BinaryStep}
-use Rattle.walk.specs.declared.BinaryItem.the-variants as B
-use Rattle.walk.specs.Walking.{stepIn, textItem, textStep, binaryItem, binaryStep}
+use Rattle.walk_state.specs.declared.Walk.{Walk}
+use Rattle.walk_state.specs.declared.Found.{Found}
+use Rattle.walk_state.specs.declared.Found.the-variants as F
+use Rattle.walk_state.specs.declared.TextStep.{TextStep}
+use Rattle.walk_state.specs.declared.TextItem.the-variants as T
+use Rattle.walk_state.specs.declared.BinaryStep.{BinaryStep}
+use Rattle.walk_state.specs.declared.BinaryItem.the-variants as B
+use Rattle.walk_state.specs.Walking.{stepIn, textItem, textStep, binaryItem, binaryStep}
 use Rattle.walk_claims.specs.Words.{unitsIn, Yields, Stops}
 use Rattle.walk_claims.specs.Claims.{StreamClaims}
 use Rattle.walk_claims.specs.Proved.{proved}

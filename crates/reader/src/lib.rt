@@ -4,14 +4,14 @@
 // Callers that want no walk by hand step and count by functions with plain parameters.
 use format::BinaryOffset;
 use format::TextOffset;
-use walk::BinaryItem;
-use walk::BinaryStep;
-use walk::TextItem;
-use walk::TextStep;
-use walk::Walk;
+use walk_state::BinaryItem;
+use walk_state::BinaryStep;
+use walk_state::TextItem;
+use walk_state::TextStep;
+use walk_state::Walk;
 ghost use mathlib.Core.Path.{_≡_};
 ghost use Rattle.format.specs.Units.{text, binary};
-ghost use Rattle.walk.specs.Walking.{start, textStep, binaryStep};
+ghost use Rattle.walk_state.specs.Walking.{start, textStep, binaryStep};
 ghost use Rattle.reader.specs.Reading.{opened, resumedAt, textTaken, binaryTaken};
 ghost use Rattle.reader.specs.Counting.{restIn, textTally, binaryTally};
 
@@ -69,7 +69,7 @@ impl<'a> Reader<'a> {
     pub fn next_text(self) -> TextTaken<'a>
         ensures { λ t. ⌜ t ≡ textTaken (self .entry) ⌝ }
     {
-        let stepped = self.walk.step_text(self.src);
+        let stepped = walk::step_text(self.walk, self.src);
         TextTaken {
             reader: Reader {
                 src: self.src,
@@ -83,7 +83,7 @@ impl<'a> Reader<'a> {
     pub fn next_binary(self) -> BinaryTaken<'a>
         ensures { λ t. ⌜ t ≡ binaryTaken (self .entry) ⌝ }
     {
-        let stepped = self.walk.step_binary(self.src);
+        let stepped = walk::step_binary(self.walk, self.src);
         BinaryTaken {
             reader: Reader {
                 src: self.src,
@@ -136,7 +136,7 @@ pub fn rest_text(s: &[u8], walk: Walk) -> TextTally
     let mut w = walk;
     let mut items: usize = 0;
     loop {
-        let t = w.step_text(s);
+        let t = walk::step_text(w, s);
         let found = t.found;
         match found {
             TextItem::Item {
@@ -191,7 +191,7 @@ pub fn rest_binary(s: &[u8], walk: Walk) -> BinaryTally
     let mut w = walk;
     let mut items: usize = 0;
     loop {
-        let t = w.step_binary(s);
+        let t = walk::step_binary(w, s);
         let found = t.found;
         match found {
             BinaryItem::Item {

@@ -8,29 +8,33 @@ use Prim.Native.Nat.{ℕ, _+_, _-_, _*_, _/_, _%_, _<_, _≤_}
 use native.Mathlib.Omega.{arith}
 use lib.Dec.{ltb, eqb}
 use lib.ListN.{length, take}
-use borrow.Author.Tests.{lt-ltb, le-ltb, lt-leb, eq-eqb, ne-eqb, ltb-false, eqb-true, eqb-false}
+use borrow.Author.Tests.{eq-eqb, ne-eqb, ltb-false, eqb-true, eqb-false}
 use Rattle.base.specs.Pick.{pick, pick-by}
-use Rattle.base.specs.Cases.{lt-or-ge, whether}
+use Rattle.base.specs.Cases.{whether}
 use Rattle.format.specs.declared.Kind.{Kind}
 use Rattle.format.specs.declared.Kind.the-variants.{Fixed, Variable, Group, Genus}
 use Rattle.format.specs.declared.Framed.{Framed}
 use Rattle.format.specs.declared.Framed.the-variants.{Item, Unframed}
 use Rattle.format.specs.declared.Verdict.{Verdict}
 use Rattle.format.specs.declared.Verdict.the-variants.{Accepted, Refused}
-use Rattle.format.specs.Units.{Domain}
+use Rattle.format.specs.declared.Form.{Form}
+use Rattle.format.specs.declared.Form.the-variants.{Text, Binary}
+use Rattle.format.specs.Units.{Domain, domain}
 use Rattle.format.specs.Registry.{isOpaque}
 use Rattle.format.specs.Judging.{maxDepth}
-use Rattle.laws.specs.Domains.{Reader}
+use Rattle.laws.specs.Domains.{reader}
 use Rattle.laws.specs.Levels.{part, part-length, part-take, frameNext, any-item, item-sizes}
 use Rattle.judging.specs.Own.{toldBy}
 use Rattle.report_next.specs.Next.{ownOf, nextOwn, isEntered, isRuled}
 use Rattle.report_next.proofs.Laws.{own-item, may-enter, next-near}
-use Rattle.walk.specs.declared.Walk.{Walk}
-use Rattle.walk.specs.declared.Found.the-variants as F
-use Rattle.walk.specs.declared.Stepped.{Stepped}
-use Rattle.walk.specs.Walking.{isFit, closed, movedTo, opened, past, nextOf, stopOf, judged, framedBy, frameAt, stepFit, step, foundIn, stepIn}
-use Rattle.walk.specs.Stepping.{finished, entered, barredBy, isAsked, foundBy, partStep, reach, Slotted, Ready, InReach}
-use Rattle.walk.proofs.Fitting.{fit-there, fit-stop, fit-ahead}
+use Rattle.walk_state.specs.declared.Walk.{Walk}
+use Rattle.walk_state.specs.declared.Found.the-variants as F
+use Rattle.walk_state.specs.declared.Stepped.{Stepped}
+use Rattle.walk_state.specs.Walking.{isFit, closed, movedTo, opened, past, nextOf, stopOf, judged, framedBy, frameAt, stepFit, step, foundIn, stepIn}
+use Rattle.walk_state.specs.Moving.{stepOver}
+use Rattle.walk_state.proofs.Laws.{steps-into, steps-past}
+use Rattle.walk.specs.Stepping.{barredBy, isAsked, foundBy, partStep, reach, Slotted, Ready, InReach}
+use Rattle.walk.proofs.Fitting.{fit-few, fit-there, fit-stop, fit-ahead}
 
 -- ---- the next state
 
@@ -42,32 +46,22 @@ by-kind w (Variable t l c) h n = refl
 by-kind w Genus h n = refl
 by-kind w (Group letter) h n = ⊎-elim (λ e. rw e) (λ e. rw e) (whether (isOpaque letter))
 
--- contents that are not empty, counted from the stream's start or from the group's
-on-both : (a h n : ℕ) → ltb (a + h) (a + n) ≡ ltb h n
-on-both a h n =
-    ⊎-elim (λ l. lt-ltb (a + h) (a + n) (omega arith) ∙ sym (lt-ltb h n l))
-    (λ g. le-ltb (a + h) (a + n) (omega arith) ∙ sym (le-ltb h n g)) (lt-or-ge h n)
+module _ (w : Walk) (k : Kind) (h n : ℕ) where
+  next-into : isEntered k ≡ true → nextOf w k h n ≡ closed (opened w h n (isRuled k) .depth) (opened w h n (isRuled k))
+  unfolding nextOf
+  next-into e = rw (by-kind w k h n, e)
 
-finish : (w : Walk) → w .depth ≤ maxDepth → finished w ≡ closed (w .depth) w
-unfolding finished
-finish w h = rw (le-ltb maxDepth (w .depth) h)
-
-module _ (w v r : Walk) (k : Kind) (h n : ℕ) (few : w .depth ≤ maxDepth) (e : r ≡ finished v) where
-  pub enters : Slotted k (w .depth) → isEntered k ≡ true → (mark : Bool) → mark ≡ isRuled k → v ≡ entered w (w .at + h) (w .at + n) mark
-      → r ≡ nextOf w k h n
-  unfolding nextOf entered opened
-  enters s t mark m q =
-      let l : w .depth < maxDepth = s t in
-      let p : v ≡ past w k h n = q ∙ rw (lt-leb maxDepth (w .depth) l, on-both (w .at) h n, m, by-kind w k h n, t) in
-      let d : v .depth ≤ maxDepth = rw (p, by-kind w k h n, t) (omega arith) in
-      e ∙ finish v d ∙ rw p
-
-  pub steps-over : isEntered k ≡ false → v ≡ movedTo w (w .at + n) → r ≡ nextOf w k h n
+  next-past : isEntered k ≡ false → nextOf w k h n ≡ closed (w .depth) (movedTo w (w .at + n))
   unfolding nextOf movedTo
-  steps-over t q =
-      let p : v ≡ past w k h n = q ∙ rw (by-kind w k h n, t) in
-      let d : v .depth ≤ maxDepth = rw (p, by-kind w k h n, t) few in
-      e ∙ finish v d ∙ rw p
+  next-past e = rw (by-kind w k h n, e)
+
+  -- the state's step gives it
+  pub steps : w .depth ≤ maxDepth → Slotted k (w .depth) → (opens mark : Bool) → opens ≡ isEntered k → mark ≡ isRuled k
+      → (r : Walk) → r ≡ stepOver w (w .at + h) (w .at + n) opens mark → r ≡ nextOf w k h n
+  steps few s opens mark eo em r e =
+      e ∙ rw (eo, em)
+      (⊎-elim (λ i. rw (next-into i, i) (steps-into w h n (isRuled k) (s i))) (λ i. rw (next-past i, i) (steps-past w h n (isRuled k) few))
+      (whether (isEntered k)))
 
 -- ---- what is asked of the next item
 
@@ -141,30 +135,45 @@ unitsIn d xs = length xs / d .unit
 abbrev pub tailIn : Domain → List ℕ → Bool
 tailIn d xs = ltb 0 (length xs % d .unit)
 
-module _ (d : Domain) (R : Reader d) (xs : List ℕ) (w : Walk) (fit : isFit w (unitsIn d xs) ≡ true) where
-  whole : 4 * unitsIn d xs ≤ length (d .sextets xs)
-  whole = rw (← (R .units xs)) (omega arith)
+-- a stream of either form within its limit
+near-units : (form : Form) (xs : List ℕ) → length xs ≤ domain form .limit → 4 * unitsIn (domain form) xs ≤ reach
+near-units Text xs h = omega arith
+near-units Binary xs h = omega arith
 
-  pub ends : (r : Stepped) → w .at ≡ unitsIn d xs → r ≡ record { next = w; found = pick (tailIn d xs) (F.Refused 4 (4 * w .at)) F.End }
-      → r ≡ stepFit (d .sextets xs) (unitsIn d xs) (tailIn d xs) w
-  ends r e p = p ∙ sym (at-end w (d .sextets xs) (unitsIn d xs) (tailIn d xs) fit whole e)
+whole-units : (form : Form) (xs : List ℕ) (k : ℕ) → k ≤ unitsIn (domain form) xs → domain form .unit * k ≤ length xs
+whole-units Text xs k h = omega arith
+whole-units Binary xs k h = omega arith
 
-  -- here: the sextets of the part that is lent
-  module _ (here : List ℕ) (stop : ℕ) (asked : Bool) (item : Framed) (ne : w .at ≡ unitsIn d xs → ⊥) (es : stop ≡ stopOf w (unitsIn d xs))
-      (eh : here ≡ part (d .sextets xs) (w .at) stop) (ea : asked ≡ isAsked w) (ei : item ≡ nextOwn asked here (maxDepth - w .depth)) where
-    found : item ≡ nextOwn (isAsked w) (part (d .sextets xs) (w .at) (stopOf w (unitsIn d xs))) (maxDepth - w .depth)
-    found = rw (ei, ea, eh, es)
+module _ (form : Form) (xs : List ℕ) (n : ℕ) (w : Walk) (few : length xs ≤ domain form .limit) (en : n ≡ unitsIn (domain form) xs) (fit : isFit w n ≡ true) where
+  near : 4 * n ≤ reach
+  near = rw en (near-units form xs few)
 
-    pub goes-ready : 4 * unitsIn d xs ≤ reach → Ready w item
-    goes-ready b =
-        ready w _ item (part-few w (d .sextets xs) (unitsIn d xs) fit whole b) found
+  whole : 4 * n ≤ length (domain form .sextets xs)
+  whole = rw (en, ← (reader form .units xs)) (omega arith)
 
-    pub goes-on : (r : Stepped) → r ≡ foundBy w item → r ≡ stepFit (d .sextets xs) (unitsIn d xs) (tailIn d xs) w
-    unfolding partStep
-    goes-on r e = e ∙ rw found (sym (fit-step w (d .sextets xs) (unitsIn d xs) (tailIn d xs) fit whole ne))
+  pub at-near : w .at ≤ reach
+  at-near = omega (arith, near, fit-there w n fit)
 
-  pub reaches : (r : Stepped) → r ≡ stepFit (d .sextets xs) (unitsIn d xs) (tailIn d xs) w → 4 * unitsIn d xs ≤ reach → InReach (r .found)
-  reaches r e b = rw e (step-reach w (d .sextets xs) (unitsIn d xs) (tailIn d xs) fit whole b)
+  pub ends : (tail : Bool) (r : Stepped) → w .at ≡ n → r ≡ record { next = w; found = pick tail (F.Refused 4 (4 * w .at)) F.End }
+      → r ≡ stepFit (domain form .sextets xs) n tail w
+  ends tail r e p = p ∙ sym (at-end w (domain form .sextets xs) n tail fit whole e)
+
+  module _ (ne : w .at ≡ n → ⊥) (stop : ℕ) (es : stop ≡ stopOf w n) where
+    -- what the next item is asked by
+    pub spans : (w .depth ≤ maxDepth) × (w .at ≤ stop) × (domain form .unit * stop ≤ length xs) × (length xs ≤ domain form .limit)
+    spans =
+        (fit-few w n fit, omega (arith, fit-ahead w n fit ne), whole-units form xs stop (omega (arith, fit-stop w n fit)), few)
+
+    module _ (item : Framed) (ei : item ≡ nextOwn (isAsked w) (part (domain form .sextets xs) (w .at) stop) (maxDepth - w .depth)) where
+      pub goes-ready : Ready w item
+      goes-ready = ready w _ item (rw es (part-few w (domain form .sextets xs) n fit whole near)) ei
+
+      pub goes-on : (tail : Bool) (r : Stepped) → r ≡ foundBy w item → r ≡ stepFit (domain form .sextets xs) n tail w
+      unfolding partStep
+      goes-on tail r e = e ∙ rw (ei, es) (sym (fit-step w (domain form .sextets xs) n tail fit whole ne))
+
+  pub reaches : (tail : Bool) (r : Stepped) → r ≡ stepFit (domain form .sextets xs) n tail w → InReach (r .found)
+  reaches tail r e = rw e (step-reach w (domain form .sextets xs) n tail fit whole near)
 
 -- ---- 1 before 13
 

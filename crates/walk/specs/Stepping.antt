@@ -1,11 +1,9 @@
--- What the code's functions answer, in the shape of the code: proofs/Steps shows that Walking's steps are made of them. A method that
--- anyone may call answers for every state, also for one with more groups open than there are slots. Assumes nothing.
+-- What the step's functions answer, in the shape of the code: proofs/Steps shows that Walking's steps are made of them. Assumes nothing.
 use Prim.Native.Nat.{ℕ, _+_, _-_, _*_, _≤_, _<_}
 use mathlib.Core.Path.{_≡_}
 use mathlib.Core.List.{List}
-use mathlib.Core.Bool.{Bool, true, false}
-use lib.ListN.{set}
-use lib.Dec.{ltb, leb, eqb}
+use mathlib.Core.Bool.{Bool, true}
+use lib.Dec.{eqb}
 use Rattle.base.specs.Pick.{pick}
 use Rattle.format.specs.declared.Kind.{Kind}
 use Rattle.format.specs.declared.Framed.{Framed}
@@ -13,25 +11,11 @@ use Rattle.format.specs.declared.Framed.the-variants.{Item, Unframed}
 use Rattle.format.specs.Units.{text}
 use Rattle.format.specs.Judging.{maxDepth}
 use Rattle.report_next.specs.Next.{nextOwn, isEntered}
-use Rattle.walk.specs.declared.Walk.{Walk}
-use Rattle.walk.specs.declared.Found.{Found}
-use Rattle.walk.specs.declared.Found.the-variants as F
-use Rattle.walk.specs.declared.Stepped.{Stepped}
-use Rattle.walk.specs.Walking.{closed, isFit, nextOf}
-
--- ---- public methods
-
--- closing what is finished; a state with more open than slots is left
-unfoldable pub finished : Walk → Walk
-finished w = pick (ltb maxDepth (w .depth)) w (closed (w .depth) w)
-
--- entering a group with contents from at to end; the mark is kept where there are any. A state with no slot left is left
-unfoldable pub entered : Walk → ℕ → ℕ → Bool → Walk
-entered w at end mark =
-    pick (leb maxDepth (w .depth)) w
-    (record { ends = set (w .ends) (w .depth) end; depth = w .depth + 1; at = at; first = pick (ltb at end) mark false })
-
--- ---- a step in parts
+use Rattle.walk_state.specs.declared.Walk.{Walk}
+use Rattle.walk_state.specs.declared.Found.{Found}
+use Rattle.walk_state.specs.declared.Found.the-variants as F
+use Rattle.walk_state.specs.declared.Stepped.{Stepped}
+use Rattle.walk_state.specs.Walking.{isFit, nextOf}
 
 -- 1 before 13; 0 where neither is given
 unfoldable pub barredBy : Bool → ℕ → Walk → ℕ
@@ -60,6 +44,7 @@ reach = text .limit
 abbrev pub Slotted : Kind → ℕ → Type 0
 Slotted k d = isEntered k ≡ true → d < maxDepth
 
+-- an item, or its refusal, that can be told; of a place it is known that it lies in the item, or in a header
 abbrev pub Ready : Walk → Framed → Type 0
 Ready w (Unframed m p) = p ≤ reach + 8
 Ready w (Item k h n) = (h ≤ n) × (n ≤ reach) × Slotted k (w .depth)

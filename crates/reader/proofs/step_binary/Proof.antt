@@ -41,15 +41,15 @@ use denote.Triple.Table.{entered, cited}
 use denote.Triple.Walked.{says, Stays, stay-none, stay-none-slice, walkOf, goes-none, goes-none-slice, Walks, ends-at, walked, walk-meets}
 use denote.Exit.{yes}
 use denote.Triple.Clauses.{ensured, lasts}
-use Rattle.walk.specs.declared.Walk.{Walk}
-use Rattle.walk.specs.declared.BinaryStep.{BinaryStep}
-use Rattle.walk.specs.Walking.{binaryStep}
-use Rattle.walk.proofs.Walk as S
-use Rattle.walk.proofs.Walk.Laws as S′
-use Rattle.walk.proofs.BinaryItem as I
-use Rattle.walk.proofs.BinaryItem.Laws as I′
-use Rattle.walk.proofs.BinaryStep as R
-use Rattle.walk.proofs.BinaryStep.Laws as R′
+use Rattle.walk_state.specs.declared.Walk.{Walk}
+use Rattle.walk_state.specs.declared.BinaryStep.{BinaryStep}
+use Rattle.walk_state.specs.Walking.{binaryStep}
+use Rattle.walk_state.proofs.Walk as S
+use Rattle.walk_state.proofs.Walk.Laws as S′
+use Rattle.walk_state.proofs.BinaryItem as I
+use Rattle.walk_state.proofs.BinaryItem.Laws as I′
+use Rattle.walk_state.proofs.BinaryStep as R
+use Rattle.walk_state.proofs.BinaryStep.Laws as R′
 use Rattle.reader.specs.Reading.{opened, resumedAt, binaryTaken}
 use Rattle.reader.specs.Behind.{binary-taken}
 use Rattle.reader.specs.declared.Reader.{Reader}

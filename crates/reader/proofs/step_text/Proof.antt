@@ -41,15 +41,15 @@ use denote.Triple.Table.{entered, cited}
 use denote.Triple.Walked.{says, Stays, stay-none, stay-none-slice, walkOf, goes-none, goes-none-slice, Walks, ends-at, walked, walk-meets}
 use denote.Exit.{yes}
 use denote.Triple.Clauses.{ensured, lasts}
-use Rattle.walk.specs.declared.Walk.{Walk}
-use Rattle.walk.specs.declared.TextStep.{TextStep}
-use Rattle.walk.specs.Walking.{textStep}
-use Rattle.walk.proofs.Walk as S
-use Rattle.walk.proofs.Walk.Laws as S′
-use Rattle.walk.proofs.TextItem as I
-use Rattle.walk.proofs.TextItem.Laws as I′
-use Rattle.walk.proofs.TextStep as R
-use Rattle.walk.proofs.TextStep.Laws as R′
+use Rattle.walk_state.specs.declared.Walk.{Walk}
+use Rattle.walk_state.specs.declared.TextStep.{TextStep}
+use Rattle.walk_state.specs.Walking.{textStep}
+use Rattle.walk_state.proofs.Walk as S
+use Rattle.walk_state.proofs.Walk.Laws as S′
+use Rattle.walk_state.proofs.TextItem as I
+use Rattle.walk_state.proofs.TextItem.Laws as I′
+use Rattle.walk_state.proofs.TextStep as R
+use Rattle.walk_state.proofs.TextStep.Laws as R′
 use Rattle.reader.specs.Reading.{opened, resumedAt, textTaken}
 use Rattle.reader.specs.Behind.{text-taken}
 use Rattle.reader.specs.declared.Reader.{Reader}

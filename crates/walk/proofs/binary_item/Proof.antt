@@ -1,6 +1,6 @@
 -- `walk::binary_item` meets its contract. Assumes nothing.
 use native.Mathlib.Omega.{arith}
-use Rattle.walk.specs.Walking.{binaryItem, foundIn}
+use Rattle.walk_state.specs.Walking.{binaryItem, foundIn}
 use borrow.Author.Needs.{needs}
 use Rattle.walk.proofs.binary_item.Statement.{statement}
 use Rattle.walk.proofs.binary_item.Tie as tie

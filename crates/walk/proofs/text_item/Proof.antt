@@ -2,7 +2,7 @@
 use mathlib.Core.Path.{_≡_}
 use Prim.Native.Nat.{_+_, _*_, _/_, _%_}
 use native.Mathlib.Omega.{arith}
-use Rattle.walk.specs.Walking.{textItem, foundIn}
+use Rattle.walk_state.specs.Walking.{textItem, foundIn}
 use borrow.Author.Needs.{needs}
 use Rattle.walk.proofs.text_item.Statement.{statement}
 use Rattle.walk.proofs.text_item.Tie as tie
