@@ -1,5 +1,6 @@
 // Conversion of whole streams between text and binary, into a lent buffer.
 use format::BinaryOffset;
+use format::InText;
 use format::TextOffset;
 use format::ToBinary;
 use format::ToText;
@@ -23,11 +24,11 @@ pub fn text_to_binary(src: &[u8], dst: &mut [u8]) -> ToBinary
     if bad < n {
         return ToBinary::Refused(5, TextOffset(bad));
     }
-    let size = n / 4 * 3;
-    if dst.len() < size {
+    let size = offsets::in_binary(TextOffset(n));
+    if dst.len() < size.0 {
         return ToBinary::Refused(3, TextOffset(0));
     }
-    ToBinary::Written(BinaryOffset(size))
+    ToBinary::Written(size)
 }
 
 // Refusals in the order 1, 2, 3; a refused call writes nothing, and bytes behind the answer stay.
@@ -36,16 +37,17 @@ pub fn binary_to_text(src: &[u8], dst: &mut [u8]) -> ToText
     ensures { λ r. ⌜ now (dst .exit) ≡ textLeft r (now (src .entry)) (now (dst .entry)) ⌝ }
 {
     let n = src.len();
-    if 3145728 < n {
-        return ToText::Refused(1, BinaryOffset(0));
+    match offsets::in_text(BinaryOffset(n)) {
+        InText::Past => ToText::Refused(1, BinaryOffset(0)),
+        InText::At(size) => {
+            if 0 < n % 3 {
+                return ToText::Refused(2, BinaryOffset(0));
+            }
+            if dst.len() < size.0 {
+                return ToText::Refused(3, BinaryOffset(0));
+            }
+            convert_unpack::to_text(src, dst);
+            ToText::Written(size)
+        }
     }
-    if 0 < n % 3 {
-        return ToText::Refused(2, BinaryOffset(0));
-    }
-    let size = n / 3 * 4;
-    if dst.len() < size {
-        return ToText::Refused(3, BinaryOffset(0));
-    }
-    convert_unpack::to_text(src, dst);
-    ToText::Written(TextOffset(size))
 }

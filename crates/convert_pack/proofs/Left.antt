@@ -6,8 +6,7 @@ use lib.ListN.{length, drop}
 use native.Mathlib.Omega.{arith}
 use borrow.Author.Tests.{lt-ltb, le-ltb}
 use Rattle.format.specs.Conversion.{toBinary, firstStranger}
-use Rattle.convert_units.specs.Filled.{Packed}
-use Rattle.convert_pack.specs.Left.{packedLeft}
+use Rattle.convert_pack.specs.Left.{Packed, packedLeft}
 
 module _ (s d : List ℕ) where
   pub stranger-left : firstStranger s < length s → packedLeft s d ≡ d

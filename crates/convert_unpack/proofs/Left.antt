@@ -6,8 +6,7 @@ use native.Mathlib.Omega.{arith}
 use lib.ListN.{length, drop}
 use borrow.Author.Tests.{lt-ltb, le-ltb}
 use Rattle.format.specs.Conversion.{toText}
-use Rattle.convert_units.specs.Filled.{Unpacked}
-use Rattle.convert_unpack.specs.Left.{unpackedLeft}
+use Rattle.convert_unpack.specs.Left.{Unpacked, unpackedLeft}
 
 module _ (s d : List ℕ) where
   pub no-room-left : length d < length s / 3 * 4 → unpackedLeft s d ≡ d

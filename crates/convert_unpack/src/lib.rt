@@ -1,20 +1,67 @@
-// A binary's units to text, into a lent buffer. Long streams go by pairs, two characters a look-up.
+// A binary's units to text, into a lent buffer: each goes by value through a leaf from three bytes to four characters. The leaf of
+// long streams looks up two characters at once.
 ghost use mathlib.Core.Path.{_≡_};
-ghost use mathlib.Core.List.{List, _++_, map};
+ghost use mathlib.Core.List.{List, _++_};
 ghost use Prim.Native.Nat.{ℕ, _+_, _*_, _≤_, _<_};
 ghost use lib.ListN.{length, take, drop};
-ghost use Rattle.base.specs.Digits.{digitsOf};
-ghost use Rattle.format.specs.Alphabet.{charOf};
+ghost use Rattle.base.specs.Digits.{numberOf, digitsOf};
+ghost use Rattle.base.specs.Each.{UnitPut};
+ghost use Rattle.format.specs.Alphabet.{characterTable};
+ghost use Rattle.format.specs.Units.{quadletOf};
 ghost use Rattle.convert_pairs.specs.Pairs.{CharacterPairs};
 ghost use Rattle.convert_unpack.specs.Numbers.{fourAt, Twelve};
-ghost use Rattle.convert_units.specs.Filled.{Unpacked};
-ghost use Rattle.convert_unpack.specs.Left.{unpackedLeft};
+ghost use Rattle.convert_unpack.specs.Left.{Unpacked, unpackedLeft};
 
 fn wide(x: u8) -> u64
     ensures { λ r. ⌜ (r ≡ x) × (r < 256) ⌝ }
 {
     x as u64
 }
+
+// ---- the leaf of long streams
+
+fn number(t: [u8; 3]) -> u64
+    ensures { λ r. ⌜ (r ≡ numberOf 256 t) × (r < 16777216) ⌝ }
+{
+    (wide(t[0]) * 256 + wide(t[1])) * 256 + wide(t[2])
+}
+
+// Three bytes as four characters.
+fn quadlet(table: &[u16; 4096], t: [u8; 3]) -> [u8; 4]
+    requires { ⌜ CharacterPairs (now table) ⌝ }
+    ensures { λ r. ⌜ r ≡ quadletOf t ⌝ }
+{
+    let n = number(t);
+    let p = table[(n / 4096) as usize];
+    let q = table[(n % 4096) as usize];
+    [
+        (p % 256) as u8,
+        (p / 256) as u8,
+        (q % 256) as u8,
+        (q / 256) as u8,
+    ]
+}
+
+// ---- a unit read, and written
+
+fn triplet_at(s: &[u8], at: usize) -> [u8; 3]
+    requires { ⌜ at + 3 ≤ length (now s) ⌝ }
+    ensures { λ r. ⌜ r ≡ take 3 (drop at (now (s .entry))) ⌝ }
+{
+    [s[at], s[at + 1], s[at + 2]]
+}
+
+fn put_quadlet(d: &mut [u8], at: usize, q: [u8; 4])
+    requires { ⌜ at + 4 ≤ length (now d) ⌝ }
+    ensures { λ _. ⌜ now (d .exit) ≡ take at (now (d .entry)) ++ q ++ drop (at + 4) (now (d .entry)) ⌝ }
+{
+    d[at] = q[0];
+    d[at + 1] = q[1];
+    d[at + 2] = q[2];
+    d[at + 3] = q[3];
+}
+
+// ---- by pairs
 
 fn four_bytes(s: &[u8], at: usize) -> u64
     requires { ⌜ at + 4 ≤ length (now s) ⌝ }
@@ -30,39 +77,39 @@ fn eight_bytes(s: &[u8], at: usize) -> u64
     four_bytes(s, at) * 4294967296 + four_bytes(s, at + 4)
 }
 
-// Two characters by one store, since they are the two bytes of one number.
-fn put_pair(table: &[u16; 4096], d: &mut [u8], at: usize, v: u64)
-    requires { ⌜ CharacterPairs (now table) × (at + 2 ≤ length (now d)) × (v < 4096) ⌝ }
-    ensures { λ _. ⌜ now (d .exit) ≡ take at (now (d .entry)) ++ map charOf (digitsOf 64 2 v) ++ drop (at + 2) (now (d .entry)) ⌝ }
+fn bytes_of(n: u64) -> [u8; 3]
+    ensures { λ r. ⌜ r ≡ digitsOf 256 3 n ⌝ }
 {
-    let p = table[v as usize];
-    d[at] = (p % 256) as u8;
-    d[at + 1] = (p / 256) as u8;
+    [
+        (n / 65536 % 256) as u8,
+        (n / 256 % 256) as u8,
+        (n % 256) as u8,
+    ]
 }
 
 // The i-th unit, of which the number is known.
-fn unpack_unit(table: &[u16; 4096], d: &mut [u8], i: usize, n: u64)
-    requires { ⌜ CharacterPairs (now table) × (4 * i + 4 ≤ length (now d)) × (n < 16777216) ⌝ }
-    ensures { λ _. ⌜ now (d .exit) ≡ take (4 * i) (now (d .entry)) ++ map charOf (digitsOf 64 4 n) ++ drop (4 * i + 4) (now (d .entry)) ⌝ }
+fn put_number(table: &[u16; 4096], d: &mut [u8], i: usize, n: u64)
+    requires { ⌜ CharacterPairs (now table) × (4 * i + 4 ≤ length (now d)) ⌝ }
+    ensures { λ _. ⌜ now (d .exit) ≡ take (4 * i) (now (d .entry)) ++ quadletOf (digitsOf 256 3 n) ++ drop (4 * i + 4) (now (d .entry)) ⌝ }
 {
-    put_pair(table, d, 4 * i, n / 4096);
-    put_pair(table, d, 4 * i + 2, n % 4096);
+    let q = quadlet(table, bytes_of(n));
+    put_quadlet(d, 4 * i, q);
 }
 
 // Four units of which the numbers are known, of eight bytes and of four.
-fn unpack_four(table: &[u16; 4096], d: &mut [u8], i: usize, w: u64, v: u64)
+fn put_four(table: &[u16; 4096], d: &mut [u8], i: usize, w: u64, v: u64)
     requires { ⌜ CharacterPairs (now table) × (4 * i + 16 ≤ length (now d)) × (v < 4294967296) ⌝ }
     ensures { λ _. ⌜ ((s o : List ℕ) → Twelve s i w v → Unpacked i s o (now (d .entry)) → Unpacked (i + 4) s o (now (d .exit))) ⌝ }
 {
-    unpack_unit(table, d, i, w / 1099511627776);
-    unpack_unit(table, d, i + 1, w / 65536 % 16777216);
-    unpack_unit(table, d, i + 2, w % 65536 * 256 + v / 16777216);
-    unpack_unit(table, d, i + 3, v % 16777216);
+    put_number(table, d, i, w / 1099511627776);
+    put_number(table, d, i + 1, w / 65536 % 16777216);
+    put_number(table, d, i + 2, w % 65536 * 256 + v / 16777216);
+    put_number(table, d, i + 3, v % 16777216);
 }
 
 // Four units a turn; how many were done. The next four are read before the turn ends: a number that is carried over is one load,
 // where one that is taken apart at once is a load for each byte.
-fn unpack_units(table: &[u16; 4096], src: &[u8], dst: &mut [u8], n: usize) -> usize
+fn unpack_by_pairs(table: &[u16; 4096], src: &[u8], dst: &mut [u8], n: usize) -> usize
     requires { ⌜ CharacterPairs (now table) × (4 ≤ n) × (3 * n ≤ length (now src)) × (4 * n ≤ length (now dst)) ⌝ }
     ensures { λ r. ⌜ (r ≤ n) × Unpacked r (now (src .entry)) (now (dst .entry)) (now (dst .exit)) ⌝ }
 {
@@ -70,7 +117,7 @@ fn unpack_units(table: &[u16; 4096], src: &[u8], dst: &mut [u8], n: usize) -> us
     let mut w = eight_bytes(src, 0);
     let mut v = four_bytes(src, 8);
     while 7 < n - i {
-        unpack_four(table, dst, i, w, v);
+        put_four(table, dst, i, w, v);
         i += 4;
         w = eight_bytes(src, 3 * i);
         v = four_bytes(src, 3 * i + 8);
@@ -79,23 +126,49 @@ fn unpack_units(table: &[u16; 4096], src: &[u8], dst: &mut [u8], n: usize) -> us
 }
 
 // How many units go by pairs: none of a short stream, which is done before a table is.
-fn unpack_pairs(src: &[u8], dst: &mut [u8], n: usize) -> usize
+fn unpack_most(src: &[u8], dst: &mut [u8], n: usize) -> usize
     requires { ⌜ (3 * n ≤ length (now src)) × (4 * n ≤ length (now dst)) ⌝ }
     ensures { λ r. ⌜ (r ≤ n) × Unpacked r (now (src .entry)) (now (dst .entry)) (now (dst .exit)) ⌝ }
 {
-    if n < 1024 {
+    if n < 256 {
         return 0;
     }
     let table = convert_pairs::character_pairs();
-    unpack_units(&table, src, dst, n)
+    unpack_by_pairs(&table, src, dst, n)
 }
+
+// ---- one character at a look-up
+
+// The i-th unit, where it is to stand.
+fn put_by_characters(characters: &[u8; 64], src: &[u8], dst: &mut [u8], i: usize)
+    requires { ⌜ (now characters ≡ characterTable) × (3 * i + 3 ≤ length (now src)) × (4 * i + 4 ≤ length (now dst)) ⌝ }
+    ensures { λ _. ⌜ UnitPut 3 4 quadletOf (now (src .entry)) i (now (dst .entry)) (now (dst .exit)) ⌝ }
+{
+    let q = units::quadlet(characters, triplet_at(src, 3 * i));
+    put_quadlet(dst, 4 * i, q);
+}
+
+// The units from the first `done` on, n in all.
+fn unpack_rest(src: &[u8], dst: &mut [u8], done: usize, n: usize)
+    requires { ⌜ (done ≤ n) × (3 * n ≤ length (now src)) × (4 * n ≤ length (now dst)) ⌝ }
+    ensures { λ _. ⌜ ((o : List ℕ) → Unpacked done (now (src .entry)) o (now (dst .entry)) → Unpacked n (now (src .entry)) o (now (dst .exit))) ⌝ }
+{
+    let characters = alphabet::characters();
+    let mut i = done;
+    while i < n {
+        put_by_characters(&characters, src, dst, i);
+        i += 1;
+    }
+}
+
+// ---- a stream
 
 fn unpack(src: &[u8], dst: &mut [u8], n: usize)
     requires { ⌜ (3 * n ≤ length (now src)) × (4 * n ≤ length (now dst)) ⌝ }
     ensures { λ _. ⌜ Unpacked n (now (src .entry)) (now (dst .entry)) (now (dst .exit)) ⌝ }
 {
-    let done = unpack_pairs(src, dst, n);
-    convert_units::fill_text(src, dst, done, n);
+    let done = unpack_most(src, dst, n);
+    unpack_rest(src, dst, done, n);
 }
 
 // Nothing is written where there is no room for all units.

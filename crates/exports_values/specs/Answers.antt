@@ -37,7 +37,7 @@ codeFrom chars letter = pick (eqb chars 5) (C.Small letter) (pick (eqb chars 6) 
 -- chars and letter of the code, full size in units, where the raw value starts in bytes of the binary form from the item's start, its
 -- length, and the number of tag characters
 unfoldable pub infoOf : Primitive → List ℕ
-infoOf p = charsOf (p .code) ∷ letterOf (p .code) ∷ p .size ∷ p .start ∷ p .raw ∷ p .tags ∷ []
+infoOf p = charsOf (p .code) ∷ letterOf (p .code) ∷ p .size ∷ p .start .0 ∷ p .raw ∷ p .tags ∷ []
 
 -- 0 and the raw length, or 01's number and the place
 unfoldable pub textFoundNumber : TextFound → ℕ

@@ -45,7 +45,7 @@ pub fn info_of(p: Primitive) -> [usize; 6]
     let code = p.code;
     let chars = chars_of(code);
     let letter = letter_of(code);
-    [chars, letter, p.size, p.start, p.raw, p.tags]
+    [chars, letter, p.size, p.start.0, p.raw, p.tags]
 }
 
 pub fn code_from(chars: u8, letter: u8) -> Code

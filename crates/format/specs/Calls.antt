@@ -108,20 +108,20 @@ calls =
     asked (ReadText (77 ∷ 65 ∷ 65 ∷ 66 ∷ 77 ∷ 81 ∷ 65 ∷ 65 ∷ []) 4 []) (refused 8 4 []) ∷  -- `MAABMQAA` at 4, room 0: 8, then 3
     asked (ReadText (77 ∷ 65 ∷ 65 ∷ 66 ∷ 48 ∷ 74 ∷ 65 ∷ 65 ∷ []) 4 []) (refused 10 4 []) ∷  -- `MAAB0JAA` at 4, room 0: 10
     asked (ReadText (77 ∷ 65 ∷ 65 ∷ 66 ∷ 77 ∷ 65 ∷ 65 ∷ 66 ∷ []) 4 (9 ∷ [])) (refused 3 0 (9 ∷ [])) ∷  -- `MAABMAAB` at 4, room 1: 3, at place 0
-    asked (ReadText (77 ∷ 65 ∷ 65 ∷ 66 ∷ []) 0 (9 ∷ 9 ∷ 9 ∷ [])) (read (record { code = (C.Fixed 1 77); size = 1; start = 1; raw = 2; tags = 0 }) (0 ∷ 0 ∷ 0 ∷ 0 ∷ 0 ∷ 0 ∷ 0 ∷ 0 ∷ 0 ∷ 0 ∷ 0 ∷ []) (0 ∷ 1 ∷ 9 ∷ [])) ∷  -- `MAAB` at 0, room 3: raw 00 01, bytes behind it stay
-    asked (ReadText (65 ∷ 77 ∷ 65 ∷ 65 ∷ 66 ∷ []) 1 (9 ∷ 9 ∷ [])) (read (record { code = (C.Fixed 1 77); size = 1; start = 1; raw = 2; tags = 0 }) (0 ∷ 0 ∷ 0 ∷ 0 ∷ 0 ∷ 0 ∷ 0 ∷ 0 ∷ 0 ∷ 0 ∷ 0 ∷ []) (0 ∷ 1 ∷ [])) ∷  -- `AMAAB` at 1, room 2: any offset
-    asked (ReadText (86 ∷ 65 ∷ 66 ∷ 104 ∷ []) 0 (9 ∷ [])) (read (record { code = (C.Fixed 1 86); size = 1; start = 2; raw = 1; tags = 0 }) (0 ∷ 0 ∷ 0 ∷ 0 ∷ 0 ∷ 0 ∷ 0 ∷ 0 ∷ 0 ∷ 0 ∷ 0 ∷ []) (97 ∷ [])) ∷  -- `VABh` at 0, room 1: one zero lead byte more
-    asked (ReadText (48 ∷ 74 ∷ 95 ∷ 65 ∷ []) 0 (9 ∷ [])) (read (record { code = (C.Fixed 2 74); size = 1; start = 3; raw = 0; tags = 1 }) (65 ∷ 0 ∷ 0 ∷ 0 ∷ 0 ∷ 0 ∷ 0 ∷ 0 ∷ 0 ∷ 0 ∷ 0 ∷ []) (9 ∷ [])) ∷  -- `0J_A` at 0, room 1: a tag: no raw, at the item's end
-    asked (ReadText (49 ∷ 65 ∷ 65 ∷ 78 ∷ 65 ∷ 66 ∷ 67 ∷ 68 ∷ 69 ∷ 70 ∷ 71 ∷ 72 ∷ []) 0 []) (read (record { code = (C.Fixed 4 78); size = 3; start = 9; raw = 0; tags = 8 }) (65 ∷ 66 ∷ 67 ∷ 68 ∷ 69 ∷ 70 ∷ 71 ∷ 72 ∷ 0 ∷ 0 ∷ 0 ∷ []) []) ∷  -- `1AANABCDEFGH` at 0, room 0: eight tag characters
-    asked (ReadText (53 ∷ 66 ∷ 65 ∷ 66 ∷ 65 ∷ 71 ∷ 104 ∷ 112 ∷ []) 0 (9 ∷ 9 ∷ [])) (read (record { code = (C.Small 66); size = 2; start = 4; raw = 2; tags = 0 }) (0 ∷ 0 ∷ 0 ∷ 0 ∷ 0 ∷ 0 ∷ 0 ∷ 0 ∷ 0 ∷ 0 ∷ 0 ∷ []) (104 ∷ 105 ∷ [])) ∷  -- `5BABAGhp` at 0, room 2: small
-    asked (ReadText (56 ∷ 65 ∷ 65 ∷ 66 ∷ 65 ∷ 65 ∷ 65 ∷ 66 ∷ 65 ∷ 71 ∷ 104 ∷ 112 ∷ []) 0 (9 ∷ 9 ∷ [])) (read (record { code = (C.Large 66); size = 3; start = 7; raw = 2; tags = 0 }) (0 ∷ 0 ∷ 0 ∷ 0 ∷ 0 ∷ 0 ∷ 0 ∷ 0 ∷ 0 ∷ 0 ∷ 0 ∷ []) (104 ∷ 105 ∷ [])) ∷  -- `8AABAAABAGhp` at 0, room 2: large
+    asked (ReadText (77 ∷ 65 ∷ 65 ∷ 66 ∷ []) 0 (9 ∷ 9 ∷ 9 ∷ [])) (read (record { code = (C.Fixed 1 77); size = 1; start = binaryOffset 1; raw = 2; tags = 0 }) (0 ∷ 0 ∷ 0 ∷ 0 ∷ 0 ∷ 0 ∷ 0 ∷ 0 ∷ 0 ∷ 0 ∷ 0 ∷ []) (0 ∷ 1 ∷ 9 ∷ [])) ∷  -- `MAAB` at 0, room 3: raw 00 01, bytes behind it stay
+    asked (ReadText (65 ∷ 77 ∷ 65 ∷ 65 ∷ 66 ∷ []) 1 (9 ∷ 9 ∷ [])) (read (record { code = (C.Fixed 1 77); size = 1; start = binaryOffset 1; raw = 2; tags = 0 }) (0 ∷ 0 ∷ 0 ∷ 0 ∷ 0 ∷ 0 ∷ 0 ∷ 0 ∷ 0 ∷ 0 ∷ 0 ∷ []) (0 ∷ 1 ∷ [])) ∷  -- `AMAAB` at 1, room 2: any offset
+    asked (ReadText (86 ∷ 65 ∷ 66 ∷ 104 ∷ []) 0 (9 ∷ [])) (read (record { code = (C.Fixed 1 86); size = 1; start = binaryOffset 2; raw = 1; tags = 0 }) (0 ∷ 0 ∷ 0 ∷ 0 ∷ 0 ∷ 0 ∷ 0 ∷ 0 ∷ 0 ∷ 0 ∷ 0 ∷ []) (97 ∷ [])) ∷  -- `VABh` at 0, room 1: one zero lead byte more
+    asked (ReadText (48 ∷ 74 ∷ 95 ∷ 65 ∷ []) 0 (9 ∷ [])) (read (record { code = (C.Fixed 2 74); size = 1; start = binaryOffset 3; raw = 0; tags = 1 }) (65 ∷ 0 ∷ 0 ∷ 0 ∷ 0 ∷ 0 ∷ 0 ∷ 0 ∷ 0 ∷ 0 ∷ 0 ∷ []) (9 ∷ [])) ∷  -- `0J_A` at 0, room 1: a tag: no raw, at the item's end
+    asked (ReadText (49 ∷ 65 ∷ 65 ∷ 78 ∷ 65 ∷ 66 ∷ 67 ∷ 68 ∷ 69 ∷ 70 ∷ 71 ∷ 72 ∷ []) 0 []) (read (record { code = (C.Fixed 4 78); size = 3; start = binaryOffset 9; raw = 0; tags = 8 }) (65 ∷ 66 ∷ 67 ∷ 68 ∷ 69 ∷ 70 ∷ 71 ∷ 72 ∷ 0 ∷ 0 ∷ 0 ∷ []) []) ∷  -- `1AANABCDEFGH` at 0, room 0: eight tag characters
+    asked (ReadText (53 ∷ 66 ∷ 65 ∷ 66 ∷ 65 ∷ 71 ∷ 104 ∷ 112 ∷ []) 0 (9 ∷ 9 ∷ [])) (read (record { code = (C.Small 66); size = 2; start = binaryOffset 4; raw = 2; tags = 0 }) (0 ∷ 0 ∷ 0 ∷ 0 ∷ 0 ∷ 0 ∷ 0 ∷ 0 ∷ 0 ∷ 0 ∷ 0 ∷ []) (104 ∷ 105 ∷ [])) ∷  -- `5BABAGhp` at 0, room 2: small
+    asked (ReadText (56 ∷ 65 ∷ 65 ∷ 66 ∷ 65 ∷ 65 ∷ 65 ∷ 66 ∷ 65 ∷ 71 ∷ 104 ∷ 112 ∷ []) 0 (9 ∷ 9 ∷ [])) (read (record { code = (C.Large 66); size = 3; start = binaryOffset 7; raw = 2; tags = 0 }) (0 ∷ 0 ∷ 0 ∷ 0 ∷ 0 ∷ 0 ∷ 0 ∷ 0 ∷ 0 ∷ 0 ∷ 0 ∷ []) (104 ∷ 105 ∷ [])) ∷  -- `8AABAAABAGhp` at 0, room 2: large
     asked (ReadBinary (48 ∷ 0 ∷ 1 ∷ []) 3) (refused 4 3 []) ∷  -- `MAAB` in B at 3: 4 at the end
     asked (ReadBinary (48 ∷ 0 ∷ 1 ∷ 49 ∷ 0 ∷ 0 ∷ []) 3) (refused 8 3 []) ∷  -- `MAABMQAA` in B at 3: places in bytes
     asked (ReadBinary (248 ∷ 0 ∷ 1 ∷ 49 ∷ 0 ∷ 0 ∷ []) 0) (refused 14 0 []) ∷  -- `-AABMQAA` in B at 0: 14
     asked (ReadBinary (251 ∷ 240 ∷ 0 ∷ 0 ∷ 16 ∷ 0 ∷ []) 0) (refused 14 0 []) ∷  -- `-_AAABAA` in B at 0: never 7
-    asked (ReadBinary (48 ∷ 0 ∷ 1 ∷ 48 ∷ 255 ∷ 255 ∷ []) 3) (read (record { code = (C.Fixed 1 77); size = 1; start = 1; raw = 2; tags = 0 }) (0 ∷ 0 ∷ 0 ∷ 0 ∷ 0 ∷ 0 ∷ 0 ∷ 0 ∷ 0 ∷ 0 ∷ 0 ∷ []) (255 ∷ 255 ∷ [])) ∷  -- `MAABMP__` in B at 3: the part where it lies
-    asked (ReadBinary (208 ∷ 159 ∷ 192 ∷ []) 0) (read (record { code = (C.Fixed 2 74); size = 1; start = 3; raw = 0; tags = 1 }) (65 ∷ 0 ∷ 0 ∷ 0 ∷ 0 ∷ 0 ∷ 0 ∷ 0 ∷ 0 ∷ 0 ∷ 0 ∷ []) []) ∷  -- `0J_A` in B at 0: an empty part
-    asked (ReadBinary (244 ∷ 0 ∷ 1 ∷ 0 ∷ 0 ∷ 1 ∷ 0 ∷ 0 ∷ 97 ∷ []) 0) (read (record { code = (C.Large 66); size = 3; start = 8; raw = 1; tags = 0 }) (0 ∷ 0 ∷ 0 ∷ 0 ∷ 0 ∷ 0 ∷ 0 ∷ 0 ∷ 0 ∷ 0 ∷ 0 ∷ []) (97 ∷ [])) ∷  -- `9AABAAABAABh` in B at 0: behind the lead bytes
+    asked (ReadBinary (48 ∷ 0 ∷ 1 ∷ 48 ∷ 255 ∷ 255 ∷ []) 3) (read (record { code = (C.Fixed 1 77); size = 1; start = binaryOffset 1; raw = 2; tags = 0 }) (0 ∷ 0 ∷ 0 ∷ 0 ∷ 0 ∷ 0 ∷ 0 ∷ 0 ∷ 0 ∷ 0 ∷ 0 ∷ []) (255 ∷ 255 ∷ [])) ∷  -- `MAABMP__` in B at 3: the part where it lies
+    asked (ReadBinary (208 ∷ 159 ∷ 192 ∷ []) 0) (read (record { code = (C.Fixed 2 74); size = 1; start = binaryOffset 3; raw = 0; tags = 1 }) (65 ∷ 0 ∷ 0 ∷ 0 ∷ 0 ∷ 0 ∷ 0 ∷ 0 ∷ 0 ∷ 0 ∷ 0 ∷ []) []) ∷  -- `0J_A` in B at 0: an empty part
+    asked (ReadBinary (244 ∷ 0 ∷ 1 ∷ 0 ∷ 0 ∷ 1 ∷ 0 ∷ 0 ∷ 97 ∷ []) 0) (read (record { code = (C.Large 66); size = 3; start = binaryOffset 8; raw = 1; tags = 0 }) (0 ∷ 0 ∷ 0 ∷ 0 ∷ 0 ∷ 0 ∷ 0 ∷ 0 ∷ 0 ∷ 0 ∷ 0 ∷ []) (97 ∷ [])) ∷  -- `9AABAAABAABh` in B at 0: behind the lead bytes
     asked (WriteText (C.Fixed 3 65) (33 ∷ 33 ∷ 33 ∷ 33 ∷ 33 ∷ 33 ∷ 33 ∷ 33 ∷ 33 ∷ 33 ∷ 33 ∷ []) 12 [] []) (refused 6 0 []) ∷  -- no code of three characters: 6, then 12
     asked (WriteText (C.Fixed 1 98) (33 ∷ 33 ∷ 33 ∷ 33 ∷ 33 ∷ 33 ∷ 33 ∷ 33 ∷ 33 ∷ 33 ∷ 33 ∷ []) 0 [] []) (refused 6 0 []) ∷  -- `b`: 6
     asked (WriteText (C.Small 71) (33 ∷ 33 ∷ 33 ∷ 33 ∷ 33 ∷ 33 ∷ 33 ∷ 33 ∷ 33 ∷ 33 ∷ 33 ∷ []) 0 [] []) (refused 6 0 []) ∷  -- type G: 6

@@ -53,7 +53,7 @@ tagsOf Genus = 0
 
 -- a framed primitive of n units
 unfoldable pub primitiveOf : Kind → ℕ → ℕ → Primitive
-primitiveOf k h n = record { code = codeOf k h; size = n; start = rawStart k h; raw = 3 * n - rawStart k h; tags = tagsOf k }
+primitiveOf k h n = record { code = codeOf k h; size = n; start = binaryOffset (rawStart k h); raw = 3 * n - rawStart k h; tags = tagsOf k }
 
 -- ---- one order for both forms, on the sextets from the item's start to the stream's end; places in sextets
 
@@ -124,5 +124,5 @@ readBinary xs at =
 
 -- the part where the raw value lies, and an empty one where the read is refused
 unfoldable pub partAt : List ℕ → ℕ → BinaryFound → List ℕ
-partAt xs at (B.Found p) = take (p .raw) (drop (at + p .start) xs)
+partAt xs at (B.Found p) = take (p .raw) (drop (at + p .start .0) xs)
 partAt xs at (B.Refused m p) = []

@@ -91,12 +91,12 @@ pub enum Code {
     Large { letter: u8 },
 }
 
-// A primitive that was read: its code, its full size in units, and where its raw value starts and how long it is, in bytes of the
-// binary form, from the item's start; how many tag characters there are.
+// A primitive that was read, in either form: its code, its full size in units, where its raw value starts in the item's binary form,
+// how many bytes the raw value has and how many tag characters there are.
 pub struct Primitive {
     pub code: Code,
     pub size: usize,
-    pub start: usize,
+    pub start: BinaryOffset,
     pub raw: usize,
     pub tags: usize,
 }

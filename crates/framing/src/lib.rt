@@ -10,7 +10,7 @@ ghost use Prim.Native.Nat.{_+_, _*_, _≤_};
 ghost use Rattle.format.specs.Alphabet.{sextetTable};
 ghost use Rattle.format.specs.Units.{textSextets, binarySextets};
 ghost use Rattle.format.specs.Registry.{opening};
-ghost use Rattle.format.specs.Framing.{fit, known, second, headed, frameWith, isOurs, ruled, frame, frameRuled};
+ghost use Rattle.format.specs.Framing.{fit, known, second, headed, frameWith, isOurs, ruled, frameRuled};
 ghost use Rattle.framing.specs.Heads.{unitOf, headOf, nextBy};
 
 // ---- the first three units, as sextets; 0 past the end
@@ -285,23 +285,7 @@ pub fn frame_next_head(cs: [u8; 12], len: usize, first: bool) -> Framed
 
 // ---- either form
 
-// The item at the start of a part of a text.
-pub fn frame_text(s: &[u8]) -> Framed
-    ensures { λ r. ⌜ r ≡ frame (textSextets (now (s .entry))) ⌝ }
-{
-    let head = text_head(s);
-    frame_head(head, s.len() / 4)
-}
-
-// The item at the start of a part of a binary.
-pub fn frame_binary(s: &[u8]) -> Framed
-    ensures { λ r. ⌜ r ≡ frame (binarySextets (now (s .entry))) ⌝ }
-{
-    let head = binary_head(s);
-    frame_head(head, s.len() / 3)
-}
-
-// The same where 7 is asked.
+// The item at the start of a part of a text or a binary, where 7 is asked.
 pub fn frame_ruled_text(s: &[u8]) -> Framed
     ensures { λ r. ⌜ r ≡ frameRuled (textSextets (now (s .entry))) ⌝ }
 {

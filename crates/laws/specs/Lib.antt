@@ -11,3 +11,4 @@ pub mod Items
 pub mod Values
 pub mod Levels
 pub mod Scan
+pub mod Offsets

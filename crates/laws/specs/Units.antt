@@ -1,12 +1,11 @@
 -- A unit there and back. Both ways are one law, there-and-back of base, at 64 ^ 4 = 256 ^ 3. Assumes nothing.
-use Prim.Native.Nat.{ℕ, _+_, _<_, _≤_}
+use Prim.Native.Nat.{ℕ, _<_}
 use mathlib.Core.Path.{_≡_, refl, ap, _∙_}
 use mathlib.Core.List.{List, [], _∷_, map}
 use lib.Dec.{lit<}
 use lib.ListN.{length, getD, take, drop, length-map}
-use Rattle.base.specs.Each.{take4}
 use Rattle.base.specs.Lists.{getD-table}
-use Rattle.base.specs.Digits.{Below, none, more, digitsOf, numberOf, length-digits, digits-below, there-and-back, map-back}
+use Rattle.base.specs.Digits.{Below, more, below-take, below-drop, below-all, digitsOf, numberOf, length-digits, digits-below, there-and-back, map-back}
 use Rattle.format.specs.Alphabet.{sextetOf, charOf}
 use Rattle.format.specs.Alphabet.{sextetTable, characterTable}
 use Rattle.format.specs.Units.{bytesOf, sextetsOf, tripletOf, quadletOf, tripletBy, quadletBy}
@@ -83,11 +82,14 @@ unfolding tripletBy tripletOf sextetTable
 triplet-by q h = ap bytesOf (map-below (λ c. getD sextetTable c 0) sextetOf 256 (λ c p. getD-table sextetOf 256 c p) q h)
 
 -- four bytes of a stream, read by the table
-pub read-triplet : (values s : List ℕ) (at : ℕ) → values ≡ sextetTable → at + 4 ≤ length s → ((i : ℕ) → getD s i 0 < 256) → (r : List ℕ)
-    → r ≡ tripletBy values (getD s at 0 ∷ getD s (at + 1) 0 ∷ getD s (at + 2) 0 ∷ getD s (at + 3) 0 ∷ []) → r ≡ tripletOf (take 4 (drop at s))
-read-triplet values s at e h f r p =
-    rw (take4 s at h) (rw e at p ∙ triplet-by _ (more (f at) (more (f (at + 1)) (more (f (at + 2)) (more (f (at + 3)) none)))))
+pub read-unit : (s : List ℕ) (at : ℕ) {values q t : List ℕ} → values ≡ sextetTable → ((i : ℕ) → getD s i 0 < 256) → q ≡ take 4 (drop at s)
+    → t ≡ tripletBy values q → t ≡ tripletOf (take 4 (drop at s))
+read-unit s at e f g h = h ∙ rw (e, g) (triplet-by _ (below-take 256 4 _ (below-drop 256 at _ (below-all 256 s (λ i l. f i)))))
 
 pub quadlet-by : (t : List ℕ) → quadletBy characterTable t ≡ quadletOf t
 unfolding quadletBy quadletOf characterTable
 quadlet-by t = map-below (λ v. getD characterTable v 0) charOf 64 (λ v p. getD-table charOf 64 v p) (sextetsOf t) (sextets-below t)
+
+-- a unit's characters, taken from the table
+pub read-unit-back : {characters t u q : List ℕ} → characters ≡ characterTable → t ≡ u → q ≡ quadletBy characters t → q ≡ quadletOf u
+read-unit-back e f g = g ∙ rw (e, f) (quadlet-by _)

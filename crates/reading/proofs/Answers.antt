@@ -206,7 +206,7 @@ unfolding outcome
 out-found r k h n e = rw e
 
 found-in : (s : List ℕ) (at : ℕ) (r : Reading) (p : Primitive) → reading (binarySextets (drop at s)) ≡ r
-    → binaryAnswer at r (binarySextets (drop at s)) .found ≡ B.Found p → at ≤ length s → at + p .start + p .raw ≤ length s
+    → binaryAnswer at r (binarySextets (drop at s)) .found ≡ B.Found p → at ≤ length s → at + p .start .0 + p .raw ≤ length s
 unfolding binaryAnswer primitiveOf
 found-in s at (refused m q) p e f l = let z : _≡_ {A = ℕ} 0 1 = cc in absurd (omega arith)
 found-in s at (found k h n) p e f l =
@@ -220,7 +220,7 @@ past-none s at p l e =
     (lt-or-ge 3145728 (length s))
 
 -- the part that is handed back lies in the stream
-pub found-inside : (s : List ℕ) (at : ℕ) (p : Primitive) → readBinary s at .found ≡ B.Found p → at + p .start + p .raw ≤ length s
+pub found-inside : (s : List ℕ) (at : ℕ) (p : Primitive) → readBinary s at .found ≡ B.Found p → at + p .start .0 + p .raw ≤ length s
 unfolding readBinary from
 found-inside s at p e =
     ⊎-elim (λ g. let z : _≡_ {A = ℕ} 0 1 = cc (binary-long s at g) in absurd (omega arith))

@@ -100,7 +100,7 @@ module _ (t : List ℕ) (k : Kind) (h n : ℕ) (e : outcome (reading (textSextet
 
       -- what is copied out is the raw value
       pub raw-copied : (d′ : List ℕ)
-          → (Fit (take (4 * n) t) → p .start ≤ length (take (4 * n) t) / 4 * 3 → length (take (4 * n) t) / 4 * 3 - p .start ≤ length d → d′ ≡ rawInto (take (4 * n) t) (p .start) d)
+          → (Fit (take (4 * n) t) → p .start .0 ≤ length (take (4 * n) t) / 4 * 3 → length (take (4 * n) t) / 4 * 3 - p .start .0 ≤ length d → d′ ≡ rawInto (take (4 * n) t) (p .start .0) d)
           → d′ ≡ rawLeft (T.Found p) t 0 d
       unfolding rawLeft from textRaw primitiveOf textSextets
       raw-copied d′ w =

@@ -27,5 +27,5 @@ noText m p = record { found = T.Refused m (textOffset p); tag = noTag }
 -- 01: "the part of the binary stream where it lies": where it starts in the stream, for an empty value too; a refused read's empty part
 -- is at the stream's start
 unfoldable pub partStart : ℕ → BinaryFound → ℕ
-partStart at (B.Found p) = at + p .start
+partStart at (B.Found p) = at + p .start .0
 partStart at (B.Refused m q) = 0

@@ -123,7 +123,7 @@ pub fn raw_binary(s: &[u8], at: BinaryOffset) -> &[u8]
     match found {
         BinaryFound::Refused(_, _) => &s[..0],
         BinaryFound::Found(p) => {
-            let start = from + p.start;
+            let start = from + p.start.0;
             let end = start + p.raw;
             &s[start..end]
         }

@@ -1,9 +1,11 @@
 // A framed primitive in a caller's words: its code, where its raw value starts, and its tag characters. No stream is looked at. What is
 // said holds of what framing gives: two header units and 1,048,576 units at most, and a row whose tag characters end with the item.
+use format::BinaryOffset;
 use format::Code;
 use format::CodeRow;
 use format::Kind;
 use format::Primitive;
+use format::TextOffset;
 ghost use mathlib.Core.Path.{_≡_};
 ghost use Prim.Native.Nat.{_+_, _-_, _<_, _≤_, min};
 ghost use Rattle.format.specs.declared.Kind.the-variants as Kind;
@@ -86,23 +88,24 @@ fn tags_of(kind: Kind) -> usize
     }
 }
 
-pub fn fixed_start(c: CodeRow) -> usize
-    ensures { λ r. ⌜ (r ≡ rawStart (Kind.Fixed c) 1) × (r < 1000) ⌝ }
+// Where a row's raw value starts, in the item's binary form.
+pub fn fixed_start(c: CodeRow) -> BinaryOffset
+    ensures { λ r. ⌜ (r .0 ≡ rawStart (Kind.Fixed c) 1) × (r .0 < 1000) ⌝ }
 {
     let chars = c.chars;
     let pad = c.pad;
     let lead = c.lead;
     let size = c.size;
     if c.tag == 0 {
-        (6 * wide(chars) + (2 * wide(pad) + 8 * wide(lead))) / 8
+        BinaryOffset((6 * wide(chars) + (2 * wide(pad) + 8 * wide(lead))) / 8)
     } else {
-        wide(size) / 4 * 3
+        offsets::in_binary(TextOffset(wide(size)))
     }
 }
 
-fn raw_start(kind: Kind, h: usize) -> usize
+fn raw_start(kind: Kind, h: usize) -> BinaryOffset
     requires { ⌜ h ≤ 2 ⌝ }
-    ensures { λ r. ⌜ (r ≡ rawStart kind h) × (r < 1000) ⌝ }
+    ensures { λ r. ⌜ (r .0 ≡ rawStart kind h) × (r .0 < 1000) ⌝ }
 {
     match kind {
         Kind::Fixed(c) => fixed_start(c),
@@ -110,9 +113,9 @@ fn raw_start(kind: Kind, h: usize) -> usize
             letter: _,
             lead,
             count: _,
-        } => 3 * h + wide(lead),
-        Kind::Group { letter: _ } => 3 * h,
-        Kind::Genus => 3 * h,
+        } => BinaryOffset(3 * h + wide(lead)),
+        Kind::Group { letter: _ } => BinaryOffset(3 * h),
+        Kind::Genus => BinaryOffset(3 * h),
     }
 }
 
@@ -133,7 +136,7 @@ pub fn primitive_of(kind: Kind, h: usize, n: usize) -> Primitive
     ensures { λ r. ⌜ (h ≤ 2 → n ≤ 1048576 → r ≡ primitiveOf kind h n) ⌝ }
 {
     let start = raw_start(kind, at_most(h, 2));
-    let raw = left(3 * at_most(n, 1048576), start);
+    let raw = left(3 * at_most(n, 1048576), start.0);
     let code = code_of(kind, h);
     let tags = tags_of(kind);
     Primitive {

@@ -3,7 +3,7 @@ use libc::STDOUT_FILENO;
 ghost use mathlib.Core.Path.{_≡_};
 ghost use Prim.Native.Nat.{_<_};
 
-pub fn wide(x: u8) -> usize
+fn wide(x: u8) -> usize
     ensures { λ r. ⌜ (r ≡ x) × (r < 256) ⌝ }
 {
     x as usize
@@ -16,7 +16,7 @@ pub fn number(high: u8, low: u8) -> usize
     wide(high) * 256 + wide(low)
 }
 
-pub fn show_byte(b: u8) {
+fn show_byte(b: u8) {
     io::print_hex(STDOUT_FILENO, b as u64, 2);
 }
 

@@ -4,7 +4,7 @@ use format::Opening;
 ghost use mathlib.Core.Path.{_≡_};
 ghost use Prim.Native.Nat.{_+_, _*_, _<_};
 ghost use lib.ListN.{getD};
-ghost use Rattle.format.specs.Registry.{isOpaque, isOverrideable, isType, opening, headerUnits, extent};
+ghost use Rattle.format.specs.Registry.{isOpaque, isOverrideable, isType, opening, extent};
 ghost use Rattle.registry.specs.Parts.{pad0Opening, smallVariable, largeVariable, groupOpening};
 
 fn wide(x: u8) -> usize
@@ -132,22 +132,6 @@ pub fn opening(u: [u8; 4]) -> Opening
         return group(b, c, d);
     }
     Opening::Unknown
-}
-
-// The units of the header that a first unit opens; 0 where its code is unknown.
-pub fn header_units(op: Opening) -> usize
-    ensures { λ r. ⌜ r ≡ headerUnits op ⌝ }
-{
-    match op {
-        Opening::Unknown => 0,
-        Opening::Short { kind: _, size: _ } => 1,
-        Opening::LargeVariable { letter: _, lead: _ } => 2,
-        Opening::LargeGroup {
-            letter: _,
-            digit: _,
-        } => 2,
-        Opening::Version => 2,
-    }
 }
 
 // The number that the second unit's four sextets stand for.

@@ -85,7 +85,7 @@ pub fn put_row(out: &mut [u8], at: usize, offset: usize, size: usize, number: u8
     }
 }
 
-pub fn put_refusal(out: &mut [u8], at: usize, index: usize, number: u8, place: usize)
+fn put_refusal(out: &mut [u8], at: usize, index: usize, number: u8, place: usize)
     ensures { λ _. ⌜ now (out .exit) ≡ put (now (out .entry)) at (be4 index ++ (number ∷ be4 place)) ⌝ }
 {
     if has_room(out.len(), at, 9) {

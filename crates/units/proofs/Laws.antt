@@ -1,5 +1,5 @@
 -- What the code computes of a unit's elements is the definition. Assumes nothing.
-use mathlib.Core.Path.{_≡_, refl}
+use mathlib.Core.Path.{_≡_, refl, _∙_}
 use mathlib.Core.List.{List, [], _∷_, map}
 use Prim.Native.Nat.{ℕ, _+_, _*_, _/_, _%_, _<_}
 use native.Mathlib.Omega.{arith}
@@ -42,3 +42,9 @@ pub by-characters : (characters t q : List ℕ) → q ≡ sextetsOf t
     ≡ quadletBy characters t
 unfolding quadletBy sextetsOf
 by-characters characters t q e = rw e
+
+-- four characters that were found there
+pub characters-found : (characters t q : List ℕ) → q ≡ sextetsOf t → {a b c d : ℕ}
+    → a ≡ getD characters (getD q 0 0) 0 → b ≡ getD characters (getD q 1 0) 0 → c ≡ getD characters (getD q 2 0) 0 → d ≡ getD characters (getD q 3 0) 0
+    → a ∷ b ∷ c ∷ d ∷ [] ≡ quadletBy characters t
+characters-found characters t q e f g h i = four f g h i ∙ by-characters characters t q e

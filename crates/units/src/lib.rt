@@ -3,7 +3,7 @@
 ghost use mathlib.Core.Path.{_≡_};
 ghost use Prim.Native.Nat.{_<_};
 ghost use lib.ListN.{getD};
-ghost use Rattle.format.specs.Units.{bytesOf, sextetsOf, tripletBy};
+ghost use Rattle.format.specs.Units.{bytesOf, sextetsOf, tripletBy, quadletBy};
 
 fn wide(x: u8) -> u32
     ensures { λ r. ⌜ (r ≡ x) × (r < 256) ⌝ }
@@ -52,4 +52,24 @@ pub fn triplet(values: &[u8; 256], q: [u8; 4]) -> [u8; 3]
         value(values, q[2]),
         value(values, q[3]),
     ])
+}
+
+fn character(characters: &[u8; 64], v: u8) -> u8
+    requires { ⌜ v < 64 ⌝ }
+    ensures { λ r. ⌜ r ≡ getD (now (characters .entry)) v 0 ⌝ }
+{
+    characters[v as usize]
+}
+
+// Three bytes as four characters, each sextet's character taken from the table.
+pub fn quadlet(characters: &[u8; 64], t: [u8; 3]) -> [u8; 4]
+    ensures { λ r. ⌜ r ≡ quadletBy (now (characters .entry)) t ⌝ }
+{
+    let q = unpack(t);
+    [
+        character(characters, q[0]),
+        character(characters, q[1]),
+        character(characters, q[2]),
+        character(characters, q[3]),
+    ]
 }

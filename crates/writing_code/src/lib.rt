@@ -4,6 +4,7 @@ use format::Code;
 use format::CodeRow;
 use format::Kind;
 use format::Opening;
+use format::TextOffset;
 ghost use mathlib.Core.Path.{_≡_};
 ghost use Prim.Native.Nat.{_+_, _*_, _<_};
 ghost use Rattle.base.specs.Pick.{pick};
@@ -101,8 +102,8 @@ fn raw_size(c: CodeRow) -> usize
     ensures { λ r. ⌜ r ≡ rawSize c ⌝ }
 {
     let size = c.size;
-    let start = reading_item::fixed_start(c);
-    let full = wide(size) / 4 * 3;
+    let start = reading_item::fixed_start(c).0;
+    let full = offsets::in_binary(TextOffset(wide(size))).0;
     if start < full { full - start } else { 0 }
 }
 

@@ -1,7 +1,10 @@
 -- `text_to_binary` meets its contract. Assumes nothing.
-use mathlib.Core.Path.{refl, sym, _∙_}
+use mathlib.Core.Path.{refl, ap, sym, _∙_}
 use native.Mathlib.Omega.{arith}
+use Rattle.format.specs.declared.ToBinary.the-variants as B
+use Rattle.format.specs.Offsets.{offsetInBinary}
 use Rattle.format.specs.Conversion.{binaryLeft}
+use Rattle.laws.specs.Offsets.{in-binary-is}
 use Rattle.convert_pack.proofs.Left.{stranger-left, no-room-left, written-left}
 use Rattle.convert.proofs.Answers.{text-long, text-torn, text-stranger, text-no-room, text-converted}
 use borrow.Author.Needs.{needs}
@@ -28,8 +31,8 @@ returns-3 c =
     let b = c .before .before .before .to-binary in
     (sym (text-stranger _ _ (omega arith) (omega arith) _ (b .ensures .0) (omega arith)), b .ensures .1 ∙ stranger-left _ _ (omega arith))
 
-mul-size : tie.Need-mul-size
-mul-size c = search needs
+in-binary-requires : tie.Need-in-binary-requires
+in-binary-requires c κs = search needs
 
 same-length-2 : tie.Need-same-length-2
 same-length-2 c = search needs
@@ -37,20 +40,22 @@ same-length-2 c = search needs
 returns-4 : tie.Need-returns-4
 unfolding binaryLeft
 returns-4 c =
-    let b = c .before .before .before .before .to-binary in (
-      sym (text-no-room _ _ (omega arith) (omega arith) _ (b .ensures .0) (omega arith) (omega arith)),
-      b .ensures .1 ∙ no-room-left _ _ (omega arith) (omega arith),
+    let b = c .before .before .before .before .before .before .to-binary in
+    let size = in-binary-is _ (c .before .before .in-binary .ensures) in (
+      sym (text-no-room _ _ (omega arith) (omega arith) _ (b .ensures .0) (omega arith) (omega (arith, size))),
+      b .ensures .1 ∙ no-room-left _ _ (omega arith) (omega (arith, size)),
     )
 
 same-length-3 : tie.Need-same-length-3
 same-length-3 c = search needs
 
 returns-5 : tie.Need-returns-5
-unfolding binaryLeft
+unfolding binaryLeft offsetInBinary
 returns-5 c =
-    let b = c .before .before .before .before .to-binary in (
-      sym (text-converted _ _ (omega arith) (omega arith) _ (b .ensures .0) (omega arith) (omega arith)),
-      b .ensures .1 ∙ written-left _ _ (omega arith) (omega arith),
+    let b = c .before .before .before .before .before .before .to-binary in
+    let size = in-binary-is _ (c .before .before .in-binary .ensures) in (
+      ap B.Written (c .before .before .in-binary .ensures) ∙ sym (text-converted _ _ (omega arith) (omega arith) _ (b .ensures .0) (omega arith) (omega (arith, size))),
+      rw size (b .ensures .1 ∙ written-left _ _ (omega arith) (omega (arith, size))),
     )
 
 pub text-to-binary-spec : {M : Type 1} → statement M
@@ -62,7 +67,7 @@ text-to-binary-spec =
     to-binary-requires
     same-length
     returns-3
-    mul-size
+    in-binary-requires
     same-length-2
     returns-4
     same-length-3

@@ -1,30 +1,43 @@
 -- `quadlet_at` meets its contract. Assumes nothing.
-use Rattle.convert_pack.proofs.Pairs.{quadlet-number}
+use mathlib.Core.Path.{sym}
+use Rattle.base.specs.Each.{take4}
 use borrow.Author.Needs.{needs}
 use Rattle.convert_pack.proofs.quadlet_at.Statement.{statement}
 use Rattle.convert_pack.proofs.quadlet_at.Tie as tie
 
-pair-at-requires : tie.Need-pair-at-requires
-pair-at-requires c κs = search needs
+shared-slice-read-t4 : tie.Need-shared-slice-read-t4
+shared-slice-read-t4 c = search needs
 
-mul-result : tie.Need-mul-result
-mul-result c = search needs
+add-t5 : tie.Need-add-t5
+add-t5 c = search needs
 
-add-pair-at : tie.Need-add-pair-at
-add-pair-at c = search needs
+shared-slice-read-t7 : tie.Need-shared-slice-read-t7
+shared-slice-read-t7 c = search needs
 
-pair-at-requires-2 : tie.Need-pair-at-requires-2
-pair-at-requires-2 c κs = search needs
+add-t8 : tie.Need-add-t8
+add-t8 c = search needs
 
-add-result : tie.Need-add-result
-add-result c = search needs
+shared-slice-read-t10 : tie.Need-shared-slice-read-t10
+shared-slice-read-t10 c = search needs
+
+add-t11 : tie.Need-add-t11
+add-t11 c = search needs
+
+shared-slice-read-t13 : tie.Need-shared-slice-read-t13
+shared-slice-read-t13 c = search needs
 
 returns : tie.Need-returns
-returns c =
-    let a = c .before .before .before in
-    quadlet-number (a .args .s .now) (a .args .at) _ _ (search needs) (c .before .pair-at .ensures .0) (c .pair-at2 .ensures .0)
+returns c = sym (take4 (c .before .before .before .before .args .s .now) (c .before .before .before .before .args .at) (search needs))
 
 pub quadlet-at-spec : {M : Type 1} → statement M
 quadlet-at-spec =
     tie.close
-    (tie.spec pair-at-requires mul-result add-pair-at pair-at-requires-2 add-result returns)
+    (tie.spec
+    shared-slice-read-t4
+    add-t5
+    shared-slice-read-t7
+    add-t8
+    shared-slice-read-t10
+    add-t11
+    shared-slice-read-t13
+    returns)

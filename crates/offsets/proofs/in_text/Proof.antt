@@ -1,3 +1,4 @@
+use native.Mathlib.Omega.{arith}
 use borrow.Author.Tests.{le-leb, lt-leb}
 use Rattle.format.specs.Offsets.{offsetInText}
 use borrow.Author.Needs.{needs}
@@ -13,12 +14,12 @@ mul-t6 c = search needs
 -- src/lib.rt:17:1
 returns : tie.Need-returns
 unfolding offsetInText
-returns c = simp (le-leb _ _ (c .if1 .taken))
+returns c = simp (le-leb (c .before .args .b .0) 3145728 (omega arith))
 
 -- src/lib.rt:17:1
 returns-2 : tie.Need-returns-2
 unfolding offsetInText
-returns-2 c = simp (lt-leb _ _ (c .if1 .left))
+returns-2 c = simp (lt-leb (c .before .args .b .0) 3145728 (omega arith))
 
 pub in-text-spec : {M : Type 1} → statement M
 in-text-spec = tie.close (tie.spec mul-t6 returns returns-2)

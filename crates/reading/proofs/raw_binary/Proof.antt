@@ -65,7 +65,7 @@ unfolding partAt partStart
 returns-2 c =
     let a = c .before .before .before .before .before .before .before .before .args in
     let p = c .before .before .before .before .found .given .0 .0 in
-    let z : a .at .0 + p .start + p .raw - (a .at .0 + p .start) ≡ p .raw = omega arith in
+    let z : a .at .0 + p .start .0 + p .raw - (a .at .0 + p .start .0) ≡ p .raw = omega arith in
     let e = ap (λ (r : BinaryRead). r .found) (sym (c .before .before .before .before .before .before .read-binary .ensures)) ∙ c .before .before .before .before .found .given .1 in
     (rw (z, e), rw e)
 

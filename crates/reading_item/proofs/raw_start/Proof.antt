@@ -1,11 +1,8 @@
+-- `raw_start` meets its contract. Assumes nothing.
 use Rattle.format.specs.Values.{rawStart}
 use borrow.Author.Needs.{needs}
 use Rattle.reading_item.proofs.raw_start.Statement.{statement}
 use Rattle.reading_item.proofs.raw_start.Tie as tie
-use Rattle.reading_item.proofs.raw_start.Reads as reads
-use Rattle.reading_item.proofs.raw_start.Lts as lts
-use Rattle.reading_item.proofs.fixed_start.Reads as fixed-start-reads
-use Rattle.reading_item.proofs.wide.Reads as wide-reads
 
 enum-known-kind : tie.Need-enum-known-kind
 enum-known-kind c = search needs
@@ -16,26 +13,26 @@ fixed-start-requires c κs = search needs
 enum-known-kind-2 : tie.Need-enum-known-kind-2
 enum-known-kind-2 c = search needs
 
-mul-result : tie.Need-mul-result
-mul-result c = search needs
+mul-t6 : tie.Need-mul-t6
+mul-t6 c = search needs
 
 wide-requires : tie.Need-wide-requires
 wide-requires c κs = search needs
 
-add-result : tie.Need-add-result
-add-result c = search needs
+add-t8 : tie.Need-add-t8
+add-t8 c = search needs
 
 enum-told : tie.Need-enum-told
 enum-told c = search needs
 
-mul-result-2 : tie.Need-mul-result-2
-mul-result-2 c = search needs
+mul-t9 : tie.Need-mul-t9
+mul-t9 c = search needs
 
 enum-told-2 : tie.Need-enum-told-2
 enum-told-2 c = search needs
 
-mul-result-3 : tie.Need-mul-result-3
-mul-result-3 c = search needs
+mul-t10 : tie.Need-mul-t10
+mul-t10 c = search needs
 
 returns : tie.Need-returns
 unfolding rawStart
@@ -60,13 +57,13 @@ raw-start-spec =
     enum-known-kind
     fixed-start-requires
     enum-known-kind-2
-    mul-result
+    mul-t6
     wide-requires
-    add-result
+    add-t8
     enum-told
-    mul-result-2
+    mul-t9
     enum-told-2
-    mul-result-3
+    mul-t10
     returns
     returns-2
     returns-3

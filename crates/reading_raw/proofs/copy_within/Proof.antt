@@ -1,4 +1,4 @@
--- `reading_raw::copy_within` meets its contract: the last two bytes of a unit or the last one, and the units behind it. Assumes nothing.
+-- `reading_raw::copy_within` meets its contract: the last two bytes of a unit, or the last one, and the units behind it. Assumes nothing.
 use Prim.Native.Nat.{_/_}
 use native.Mathlib.Omega.{arith}
 use lib.ListN.{length-set}
@@ -6,13 +6,6 @@ use Rattle.reading_raw.proofs.Copying.{copied-two, copied-one}
 use borrow.Author.Needs.{needs}
 use Rattle.reading_raw.proofs.copy_within.Statement.{statement}
 use Rattle.reading_raw.proofs.copy_within.Tie as tie
-use Rattle.reading_raw.proofs.copy_within.Reads as reads
-use Rattle.reading_raw.proofs.copy_within.Lts as lts
-use Rattle.reading_raw.proofs.copy_units.Reads as copy-units-reads
-use Rattle.reading_raw.proofs.triplet_at.Reads as triplet-at-reads
-
-mul-unit : tie.Need-mul-unit
-mul-unit c = search needs
 
 triplet-at-requires : tie.Need-triplet-at-requires
 triplet-at-requires c κs = search needs
@@ -43,8 +36,9 @@ returns c =
     let t = c .before .before .before .before .before in
     let s = t .before .before .before in
     let a = s .args in
-    λ f. copied-two (a .item .now) (a .out .now) (a .start) (a .start / 3) (s .pre .1) (s .pre .2) (t .triplet-at .result) (t .triplet-at .ensures) (omega arith) (omega arith) _
-    (c .before .before .copy-units .ensures f (omega arith) (simp length-set (omega (arith, f .whole))))
+    let unit = s .pre .0 in
+    λ f. copied-two (a .item .now) (a .out .now) (a .start) (a .start / 3) (s .pre .2) (s .pre .3) (t .triplet-at .result) (rw unit at (t .triplet-at .ensures)) (omega arith) (omega arith) _
+    (rw unit at (c .before .before .copy-units .ensures f (omega arith) (simp length-set (omega (arith, f .whole)))))
 
 array-read-out-3 : tie.Need-array-read-out-3
 array-read-out-3 c = search needs
@@ -66,14 +60,14 @@ returns-2 c =
     let t = c .before .before .before .before .before in
     let s = t .before .before .before in
     let a = s .args in
-    λ f. copied-one (a .item .now) (a .out .now) (a .start) (a .start / 3) (s .pre .1) (s .pre .2) (t .triplet-at .result) (t .triplet-at .ensures) (omega arith) (omega arith) _
-    (c .before .before .copy-units2 .ensures f (omega arith) (simp length-set (omega (arith, f .whole))))
+    let unit = s .pre .0 in
+    λ f. copied-one (a .item .now) (a .out .now) (a .start) (a .start / 3) (s .pre .2) (s .pre .3) (t .triplet-at .result) (rw unit at (t .triplet-at .ensures)) (omega arith) (omega arith) _
+    (rw unit at (c .before .before .copy-units2 .ensures f (omega arith) (simp length-set (omega (arith, f .whole)))))
 
 pub copy-within-spec : {M : Type 1} → statement M
 copy-within-spec =
     tie.close
     (tie.spec
-    mul-unit
     triplet-at-requires
     array-read-out
     slice-write-out

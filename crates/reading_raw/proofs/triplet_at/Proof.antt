@@ -1,5 +1,7 @@
+use mathlib.Core.Path.{sym}
+use Rattle.base.specs.Each.{take4}
 use native.Mathlib.Omega.{arith}
-use Rattle.laws.specs.Units.{read-triplet}
+use Rattle.laws.specs.Units.{read-unit}
 use borrow.Author.Needs.{needs}
 use Rattle.reading_raw.proofs.triplet_at.Statement.{statement}
 use Rattle.reading_raw.proofs.triplet_at.Tie as tie
@@ -38,8 +40,8 @@ triplet-requires c κs = search needs
 returns : tie.Need-returns
 returns c =
     let a = c .before .before .before .before .before .before .before .before in
-    read-triplet _ (a .args .item .now) (a .args .at) (c .before .before .before .before .before .before .sextets .ensures) (a .pre) (λ i. omega (arith, c .before .shared-slice-known5 .given i))
-    (c .triplet .result) (c .triplet .ensures)
+    read-unit (a .args .item .now) (a .args .at) (c .before .before .before .before .before .before .sextets .ensures) (λ i. omega (arith, c .before .shared-slice-known5 .given i))
+    (sym (take4 _ _ (a .pre))) (c .triplet .ensures)
 
 pub triplet-at-spec : {M : Type 1} → statement M
 triplet-at-spec =
