@@ -10,15 +10,15 @@ use format::TextOffset;
 use format::TextWritten;
 use format::ToBinary;
 use format::ToText;
-use walk::BinaryItem;
-use walk::TextItem;
+use walk_state::BinaryItem;
+use walk_state::TextItem;
 ghost use mathlib.Core.Path.{_≡_};
 ghost use lib.ListN.{length};
 ghost use Rattle.format.specs.Conversion.{textToBinary, toBinaryNumber, toBinaryValue, binaryLeft, binaryToText, toTextNumber, toTextValue, textLeft};
 ghost use Rattle.format.specs.Units.{text, binary};
 ghost use Rattle.format.specs.Reading.{readText, readBinary, rawLeft};
 ghost use Rattle.format.specs.Writing.{writeText, textItemLeft, writeBinary, binaryItemLeft};
-ghost use Rattle.walk.specs.Walking.{textStep, binaryStep};
+ghost use Rattle.walk_state.specs.Walking.{textStep, binaryStep};
 ghost use Rattle.exports_values.specs.Answers.{codeFrom};
 ghost use Rattle.exports_values.specs.Answers.{textFoundNumber, textFoundValue, textTagLeft, textInfoLeft};
 ghost use Rattle.exports_values.specs.Answers.{binaryFoundNumber, binaryFoundValue, binaryTagLeft, binaryInfoLeft};
@@ -247,7 +247,7 @@ pub extern "C" fn cesr_walk_text(
 {
     let numbers = *state;
     let w = exports_values::walk_of(numbers);
-    let step = w.step_text(stream);
+    let step = walk::step_text(w, stream);
     let next = step.next;
     let found = step.found;
     match found {
@@ -291,7 +291,7 @@ pub extern "C" fn cesr_walk_binary(
 {
     let numbers = *state;
     let w = exports_values::walk_of(numbers);
-    let step = w.step_binary(stream);
+    let step = walk::step_binary(w, stream);
     let next = step.next;
     let found = step.found;
     match found {

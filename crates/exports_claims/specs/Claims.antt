@@ -13,10 +13,10 @@ use Rattle.format.specs.Conversion.{textToBinary, toBinaryNumber, binaryLeft, b
 use Rattle.format.specs.Report.{reportAnswer, reportNumber, reportLeft}
 use Rattle.format.specs.Reading.{readText, rawLeft, readBinary}
 use Rattle.format.specs.Writing.{writeText, textItemLeft, writeBinary, binaryItemLeft}
-use Rattle.walk.specs.declared.Walk.{Walk}
-use Rattle.walk.specs.declared.TextItem.the-variants as TI
-use Rattle.walk.specs.declared.BinaryItem.the-variants as BI
-use Rattle.walk.specs.Walking.{start, textStep, binaryStep}
+use Rattle.walk_state.specs.declared.Walk.{Walk}
+use Rattle.walk_state.specs.declared.TextItem.the-variants as TI
+use Rattle.walk_state.specs.declared.BinaryItem.the-variants as BI
+use Rattle.walk_state.specs.Walking.{start, textStep, binaryStep}
 use Rattle.walk_claims.specs.Words.{after}
 use Rattle.exports_values.specs.Answers.{textFoundNumber, textTagLeft, textInfoLeft, binaryFoundNumber, binaryTagLeft, binaryInfoLeft}
 use Rattle.exports_values.specs.Answers.{textWrittenNumber, binaryWrittenNumber}

@@ -9,10 +9,10 @@ use lib.ListN.{length, replicate}
 use Rattle.format.specs.Units.{Domain, text, binary}
 use Rattle.format.specs.Judging.{maxDepth}
 use Rattle.laws.specs.Domains.{text-reader, binary-reader}
-use Rattle.walk.specs.declared.Walk.{Walk}
-use Rattle.walk.specs.declared.Found.{Found}
-use Rattle.walk.specs.declared.Found.the-variants as F
-use Rattle.walk.specs.Walking.{start, stepIn, textItem, textStep, binaryItem, binaryStep}
+use Rattle.walk_state.specs.declared.Walk.{Walk}
+use Rattle.walk_state.specs.declared.Found.{Found}
+use Rattle.walk_state.specs.declared.Found.the-variants as F
+use Rattle.walk_state.specs.Walking.{start, stepIn, textItem, textStep, binaryItem, binaryStep}
 use Rattle.walk_claims.specs.Words.{Stops, after}
 use Rattle.walk_claims.specs.Runs.{stays, after-fits}
 use Rattle.exports_values.specs.Lent.{stateSize, walkOf, stateOf, slotsOf, textStateLeft, binaryStateLeft}

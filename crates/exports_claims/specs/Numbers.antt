@@ -32,14 +32,14 @@ use Rattle.format.specs.Reading.{readText, rawLeft, readBinary}
 use Rattle.format.specs.Writing.{writeText, textItemLeft, writeBinary, binaryItemLeft}
 use Rattle.claims.specs.Claims.{Demand1}
 use Rattle.claims.specs.Demand1.{demand1}
-use Rattle.walk.specs.declared.Walk.{Walk}
-use Rattle.walk.specs.declared.Found.{Found}
-use Rattle.walk.specs.declared.Found.the-variants as F
-use Rattle.walk.specs.declared.TextItem.{TextItem}
-use Rattle.walk.specs.declared.TextItem.the-variants as TI
-use Rattle.walk.specs.declared.BinaryItem.{BinaryItem}
-use Rattle.walk.specs.declared.BinaryItem.the-variants as BI
-use Rattle.walk.specs.Walking.{stepIn, textItem, textStep, binaryItem, binaryStep}
+use Rattle.walk_state.specs.declared.Walk.{Walk}
+use Rattle.walk_state.specs.declared.Found.{Found}
+use Rattle.walk_state.specs.declared.Found.the-variants as F
+use Rattle.walk_state.specs.declared.TextItem.{TextItem}
+use Rattle.walk_state.specs.declared.TextItem.the-variants as TI
+use Rattle.walk_state.specs.declared.BinaryItem.{BinaryItem}
+use Rattle.walk_state.specs.declared.BinaryItem.the-variants as BI
+use Rattle.walk_state.specs.Walking.{stepIn, textItem, textStep, binaryItem, binaryStep}
 use Rattle.walk_claims.specs.Proved as W
 use Rattle.exports_values.specs.Answers.{textFoundNumber, textTagLeft, textInfoLeft, binaryFoundNumber, binaryTagLeft, binaryInfoLeft}
 use Rattle.exports_values.specs.Answers.{textWrittenNumber, binaryWrittenNumber}

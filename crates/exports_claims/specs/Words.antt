@@ -17,13 +17,13 @@ use Rattle.format.specs.declared.TextWritten.{TextWritten}
 use Rattle.format.specs.declared.TextWritten.the-variants as TW
 use Rattle.format.specs.declared.BinaryWritten.{BinaryWritten}
 use Rattle.format.specs.declared.BinaryWritten.the-variants as BW
-use Rattle.walk.specs.declared.TextItem.{TextItem}
-use Rattle.walk.specs.declared.TextItem.the-variants as TI
-use Rattle.walk.specs.declared.BinaryItem.{BinaryItem}
-use Rattle.walk.specs.declared.BinaryItem.the-variants as BI
-use Rattle.walk.specs.declared.TextStep.{TextStep}
-use Rattle.walk.specs.declared.BinaryStep.{BinaryStep}
-use Rattle.walk.specs.Walking.{textStep, binaryStep}
+use Rattle.walk_state.specs.declared.TextItem.{TextItem}
+use Rattle.walk_state.specs.declared.TextItem.the-variants as TI
+use Rattle.walk_state.specs.declared.BinaryItem.{BinaryItem}
+use Rattle.walk_state.specs.declared.BinaryItem.the-variants as BI
+use Rattle.walk_state.specs.declared.TextStep.{TextStep}
+use Rattle.walk_state.specs.declared.BinaryStep.{BinaryStep}
+use Rattle.walk_state.specs.Walking.{textStep, binaryStep}
 use Rattle.exports_values.specs.Lent.{stateSize, walkOf, textStateLeft, binaryStateLeft}
 
 -- ---- accepted

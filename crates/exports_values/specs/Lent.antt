@@ -10,11 +10,11 @@ use Rattle.format.specs.Alphabet.{charOf}
 use Rattle.format.specs.Judging.{maxDepth}
 use Rattle.format.specs.declared.Kind.{Kind}
 use Rattle.format.specs.declared.Kind.the-variants.{Fixed, Variable, Group, Genus}
-use Rattle.walk.specs.declared.Walk.{Walk}
-use Rattle.walk.specs.declared.TextItem.{TextItem}
-use Rattle.walk.specs.declared.TextItem.the-variants as T
-use Rattle.walk.specs.declared.BinaryItem.{BinaryItem}
-use Rattle.walk.specs.declared.BinaryItem.the-variants as B
+use Rattle.walk_state.specs.declared.Walk.{Walk}
+use Rattle.walk_state.specs.declared.TextItem.{TextItem}
+use Rattle.walk_state.specs.declared.TextItem.the-variants as T
+use Rattle.walk_state.specs.declared.BinaryItem.{BinaryItem}
+use Rattle.walk_state.specs.declared.BinaryItem.the-variants as B
 
 -- ---- the state as numbers
 

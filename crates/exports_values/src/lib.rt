@@ -3,7 +3,7 @@ use format::Code;
 use format::Kind;
 use format::Primitive;
 use judging::MAX_DEPTH;
-use walk::Walk;
+use walk_state::Walk;
 ghost use mathlib.Core.Path.{_≡_};
 ghost use lib.Dec.{ltb, eqb};
 ghost use Rattle.base.specs.Pick.{pick};

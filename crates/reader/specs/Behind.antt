@@ -2,12 +2,12 @@
 use mathlib.Core.Path.{_≡_, refl, sym, ap}
 use denote.Ref.{now}
 use Rattle.format.specs.Units.{text, binary}
-use Rattle.walk.specs.declared.Walk.{Walk}
-use Rattle.walk.specs.declared.Found.{Found}
-use Rattle.walk.specs.declared.Found.the-variants as F
-use Rattle.walk.specs.declared.TextStep.{TextStep}
-use Rattle.walk.specs.declared.BinaryStep.{BinaryStep}
-use Rattle.walk.specs.Walking.{stepIn, textItem, textStep, binaryItem, binaryStep}
+use Rattle.walk_state.specs.declared.Walk.{Walk}
+use Rattle.walk_state.specs.declared.Found.{Found}
+use Rattle.walk_state.specs.declared.Found.the-variants as F
+use Rattle.walk_state.specs.declared.TextStep.{TextStep}
+use Rattle.walk_state.specs.declared.BinaryStep.{BinaryStep}
+use Rattle.walk_state.specs.Walking.{stepIn, textItem, textStep, binaryItem, binaryStep}
 use Rattle.walk_claims.specs.Words.{Stops}
 use Rattle.walk_claims.specs.Proved.{proved}
 use Rattle.reader.specs.declared.Reader.{Reader}

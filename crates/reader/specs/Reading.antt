@@ -2,14 +2,14 @@
 use mathlib.Core.List.{List}
 use Prim.Native.Nat.{ℕ}
 use denote.Ref.{RefT, now}
-use Rattle.walk.specs.declared.Walk.{Walk}
-use Rattle.walk.specs.declared.TextItem.{TextItem}
-use Rattle.walk.specs.declared.TextItem.the-variants as T
-use Rattle.walk.specs.declared.TextStep.{TextStep}
-use Rattle.walk.specs.declared.BinaryItem.{BinaryItem}
-use Rattle.walk.specs.declared.BinaryItem.the-variants as B
-use Rattle.walk.specs.declared.BinaryStep.{BinaryStep}
-use Rattle.walk.specs.Walking.{start, textStep, binaryStep}
+use Rattle.walk_state.specs.declared.Walk.{Walk}
+use Rattle.walk_state.specs.declared.TextItem.{TextItem}
+use Rattle.walk_state.specs.declared.TextItem.the-variants as T
+use Rattle.walk_state.specs.declared.TextStep.{TextStep}
+use Rattle.walk_state.specs.declared.BinaryItem.{BinaryItem}
+use Rattle.walk_state.specs.declared.BinaryItem.the-variants as B
+use Rattle.walk_state.specs.declared.BinaryStep.{BinaryStep}
+use Rattle.walk_state.specs.Walking.{start, textStep, binaryStep}
 use Rattle.reader.specs.declared.Reader.{Reader}
 use Rattle.reader.specs.declared.TextTaken.{TextTaken}
 use Rattle.reader.specs.declared.BinaryTaken.{BinaryTaken}

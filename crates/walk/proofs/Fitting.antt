@@ -12,8 +12,8 @@ use borrow.Author.Tests.{lt-ltb, ne-eqb, ltb-true, leb-true, eqb-false}
 use Rattle.base.specs.Pick.{pick, pick-by}
 use Rattle.base.specs.Cases.{lt-or-ge}
 use Rattle.format.specs.Judging.{maxDepth}
-use Rattle.walk.specs.declared.Walk.{Walk}
-use Rattle.walk.specs.Walking.{allBelow, slotFits, isFit, stopOf}
+use Rattle.walk_state.specs.declared.Walk.{Walk}
+use Rattle.walk_state.specs.Walking.{allBelow, slotFits, isFit, stopOf}
 
 both : (b x : Bool) → pick b x false ≡ true → (b ≡ true) × (x ≡ true)
 both true x h = (refl, h)

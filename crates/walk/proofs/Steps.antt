@@ -1,236 +1,123 @@
--- Walking's step is made of the code's parts: framing by the first sextets, own checks, the next state; the same in both forms.
--- Assumes nothing.
+-- Walking's step is made of the code's parts: the next item of the part to where the innermost group ends, and the next state; the
+-- same in both forms. Assumes nothing.
 use mathlib.Core.Path.{_≡_, refl, sym, ap, _∙_}
 use mathlib.Core.Bool.{Bool, true, false}
-use mathlib.Core.List.{List, [], _∷_}
+use mathlib.Core.List.{List}
 use mathlib.Core.Logic.{⊎-elim}
-use Prim.Native.Nat.{ℕ, zero, suc, _+_, _-_, _*_, _/_, _%_, _<_, _≤_}
+use Prim.Native.Nat.{ℕ, _+_, _-_, _*_, _/_, _%_, _<_, _≤_}
 use native.Mathlib.Omega.{arith}
 use lib.Dec.{ltb, eqb}
-use lib.ListN.{length, getD, take, drop, length-drop, length-map}
-use lib.Seq.{slice, length-slice, take-nil, take-take, length-take-le}
-use borrow.Author.Tests.{lt-ltb, le-ltb, lt-leb, eq-eqb, ne-eqb, ltb-false, eqb-true, eqb-false}
+use lib.ListN.{length, take}
+use borrow.Author.Tests.{eq-eqb, ne-eqb, ltb-false, eqb-true, eqb-false}
 use Rattle.base.specs.Pick.{pick, pick-by}
-use Rattle.base.specs.Cases.{lt-or-ge, whether}
-use Rattle.base.specs.Lists.{map-take}
-use Rattle.base.specs.Each.{length-each}
+use Rattle.base.specs.Cases.{whether}
 use Rattle.format.specs.declared.Kind.{Kind}
 use Rattle.format.specs.declared.Kind.the-variants.{Fixed, Variable, Group, Genus}
 use Rattle.format.specs.declared.Framed.{Framed}
 use Rattle.format.specs.declared.Framed.the-variants.{Item, Unframed}
 use Rattle.format.specs.declared.Verdict.{Verdict}
 use Rattle.format.specs.declared.Verdict.the-variants.{Accepted, Refused}
-use Rattle.format.specs.Alphabet.{sextetOf}
-use Rattle.format.specs.Units.{Domain, sextetsOf, textSextets, binarySextets}
-use Rattle.format.specs.Registry.{opening, isOpaque}
-use Rattle.format.specs.Framing.{frameWith, ruled, frame, frameRuled}
-use Rattle.format.specs.Judging.{judgeKind, ownCheck, maxDepth}
-use Rattle.laws.specs.Units.{sextets-size}
-use Rattle.laws.specs.Domains.{Reader, binary-reader}
-use Rattle.framing.specs.Heads.{headOf}
-use Rattle.framing.proofs.Laws.{by-head, by-ruled-head}
-use Rattle.judging.proofs.Laws.{within-head, own-judged, behind-binary}
-use Rattle.walk.specs.declared.Walk.{Walk}
-use Rattle.walk.specs.declared.Found.the-variants as F
-use Rattle.walk.specs.declared.Stepped.{Stepped}
-use Rattle.walk.specs.Walking.{isFit, closed, movedTo, opened, past, nextOf, stopOf, judged, framedBy, frameAt, stepFit, step, foundIn, stepIn}
-use Rattle.walk.specs.Stepping.{finished, entered, barredBy, isEntered, isMarking, frameHead, ownOf, behindOf, verdictOf, foundBy, partStep}
-use Rattle.walk.specs.Stepping.{reach, Slotted, Judged, Ready, Within, InReach}
-use Rattle.walk.proofs.Fitting.{fit-there, fit-stop, fit-ahead}
-use Rattle.walk.proofs.Places.{Fair, frame-fair, Placed, kind-placed}
+use Rattle.format.specs.declared.Form.{Form}
+use Rattle.format.specs.declared.Form.the-variants.{Text, Binary}
+use Rattle.format.specs.Units.{Domain, domain}
+use Rattle.format.specs.Registry.{isOpaque}
+use Rattle.format.specs.Judging.{maxDepth}
+use Rattle.laws.specs.Domains.{reader}
+use Rattle.laws.specs.Levels.{part, part-length, part-take, frameNext, any-item, item-sizes}
+use Rattle.judging.specs.Own.{toldBy}
+use Rattle.report_next.specs.Next.{ownOf, nextOwn, isEntered, isRuled}
+use Rattle.report_next.proofs.Laws.{own-item, may-enter, next-near}
+use Rattle.walk_state.specs.declared.Walk.{Walk}
+use Rattle.walk_state.specs.declared.Found.{Found}
+use Rattle.walk_state.specs.declared.Found.the-variants as F
+use Rattle.walk_state.specs.declared.Stepped.{Stepped}
+use Rattle.walk_state.specs.Walking.{isFit, closed, movedTo, opened, past, nextOf, stopOf, judged, framedBy, frameAt}
+use Rattle.walk_state.specs.Walking.{stepFit, step, foundIn, stepIn}
+use Rattle.walk_state.specs.Moving.{stepOver}
+use Rattle.walk_state.proofs.Laws.{steps-into, steps-past}
+use Rattle.walk.specs.Stepping.{isAsked, foundBy, partStep, unitsIn, reach, Slotted, Ready, Spans, Fits, Measured, InReach}
+use Rattle.walk.proofs.Fitting.{fit-few, fit-there, fit-stop, fit-ahead}
 
 -- ---- the next state
 
 -- a kind is entered or stepped over
-by-kind : (w : Walk) (k : Kind) (h n : ℕ) → past w k h n ≡ pick (isEntered k) (opened w h n (isMarking k)) (movedTo w (w .at + n))
-unfolding past isEntered isMarking
+by-kind : (w : Walk) (k : Kind) (h n : ℕ) → past w k h n ≡ pick (isEntered k) (opened w h n (isRuled k)) (movedTo w (w .at + n))
+unfolding past isEntered isRuled
 by-kind w (Fixed c) h n = refl
 by-kind w (Variable t l c) h n = refl
 by-kind w Genus h n = refl
 by-kind w (Group letter) h n = ⊎-elim (λ e. rw e) (λ e. rw e) (whether (isOpaque letter))
 
-slot-there : (k : Kind) (d : ℕ) → Slotted k d → isEntered k ≡ true → d < maxDepth
-unfolding isEntered
-slot-there (Fixed c) d s e = let z : _≡_ {A = ℕ} 0 1 = cc in absurd (omega arith)
-slot-there (Variable t l c) d s e = let z : _≡_ {A = ℕ} 0 1 = cc in absurd (omega arith)
-slot-there (Group letter) d s e = s
-slot-there Genus d s e = let z : _≡_ {A = ℕ} 0 1 = cc in absurd (omega arith)
+module _ (w : Walk) (k : Kind) (h n : ℕ) where
+  next-into : isEntered k ≡ true → nextOf w k h n ≡ closed (opened w h n (isRuled k) .depth) (opened w h n (isRuled k))
+  unfolding nextOf
+  next-into e = rw (by-kind w k h n, e)
 
--- contents that are not empty, counted from the stream's start or from the group's
-on-both : (a h n : ℕ) → ltb (a + h) (a + n) ≡ ltb h n
-on-both a h n =
-    ⊎-elim (λ l. lt-ltb (a + h) (a + n) (omega arith) ∙ sym (lt-ltb h n l))
-    (λ g. le-ltb (a + h) (a + n) (omega arith) ∙ sym (le-ltb h n g)) (lt-or-ge h n)
-
-finish : (w : Walk) → w .depth ≤ maxDepth → finished w ≡ closed (w .depth) w
-unfolding finished
-finish w h = rw (le-ltb maxDepth (w .depth) h)
-
-module _ (w v r : Walk) (k : Kind) (h n : ℕ) (few : w .depth ≤ maxDepth) (e : r ≡ finished v) where
-  pub enters : Slotted k (w .depth) → isEntered k ≡ true → (mark : Bool) → mark ≡ isMarking k → v ≡ entered w (w .at + h) (w .at + n) mark
-      → r ≡ nextOf w k h n
-  unfolding nextOf entered opened
-  enters s t mark m q =
-      let l : w .depth < maxDepth = slot-there k (w .depth) s t in
-      let p : v ≡ past w k h n = q ∙ rw (lt-leb maxDepth (w .depth) l, on-both (w .at) h n, m, by-kind w k h n, t) in
-      let d : v .depth ≤ maxDepth = rw (p, by-kind w k h n, t) (omega arith) in
-      e ∙ finish v d ∙ rw p
-
-  pub steps-over : isEntered k ≡ false → v ≡ movedTo w (w .at + n) → r ≡ nextOf w k h n
+  next-past : isEntered k ≡ false → nextOf w k h n ≡ closed (w .depth) (movedTo w (w .at + n))
   unfolding nextOf movedTo
-  steps-over t q =
-      let p : v ≡ past w k h n = q ∙ rw (by-kind w k h n, t) in
-      let d : v .depth ≤ maxDepth = rw (p, by-kind w k h n, t) few in
-      e ∙ finish v d ∙ rw p
+  next-past e = rw (by-kind w k h n, e)
 
--- ---- own checks
+  -- the state's step gives it
+  pub steps : w .depth ≤ maxDepth → Slotted k (w .depth) → (opens mark : Bool) → opens ≡ isEntered k → mark ≡ isRuled k
+      → (r : Walk) → r ≡ stepOver w (w .at + h) (w .at + n) opens mark → r ≡ nextOf w k h n
+  steps few s opens mark eo em r e =
+      e ∙ rw (eo, em)
+      (⊎-elim (λ i. rw (next-into i, i) (steps-into w h n (isRuled k) (s i))) (λ i. rw (next-past i, i) (steps-past w h n (isRuled k) few))
+      (whether (isEntered k)))
 
-own-verdict : (f : Framed) (s cs : List ℕ) (b v : Verdict) (l : ℕ) → cs ≡ headOf s → Fair s f → b ≡ behindOf f s
-    → v ≡ ownOf f cs b l → v ≡ verdictOf f s l
-unfolding ownOf behindOf verdictOf
-own-verdict (Unframed m p) s cs b v l e g q t = t
-own-verdict (Item k h n) s cs b v l e g q t =
-    let long = length-take-le (4 * n) s (omega (arith, g .2)) in
-    t ∙ rw (e, q, within-head s n) (own-judged k h n l (take (4 * n) s) (g .0) long (g .3))
+-- ---- what is asked of the next item
 
--- in a binary every sextet is in the alphabet
-pub clean : (f : Framed) (xs : List ℕ) → Fair (binarySextets xs) f → Accepted ≡ behindOf f (binarySextets xs)
-unfolding behindOf
-clean (Unframed m p) xs g = refl
-clean (Item k h n) xs g =
-    let u : n ≤ length xs / 3 = rw (binary-reader .units xs) at (g .2) in
-    let e : 4 * n ≡ n * 4 = omega arith in
-    rw (e, ← (binary-reader .taken xs n (omega arith))) (sym (behind-binary (take (n * 3) xs) h))
+-- the next item of a part, or its refusal, is fit to be told
+pub ready : (w : Walk) (s : List ℕ) (f : Framed) → length s ≤ reach → f ≡ nextOwn (isAsked w) s (maxDepth - w .depth) → Ready w f
+ready w s (Unframed m p) b e = omega (arith, next-near (isAsked w) s (maxDepth - w .depth) m p (sym e))
+ready w s (Item k h n) b e =
+    let o = own-item (isAsked w) s (maxDepth - w .depth) k h n (sym e) in
+    let z = item-sizes s k h n (any-item (isAsked w) s k h n (o .framed)) in
+    (z .1, omega (arith, z .2), λ i. omega (arith, may-enter k h (take (4 * n) s) (maxDepth - w .depth) i (o .accepted)))
 
--- ---- sizes of the forms' sextets
-
-pub text-length : (xs : List ℕ) → length (textSextets xs) ≡ length xs
-unfolding textSextets
-text-length xs = length-map xs sextetOf
-
-pub binary-length : (xs : List ℕ) → length (binarySextets xs) ≡ 4 * (length xs / 3)
-unfolding binarySextets
-binary-length xs = length-each 3 4 sextetsOf sextets-size (length xs / 3) xs
-
--- the front of a text
-pub text-front : (n : ℕ) (xs : List ℕ) → textSextets (take n xs) ≡ take n (textSextets xs)
-unfolding textSextets
-text-front n xs = map-take sextetOf n xs
-
--- ---- what is asked of a framed item
-
-within : (f : Framed) (s : List ℕ) (len : ℕ) → length s / 4 ≡ len → Fair s f → Within len f
-within (Unframed m p) s len e g = tt
-within (Item k h n) s len e g = omega (arith, g .2)
-
-slot-left : (l d letter h : ℕ) (ys : List ℕ) → l ≡ maxDepth - d → Accepted ≡ ownCheck l letter h ys → d < maxDepth
-unfolding ownCheck
-slot-left zero d letter h ys q e = let z : _≡_ {A = ℕ} 0 1 = cc in absurd (omega arith)
-slot-left (suc l) d letter h ys q e = omega arith
-
-slotted : (k : Kind) (d h : ℕ) (s : List ℕ) → Accepted ≡ judgeKind k h s (ownCheck (maxDepth - d)) → Slotted k d
-unfolding judgeKind
-slotted (Fixed c) d h s e = tt
-slotted (Variable t l c) d h s e = tt
-slotted (Group letter) d h s e = slot-left (maxDepth - d) d letter h (drop (4 * h) s) refl e
-slotted Genus d h s e = tt
-
-judged-ready : (w : Walk) (k : Kind) (h n : ℕ) (s : List ℕ) (v : Verdict) → h ≤ n → n ≤ reach → length s ≤ reach
-    → v ≡ judgeKind k h s (ownCheck (maxDepth - w .depth)) → Placed (length s) v → Judged w k h n v
-judged-ready w k h n s Accepted i r b e p = (i, r, slotted k (w .depth) h s e)
-judged-ready w k h n s (Refused m q) i r b e p = omega arith
-
-ready : (w : Walk) (f : Framed) (s : List ℕ) (v : Verdict) → length s ≤ reach → Fair s f → v ≡ verdictOf f s (maxDepth - w .depth)
-    → Ready w f v
-unfolding verdictOf
-ready w (Unframed m p) s v b g e = omega arith
-ready w (Item k h n) s v b g e =
-    let l : length (take (4 * n) s) ≡ 4 * n = length-take-le (4 * n) s (omega (arith, g .2)) in
-    judged-ready w k h n (take (4 * n) s) v (g .1) (omega (arith, g .2)) (omega (arith, g .2)) e
-    (rw e (kind-placed k h (maxDepth - w .depth) (take (4 * n) s) (omega (arith, g .1))))
-
--- ---- a part's step
-
--- a part's sextets s, its first ones cs, and what they frame
-module _ (w : Walk) (s cs : List ℕ) (len : ℕ) (f : Framed) (head : cs ≡ headOf s) (size : length s / 4 ≡ len)
-    (e : f ≡ frameHead w (λ i. getD cs i 0) len) where
-  framed : f ≡ frameAt w s
-  unfolding frameHead frameAt frameRuled frame
-  framed =
-      rw (
-        e,
-        size,
-        by-ruled-head s cs len (ruled (λ i. getD cs i 0) (frameWith opening (λ i. getD cs i 0) len)) head refl,
-        by-head s cs len (frameWith opening (λ i. getD cs i 0) len) head refl,
-      )
-
-  pub part-fair : Fair s f
-  part-fair = rw framed (frame-fair w s)
-
-  pub part-within : Within len f
-  part-within = within f s len size part-fair
-
-  module _ (b v : Verdict) (q : b ≡ behindOf f s) (t : v ≡ ownOf f cs b (maxDepth - w .depth)) where
-    verdict : v ≡ verdictOf f s (maxDepth - w .depth)
-    verdict = own-verdict f s cs b v (maxDepth - w .depth) head part-fair q t
-
-    pub part-ready : length s ≤ reach → Ready w f v
-    part-ready l = ready w f s v l part-fair verdict
-
-    pub part-steps : (r : Stepped) → r ≡ foundBy w f v → r ≡ partStep w s
-    unfolding partStep
-    part-steps r p = rw (p, verdict, framed)
-
-judged-reach : (w : Walk) (k : Kind) (h n : ℕ) (v : Verdict) → w .at ≤ reach → Judged w k h n v → InReach (judged w k h n v .found)
-unfolding judged
-judged-reach w k h n Accepted a r = (a, r .1)
-judged-reach w k h n (Refused m p) a r = tt
-
-found-reach : (w : Walk) (f : Framed) (v : Verdict) → w .at ≤ reach → Ready w f v → InReach (foundBy w f v .found)
+found-reach : (w : Walk) (f : Framed) → w .at ≤ reach → Ready w f → InReach (foundBy w f .found)
 unfolding foundBy
-found-reach w (Unframed m p) v a r = tt
-found-reach w (Item k h n) v a r = judged-reach w k h n v a r
+found-reach w (Unframed m p) a r = tt
+found-reach w (Item k h n) a r = (a, r .1)
 
 part-reach : (w : Walk) (s : List ℕ) → w .at ≤ reach → length s ≤ reach → InReach (partStep w s .found)
 unfolding partStep
-part-reach w s a b =
-    found-reach w (frameAt w s) _ a (ready w (frameAt w s) s _ b (frame-fair w s) refl)
+part-reach w s a b = found-reach w _ a (ready w s _ b refl)
 
 -- ---- a stream's step is that of the part to where the innermost group ends
 
-drop-take : (a b : ℕ) (s : List ℕ) → drop a (take b s) ≡ take (b - a) (drop a s)
-drop-take zero b s = let z : b - 0 ≡ b = omega arith in rw z
-drop-take (suc a) zero s = let z : 0 - suc a ≡ 0 = omega arith in rw z
-drop-take (suc a) (suc b) [] = sym (take-nil (suc b - suc a))
-drop-take (suc a) (suc b) (x ∷ s) = let z : suc b - suc a ≡ b - a = omega arith in rw z (drop-take a b s)
+asked-frame : (w : Walk) (s : List ℕ) → frameAt w s ≡ frameNext (isAsked w) s
+unfolding frameAt isAsked
+asked-frame w s = ⊎-elim (λ e. rw e) (λ e. rw e) (whether (eqb (w .depth) 0))
 
--- an item at the front of a part
-item-front : (a b n : ℕ) (s : List ℕ) → a + n ≤ b → slice (4 * a) (4 * (a + n)) s ≡ take (4 * n) (slice (4 * a) (4 * b) s)
-item-front a b n s h =
-    let z : 4 * (a + n) - 4 * a ≡ 4 * n = omega arith in
-    rw (drop-take (4 * a) (4 * (a + n)) s, z, drop-take (4 * a) (4 * b) s)
-    (sym (take-take (4 * n) (4 * b - 4 * a) (drop (4 * a) s) (omega arith)))
+-- a verdict and an item that tells it
+judged-told : (w : Walk) (k : Kind) (h n : ℕ) (v : Verdict) → judged w k h n v ≡ foundBy w (toldBy (Item k h n) v)
+unfolding judged foundBy toldBy
+judged-told w k h n Accepted = refl
+judged-told w k h n (Refused m p) = refl
 
-by-part : (w : Walk) (s : List ℕ) (b : ℕ) (f : Framed) → w .at ≤ b → Within (b - w .at) f
-    → framedBy s w f ≡ foundBy w f (verdictOf f (slice (4 * w .at) (4 * b) s) (maxDepth - w .depth))
-unfolding framedBy foundBy verdictOf
-by-part w s b (Unframed m p) h i = refl
-by-part w s b (Item k h′ n) h i = rw (item-front (w .at) b n s (omega arith))
+by-part : (w : Walk) (s : List ℕ) (b : ℕ) (f : Framed) → w .at ≤ b → 4 * b ≤ length s → frameNext (isAsked w) (part s (w .at) b) ≡ f
+    → framedBy s w f ≡ foundBy w (ownOf f (part s (w .at) b) (maxDepth - w .depth))
+unfolding framedBy foundBy ownOf
+by-part w s b (Unframed m p) h long e = refl
+by-part w s b (Item k h′ n) h long e =
+    let z = item-sizes (part s (w .at) b) k h′ n (any-item (isAsked w) (part s (w .at) b) k h′ n e) in
+    let c : 4 * n ≡ n * 4 = omega arith in
+    let i : w .at + n ≤ b = omega (arith, z .2, part-length s (w .at) b long) in
+    rw (c, part-take s (w .at) n b i) (judged-told w k h′ n _)
 
--- the sextets from the position to where the innermost group ends
-abbrev pub hereOf : Walk → ℕ → List ℕ → List ℕ
-hereOf w n s = slice (4 * w .at) (4 * stopOf w n) s
+-- a part of a stream within the limit
+part-few : (w : Walk) (s : List ℕ) (n : ℕ) → isFit w n ≡ true → 4 * n ≤ length s → 4 * n ≤ reach
+    → length (part s (w .at) (stopOf w n)) ≤ reach
+part-few w s n fit whole b = omega (arith, part-length s (w .at) (stopOf w n) (omega (arith, fit-stop w n fit)), fit-stop w n fit)
 
 module _ (w : Walk) (s : List ℕ) (n : ℕ) (tail : Bool) (fit : isFit w n ≡ true) (whole : 4 * n ≤ length s) where
-  here-length : length (hereOf w n s) ≡ 4 * (stopOf w n - w .at)
-  here-length = length-slice (4 * w .at) (4 * stopOf w n) s (omega (arith, fit-stop w n fit)) ∙ omega arith
-
-  fit-step : (w .at ≡ n → ⊥) → stepFit s n tail w ≡ partStep w (hereOf w n s)
-  unfolding stepFit partStep
+  fit-step : (w .at ≡ n → ⊥) → stepFit s n tail w ≡ partStep w (part s (w .at) (stopOf w n))
+  unfolding stepFit partStep nextOwn
   fit-step ne =
-      rw (ne-eqb (w .at) n ne)
-      (by-part w s (stopOf w n) (frameAt w (hereOf w n s)) (omega (arith, fit-ahead w n fit ne))
-      (within (frameAt w (hereOf w n s)) (hereOf w n s) (stopOf w n - w .at) (omega (arith, here-length)) (frame-fair w (hereOf w n s))))
+      rw (ne-eqb (w .at) n ne, asked-frame w (part s (w .at) (stopOf w n)))
+      (by-part w s (stopOf w n) (frameNext (isAsked w) (part s (w .at) (stopOf w n))) (omega (arith, fit-ahead w n fit ne))
+      (omega (arith, fit-stop w n fit)) refl)
 
   at-end : w .at ≡ n → stepFit s n tail w ≡ record { next = w; found = pick tail (F.Refused 4 (4 * w .at)) F.End }
   unfolding stepFit
@@ -239,74 +126,72 @@ module _ (w : Walk) (s : List ℕ) (n : ℕ) (tail : Bool) (fit : isFit w n ≡ 
   step-reach : 4 * n ≤ reach → InReach (stepFit s n tail w .found)
   step-reach b =
       ⊎-elim (λ e. rw (at-end (eqb-true (w .at) n e)) (pick-by InReach tail (F.Refused 4 (4 * w .at)) F.End (λ _. tt) (λ _. tt)))
-      (λ e. rw (fit-step (eqb-false (w .at) n e)) (part-reach w (hereOf w n s) (omega (arith, fit-there w n fit)) (omega (arith, here-length, fit-stop w n fit))))
+      (λ e. rw (fit-step (eqb-false (w .at) n e))
+      (part-reach w (part s (w .at) (stopOf w n)) (omega (arith, fit-there w n fit)) (part-few w s n fit whole b)))
       (whether (eqb (w .at) n))
 
 -- ---- the same in a form
 
--- whole units, and whether elements stand behind them
-abbrev pub unitsIn : Domain → List ℕ → ℕ
-unitsIn d xs = length xs / d .unit
+-- a stream of either form within its limit
+near-units : (form : Form) (xs : List ℕ) → length xs ≤ domain form .limit → 4 * unitsIn (domain form) xs ≤ reach
+near-units Text xs h = omega arith
+near-units Binary xs h = omega arith
 
-abbrev pub tailIn : Domain → List ℕ → Bool
-tailIn d xs = ltb 0 (length xs % d .unit)
+whole-units : (form : Form) (xs : List ℕ) (k : ℕ) → k ≤ unitsIn (domain form) xs → domain form .unit * k ≤ length xs
+whole-units Text xs k h = omega arith
+whole-units Binary xs k h = omega arith
 
-module _ (d : Domain) (R : Reader d) (xs : List ℕ) (w : Walk) (fit : isFit w (unitsIn d xs) ≡ true) where
-  whole : 4 * unitsIn d xs ≤ length (d .sextets xs)
-  whole = rw (← (R .units xs)) (omega arith)
+module _ (form : Form) (xs : List ℕ) (n : ℕ) (w : Walk) (H : Fits form xs n w) where
+  near : 4 * n ≤ reach
+  near = rw (H .units) (near-units form xs (H .few))
 
-  pub ends : (r : Stepped) → w .at ≡ unitsIn d xs → r ≡ record { next = w; found = pick (tailIn d xs) (F.Refused 4 (4 * w .at)) F.End }
-      → r ≡ stepFit (d .sextets xs) (unitsIn d xs) (tailIn d xs) w
-  ends r e p = p ∙ sym (at-end w (d .sextets xs) (unitsIn d xs) (tailIn d xs) fit whole e)
+  whole : 4 * n ≤ length (domain form .sextets xs)
+  whole = rw (H .units, ← (reader form .units xs)) (omega arith)
 
-  -- a part that is lent
-  part-of : (a b : ℕ) → a ≤ b → b * d .unit - a * d .unit ≡ (b - a) * d .unit → a * d .unit ≤ length xs
-      → (b - a) * d .unit ≤ length xs - a * d .unit
-      → d .sextets (take (b * d .unit - a * d .unit) (drop (a * d .unit) xs)) ≡ slice (4 * a) (4 * b) (d .sextets xs)
-  part-of a b le e la lb =
-      let z : (b - a) * 4 ≡ 4 * b - 4 * a = omega arith in
-      let y : a * 4 ≡ 4 * a = omega arith in
-      rw e (R .taken (drop (a * d .unit) xs) (b - a) (rw (length-drop (a * d .unit) xs) lb)
-      ∙ rw (R .dropped xs a la, z, y) (sym (drop-take (4 * a) (4 * b) (d .sextets xs))))
+  pub at-near : w .at ≤ reach
+  at-near = omega (arith, near, fit-there w n (H .fit))
 
-  pub goes-on : (r : Stepped) (stop : ℕ) → (w .at ≡ unitsIn d xs → ⊥) → stop ≡ stopOf w (unitsIn d xs)
-      → stop * d .unit - w .at * d .unit ≡ (stop - w .at) * d .unit → w .at * d .unit ≤ length xs
-      → (stop - w .at) * d .unit ≤ length xs - w .at * d .unit
-      → r ≡ partStep w (d .sextets (take (stop * d .unit - w .at * d .unit) (drop (w .at * d .unit) xs)))
-      → r ≡ stepFit (d .sextets xs) (unitsIn d xs) (tailIn d xs) w
-  goes-on r stop ne es e la lb p =
-      p ∙ rw (part-of (w .at) stop (omega (arith, fit-ahead w (unitsIn d xs) fit ne)) e la lb, es)
-      (sym (fit-step w (d .sextets xs) (unitsIn d xs) (tailIn d xs) fit whole ne))
+  pub ends : (tail : Bool) (r : Stepped) → w .at ≡ n → r ≡ record { next = w; found = pick tail (F.Refused 4 (4 * w .at)) F.End }
+      → r ≡ stepFit (domain form .sextets xs) n tail w
+  ends tail r e p = p ∙ sym (at-end w (domain form .sextets xs) n tail (H .fit) whole e)
 
-  pub reaches : (r : Stepped) → r ≡ stepFit (d .sextets xs) (unitsIn d xs) (tailIn d xs) w → 4 * unitsIn d xs ≤ reach → InReach (r .found)
-  reaches r e b = rw e (step-reach w (d .sextets xs) (unitsIn d xs) (tailIn d xs) fit whole b)
+  module _ (ne : w .at ≡ n → ⊥) (stop : ℕ) (es : stop ≡ stopOf w n) where
+    pub spans : Spans form xs w stop
+    spans = record {
+      slots = fit-few w n (H .fit);
+      order = omega (arith, fit-ahead w n (H .fit) ne);
+      room = whole-units form xs stop (omega (arith, fit-stop w n (H .fit), H .units));
+      few = H .few;
+    }
+
+    module _ (item : Framed) (ei : item ≡ nextOwn (isAsked w) (part (domain form .sextets xs) (w .at) stop) (maxDepth - w .depth)) where
+      pub goes-ready : Ready w item
+      goes-ready = ready w _ item (rw es (part-few w (domain form .sextets xs) n (H .fit) whole near)) ei
+
+      pub goes-on : (tail : Bool) (r : Stepped) → r ≡ foundBy w item → r ≡ stepFit (domain form .sextets xs) n tail w
+      unfolding partStep
+      goes-on tail r e = e ∙ rw (ei, es) (sym (fit-step w (domain form .sextets xs) n tail (H .fit) whole ne))
+
+  pub reaches : (tail : Bool) (r : Stepped) → r ≡ stepFit (domain form .sextets xs) n tail w → InReach (r .found)
+  reaches tail r e = rw e (step-reach w (domain form .sextets xs) n tail (H .fit) whole near)
 
 -- ---- 1 before 13
 
-module _ (d : Domain) (xs : List ℕ) (w : Walk) (number : ℕ) (e : number ≡ barredBy (ltb (d .limit) (length xs)) (unitsIn d xs) w) where
-  -- the number, by the two tests
-  told : (over fit : Bool) → ltb (d .limit) (length xs) ≡ over → isFit w (unitsIn d xs) ≡ fit → number ≡ pick over 1 (pick fit 0 13)
-  unfolding barredBy
-  told over fit o f = e ∙ ap (λ (b : Bool). pick b 1 (pick (isFit w (unitsIn d xs)) 0 13)) o ∙ ap (λ (b : Bool). pick over 1 (pick b 0 13)) f
+module _ (form : Form) (xs : List ℕ) (over : Bool) (n : ℕ) (tail : Bool) (m : Measured form xs over n tail) (w : Walk) where
+  pub too-long : over ≡ true → record { next = w; found = F.Refused 1 0 } ≡ stepIn (domain form) xs w
+  unfolding stepIn
+  too-long o = rw (← (m .limit), o)
 
-  pub barred : (number ≡ 0 → ⊥) → stepIn d xs w ≡ record { next = w; found = F.Refused number 0 }
-  unfolding stepIn step foundIn
-  barred ne =
-      let z : 0 * d .unit + 0 ≡ 0 = omega arith in
-      ⊎-elim (λ o. rw (told true _ o refl, o))
-      (λ o. ⊎-elim (λ f. absurd (ne (told false true o f))) (λ f. rw (told false false o f, o, f, z)) (whether (isFit w (unitsIn d xs))))
-      (whether (ltb (d .limit) (length xs)))
+  module _ (o : over ≡ false) where
+    pub unfit : isFit w n ≡ false → record { next = w; found = F.Refused 13 0 } ≡ stepIn (domain form) xs w
+    unfolding stepIn step foundIn
+    unfit f = let z : 0 * domain form .unit + 0 ≡ 0 = omega arith in rw (← (m .limit), o, ← (m .units), f, z)
 
-  free : number ≡ 0 → (ltb (d .limit) (length xs) ≡ false) × (isFit w (unitsIn d xs) ≡ true)
-  free n =
-      ⊎-elim (λ o. let z : number ≡ 1 = told true (isFit w (unitsIn d xs)) o refl in absurd (omega arith))
-      (λ o. ⊎-elim (λ f. (o, f)) (λ f. let z : number ≡ 13 = told false false o f in absurd (omega arith)) (whether (isFit w (unitsIn d xs))))
-      (whether (ltb (d .limit) (length xs)))
+    pub fits : isFit w n ≡ true → Fits form xs n w
+    fits f = record { few = ltb-false (domain form .limit) (length xs) (sym (m .limit) ∙ o); units = m .units; fit = f }
 
-  pub freed : number ≡ 0 → (length xs ≤ d .limit) × (isFit w (unitsIn d xs) ≡ true)
-  freed n = let f = free n in (ltb-false (d .limit) (length xs) (f .0), f .1)
-
-  pub stepped : (r : Stepped) → number ≡ 0 → r ≡ stepFit (d .sextets xs) (unitsIn d xs) (tailIn d xs) w
-      → stepIn d xs w ≡ record { next = r .next; found = foundIn (d .unit) (r .found) }
-  unfolding stepIn step
-  stepped r n q = let f = free n in rw (f .0, f .1, q)
+    pub stepped : isFit w n ≡ true → (r : Stepped) → r ≡ stepFit (domain form .sextets xs) n tail w → (f : Found)
+        → f ≡ foundIn (domain form .unit) (r .found) → record { next = r .next; found = f } ≡ stepIn (domain form) xs w
+    unfolding stepIn step
+    stepped fit r er f ef =
+        rw (← (m .limit), o, ← (m .units), fit, ← (m .rest), ← er) (ap (λ (x : Found). record { next = r .next; found = x }) ef)

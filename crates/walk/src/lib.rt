@@ -1,209 +1,243 @@
-// The walk: items at all depths, outer before inner, one a step. The state is a value; positions, ends and sizes in it count
-// units, which both forms share, so that no offset of one form can be taken for the other's.
+// The walk: items at all depths, outer before inner, one a step. A step frames and judges the next item and gives the state behind it.
+// One code serves both forms: a Form goes with the stream, and only what reads a unit looks at it.
 use format::BinaryOffset;
+use format::Form;
 use format::Framed;
-use format::Kind;
 use format::TextOffset;
-use format::Verdict;
 use judging::MAX_DEPTH;
+use walk_state::BinaryItem;
+use walk_state::BinaryStep;
+use walk_state::Found;
+use walk_state::Stepped;
+use walk_state::TextItem;
+use walk_state::TextStep;
+use walk_state::Walk;
 ghost use mathlib.Core.Path.{_≡_};
-ghost use mathlib.Core.Bool.{true};
-ghost use Prim.Native.Nat.{_+_, _*_, _/_, _%_, _<_, _≤_};
-ghost use lib.ListN.{getD, length};
-ghost use lib.Dec.{ltb};
+ghost use Prim.Native.Nat.{_+_, _-_, _*_, _/_, _%_, _≤_};
 ghost use Rattle.base.specs.Pick.{pick};
-ghost use Rattle.format.specs.declared.Verdict.the-variants as Verdict;
-ghost use Rattle.format.specs.Units.{text, binary, textSextets, binarySextets};
+ghost use Rattle.format.specs.Units.{domain};
 ghost use Rattle.format.specs.Judging.{maxDepth};
-ghost use Rattle.walk.specs.declared.Found.the-variants as Found;
-ghost use Rattle.walk.specs.Walking.{start, allBelow, slotFits, isFit, movedTo, nextOf, stopOf, stepFit, foundIn};
-ghost use Rattle.walk.specs.Walking.{textItem, textStep, binaryItem, binaryStep};
-ghost use Rattle.walk.specs.Stepping.{finished, entered, isEntered, isMarking, barredBy, frameHead, ownOf, behindOf};
-ghost use Rattle.walk.specs.Stepping.{foundBy, partStep, reach, Slotted, Ready, Within, InReach};
+ghost use Rattle.laws.specs.Levels.{part};
+ghost use Rattle.report_next.specs.Next.{nextOwn};
+ghost use Rattle.walk_state.specs.declared.Found.the-variants as Found;
+ghost use Rattle.walk_state.specs.Walking.{stepFit, foundIn, stepIn, textItem, textStep, binaryItem, binaryStep};
+ghost use Rattle.walk.specs.Stepping.{isAsked, foundBy, reach, Ready, Spans, Fits, Measured, InReach};
 
 // The longest streams: 1.
 const MAX_CHARACTERS: usize = 4194304;
 
 const MAX_BYTES: usize = 3145728;
 
-// ends: the ends of the open groups, outermost first, unused slots 0; depth: how many are open; at: the position; first: whether
-// the next item is first in an overrideable group.
-pub struct Walk {
-    pub ends: [usize; MAX_DEPTH],
-    pub depth: usize,
-    pub at: usize,
-    pub first: bool,
-}
+// ---- the next item
 
-// What a step finds. The code is the kind with the header's units, which tell small from large. Offset and size count units or, as
-// the definition says, elements of the stream.
-pub enum Found {
-    Item {
-        offset: usize,
-        size: usize,
-        depth: usize,
-        kind: Kind,
-        head: usize,
-    },
-    Refused {
-        number: u8,
-        place: usize,
-    },
-    End,
-}
-
-pub struct Stepped {
-    pub next: Walk,
-    pub found: Found,
-}
-
-// The same in a text.
-pub enum TextItem {
-    Item {
-        offset: TextOffset,
-        size: TextOffset,
-        depth: usize,
-        kind: Kind,
-        head: usize,
-    },
-    Refused {
-        number: u8,
-        place: TextOffset,
-    },
-    End,
-}
-
-pub struct TextStep {
-    pub next: Walk,
-    pub found: TextItem,
-}
-
-// The same in a binary.
-pub enum BinaryItem {
-    Item {
-        offset: BinaryOffset,
-        size: BinaryOffset,
-        depth: usize,
-        kind: Kind,
-        head: usize,
-    },
-    Refused {
-        number: u8,
-        place: BinaryOffset,
-    },
-    End,
-}
-
-pub struct BinaryStep {
-    pub next: Walk,
-    pub found: BinaryItem,
-}
-
-// ---- 13: whether a state fits a stream of n units
-
-// The slots are lent, so that no turn of the loop copies the state.
-fn slot_fits(ends: &[usize; MAX_DEPTH], depth: usize, n: usize, k: usize) -> bool
-    requires { ⌜ k < maxDepth ⌝ }
-    ensures { λ r. ⌜ r ≡ slotFits (now (ends .entry)) depth n k ⌝ }
+// 7 is asked at top level, and where the mark is set.
+fn is_asked(w: Walk) -> bool
+    ensures { λ r. ⌜ r ≡ isAsked w ⌝ }
 {
-    let end = ends[k];
-    if depth <= k {
-        return end == 0;
-    }
-    if k == 0 {
-        return end <= n;
-    }
-    let outer = ends[k - 1];
-    end <= outer
+    if w.depth == 0 { true } else { w.first }
 }
 
-fn slots_fit(ends: &[usize; MAX_DEPTH], depth: usize, n: usize) -> bool
-    ensures { λ r. ⌜ r ≡ allBelow (slotFits (now (ends .entry)) depth n) maxDepth ⌝ }
+// The next item up to where its group ends, framed and judged by its own checks, or its refusal.
+fn next_item(w: Walk, form: Form, s: &[u8], stop: usize) -> Framed
+    requires { ⌜ Spans form (now s) w stop ⌝ }
+    ensures { λ r. ⌜ r ≡ nextOwn (isAsked w) (part (domain form .sextets (now (s .entry))) (w .at) stop) (maxDepth - w .depth) ⌝ }
 {
-    let mut k: usize = 0;
-    while k < MAX_DEPTH {
-        if !slot_fits(ends, depth, n, k) {
-            return false;
+    let asked = is_asked(w);
+    let levels = MAX_DEPTH - w.depth;
+    let at = w.at;
+    match form {
+        Form::Text => {
+            let from = 4 * at;
+            let to = 4 * stop;
+            report_next::next_text(&s[from..to], asked, levels)
         }
-        k = k + 1;
-    }
-    true
-}
-
-// ---- what a kind is to the walk
-
-// Whether an item's contents are items.
-fn is_entered(kind: Kind) -> bool
-    ensures { λ r. ⌜ r ≡ isEntered kind ⌝ }
-{
-    match kind {
-        Kind::Group { letter } => !registry::is_opaque(letter),
-        Kind::Fixed(_) => false,
-        Kind::Variable {
-            letter: _,
-            lead: _,
-            count: _,
-        } => false,
-        Kind::Genus => false,
+        Form::Binary => {
+            let from = 3 * at;
+            let to = 3 * stop;
+            report_next::next_binary(&s[from..to], asked, levels)
+        }
     }
 }
 
-// Whether 7 is asked of its first item: `-A` `-B` `-C`.
-fn is_marking(kind: Kind) -> bool
-    ensures { λ r. ⌜ r ≡ isMarking kind ⌝ }
-{
-    match kind {
-        Kind::Group { letter } => registry::is_overrideable(letter),
-        Kind::Fixed(_) => false,
-        Kind::Variable {
-            letter: _,
-            lead: _,
-            count: _,
-        } => false,
-        Kind::Genus => false,
-    }
-}
+// ---- a step
 
-// ---- a framed item's own checks, in either form
-
-// The part starts with the item, and cs are its first sextets.
-fn verdict_text(framed: Framed, cs: [u8; 12], part: &[u8], levels: usize) -> Verdict
-    requires { ⌜ Within (length (now part) / 4) framed ⌝ }
-    ensures { λ r. ⌜ r ≡ ownOf framed cs (behindOf framed (textSextets (now (part .entry)))) levels ⌝ }
+// What is told of the next item, and the state behind it. At a refusal the state stays as it was.
+fn yielded(w: Walk, item: Framed) -> Stepped
+    requires { ⌜ (w .depth ≤ maxDepth) × (w .at ≤ reach) × Ready w item ⌝ }
+    ensures { λ r. ⌜ r ≡ foundBy w item ⌝ }
 {
-    match framed {
+    let at = w.at;
+    match item {
+        Framed::Unframed { number, place } => Stepped {
+            next: w,
+            found: Found::Refused {
+                number,
+                place: 4 * at + place,
+            },
+        },
         Framed::Item { kind, head, size } => {
-            let own = judging::within(cs, size);
-            let to = 4 * size;
-            judging::own_text(kind, head, size, own, &part[..to], levels)
+            let opens = report_next::is_entered(kind);
+            let mark = report_next::is_ruled(kind);
+            let next = w.step(at + head, at + size, opens, mark);
+            let depth = w.depth;
+            Stepped {
+                next,
+                found: Found::Item {
+                    offset: at,
+                    size,
+                    depth,
+                    kind,
+                    head,
+                },
+            }
         }
-        Framed::Unframed {
-            number: _,
-            place: _,
-        } => Verdict::Accepted,
     }
 }
 
-fn verdict_binary(framed: Framed, cs: [u8; 12], levels: usize) -> Verdict
-    ensures { λ r. ⌜ r ≡ ownOf framed cs Verdict.Accepted levels ⌝ }
+// At the end of the whole units, where elements of one more may stand.
+fn ended(w: Walk, tail: bool) -> Stepped
+    requires { ⌜ w .at ≤ reach ⌝ }
+    ensures { λ r. ⌜ r ≡ record { next = w; found = pick tail (Found.Refused 4 (4 * w .at)) Found.End } ⌝ }
 {
-    match framed {
-        Framed::Item { kind, head, size } => {
-            let own = judging::within(cs, size);
-            judging::own_binary(kind, head, size, own, levels)
-        }
-        Framed::Unframed {
-            number: _,
-            place: _,
-        } => Verdict::Accepted,
+    if tail {
+        return Stepped {
+            next: w,
+            found: Found::Refused {
+                number: 4,
+                place: 4 * w.at,
+            },
+        };
+    }
+    Stepped {
+        next: w,
+        found: Found::End,
     }
 }
 
-// ---- units and sextets as offsets of a form
+// The step of a state that fits a stream of n whole units; tail: elements of one more stand behind them. Offset and size are in units,
+// the place in sextets.
+fn step_fit(w: Walk, form: Form, s: &[u8], n: usize, tail: bool) -> Stepped
+    requires { ⌜ Fits form (now s) n w ⌝ }
+    ensures { λ r. ⌜ r ≡ stepFit (domain form .sextets (now (s .entry))) n tail w ⌝ }
+{
+    if w.at == n {
+        return ended(w, tail);
+    }
+    let item = next_item(w, form, s, w.stop(n));
+    yielded(w, item)
+}
+
+// ---- units and sextets as elements of a form
+
+// So many units.
+fn elements(form: Form, units: usize) -> usize
+    requires { ⌜ units ≤ reach ⌝ }
+    ensures { λ r. ⌜ r ≡ units * domain form .unit ⌝ }
+{
+    match form {
+        Form::Text => units * 4,
+        Form::Binary => units * 3,
+    }
+}
+
+// The place of a sextet.
+fn place_in(form: Form, place: usize) -> usize
+    ensures { λ r. ⌜ r ≡ place / 4 * domain form .unit + place % 4 ⌝ }
+{
+    match form {
+        Form::Text => place / 4 * 4 + place % 4,
+        Form::Binary => place / 4 * 3 + place % 4,
+    }
+}
+
+fn found_in(form: Form, found: Found) -> Found
+    requires { ⌜ InReach found ⌝ }
+    ensures { λ r. ⌜ r ≡ foundIn (domain form .unit) found ⌝ }
+{
+    match found {
+        Found::Item {
+            offset,
+            size,
+            depth,
+            kind,
+            head,
+        } => Found::Item {
+            offset: elements(form, offset),
+            size: elements(form, size),
+            depth,
+            kind,
+            head,
+        },
+        Found::Refused { number, place } => Found::Refused {
+            number,
+            place: place_in(form, place),
+        },
+        Found::End => found,
+    }
+}
+
+// ---- a step over a stream
+
+// over: the stream is longer than its form's limit; n: its whole units; tail: elements stand behind them.
+fn step_by(w: Walk, form: Form, s: &[u8], over: bool, n: usize, tail: bool) -> Stepped
+    requires { ⌜ Measured form (now s) over n tail ⌝ }
+    ensures { λ r. ⌜ r ≡ stepIn (domain form) (now (s .entry)) w ⌝ }
+{
+    if over {
+        return Stepped {
+            next: w,
+            found: Found::Refused {
+                number: 1,
+                place: 0,
+            },
+        };
+    }
+    if !w.is_fit(n) {
+        return Stepped {
+            next: w,
+            found: Found::Refused {
+                number: 13,
+                place: 0,
+            },
+        };
+    }
+    let r = step_fit(w, form, s, n, tail);
+    let next = r.next;
+    let found = r.found;
+    Stepped {
+        next,
+        found: found_in(form, found),
+    }
+}
+
+// The next item at any depth, the first refusal or the end, with the next state. Offset, size and place count the stream's elements.
+pub fn step_in(w: Walk, form: Form, s: &[u8]) -> Stepped
+    ensures { λ r. ⌜ r ≡ stepIn (domain form) (now (s .entry)) w ⌝ }
+{
+    match form {
+        Form::Text => step_by(
+            w,
+            form,
+            s,
+            MAX_CHARACTERS < s.len(),
+            s.len() / 4,
+            0 < s.len() % 4,
+        ),
+        Form::Binary => step_by(
+            w,
+            form,
+            s,
+            MAX_BYTES < s.len(),
+            s.len() / 3,
+            0 < s.len() % 3,
+        ),
+    }
+}
+
+// ---- in a form's own offsets
 
 fn text_item(found: Found) -> TextItem
-    requires { ⌜ InReach found ⌝ }
-    ensures { λ r. ⌜ r ≡ textItem (foundIn 4 found) ⌝ }
+    ensures { λ r. ⌜ r ≡ textItem found ⌝ }
 {
     match found {
         Found::Item {
@@ -213,8 +247,8 @@ fn text_item(found: Found) -> TextItem
             kind,
             head,
         } => TextItem::Item {
-            offset: TextOffset(offset * 4),
-            size: TextOffset(size * 4),
+            offset: TextOffset(offset),
+            size: TextOffset(size),
             depth,
             kind,
             head,
@@ -227,9 +261,21 @@ fn text_item(found: Found) -> TextItem
     }
 }
 
+// A step over a text.
+pub fn step_text(w: Walk, s: &[u8]) -> TextStep
+    ensures { λ r. ⌜ r ≡ textStep (now (s .entry)) w ⌝ }
+{
+    let r = step_in(w, Form::Text, s);
+    let next = r.next;
+    let found = r.found;
+    TextStep {
+        next,
+        found: text_item(found),
+    }
+}
+
 fn binary_item(found: Found) -> BinaryItem
-    requires { ⌜ InReach found ⌝ }
-    ensures { λ r. ⌜ r ≡ binaryItem (foundIn 3 found) ⌝ }
+    ensures { λ r. ⌜ r ≡ binaryItem found ⌝ }
 {
     match found {
         Found::Item {
@@ -239,306 +285,29 @@ fn binary_item(found: Found) -> BinaryItem
             kind,
             head,
         } => BinaryItem::Item {
-            offset: BinaryOffset(offset * 3),
-            size: BinaryOffset(size * 3),
+            offset: BinaryOffset(offset),
+            size: BinaryOffset(size),
             depth,
             kind,
             head,
         },
         Found::Refused { number, place } => BinaryItem::Refused {
             number,
-            place: BinaryOffset(place / 4 * 3 + place % 4),
+            place: BinaryOffset(place),
         },
         Found::End => BinaryItem::End,
     }
 }
 
-impl Walk {
-    // None open, at the stream's start.
-    pub fn new() -> Walk
-        ensures { λ r. ⌜ r ≡ start ⌝ }
-    {
-        Walk {
-            ends: [0; MAX_DEPTH],
-            depth: 0,
-            at: 0,
-            first: false,
-        }
-    }
-
-    // Whether the state fits a stream of n whole units: else 13.
-    pub fn is_fit(self, n: usize) -> bool
-        ensures { λ r. ⌜ r ≡ isFit self n ⌝ }
-    {
-        let depth = self.depth;
-        if MAX_DEPTH < depth {
-            return false;
-        }
-        if n < self.at {
-            return false;
-        }
-        if !slots_fit(&self.ends, depth, n) {
-            return false;
-        }
-        if depth == 0 {
-            return !self.first;
-        }
-        let inner = self.ends[depth - 1];
-        self.at < inner
-    }
-
-    // Groups whose end is reached, innermost first. A state with more open than there are slots stays as it is.
-    pub fn close_finished(self) -> Walk
-        ensures { λ r. ⌜ r ≡ finished self ⌝ }
-    {
-        if MAX_DEPTH < self.depth {
-            return self;
-        }
-        let mut w = self;
-        while 0 < w.depth {
-            let top = w.depth - 1;
-            if w.ends[top] != w.at {
-                return w;
-            }
-            w.ends[top] = 0;
-            w.depth = top;
-        }
-        w
-    }
-
-    // Into a group with contents from at to end; mark: 7 is asked of its first item, if it has one. A state with no slot left
-    // stays as it is.
-    pub fn open_group(self, at: usize, end: usize, mark: bool) -> Walk
-        ensures { λ r. ⌜ r ≡ entered self at end mark ⌝ }
-    {
-        let depth = self.depth;
-        if MAX_DEPTH <= depth {
-            return self;
-        }
-        let mut w = self;
-        w.ends[depth] = end;
-        w.depth = depth + 1;
-        w.at = at;
-        w.first = if at < end { mark } else { false };
-        w
-    }
-
-    // Past an item that is not entered.
-    fn moved_to(self, at: usize) -> Walk
-        ensures { λ r. ⌜ r ≡ movedTo self at ⌝ }
-    {
-        let mut w = self;
-        w.at = at;
-        w.first = false;
-        w
-    }
-
-    // Where the innermost group ends, or the stream of n units.
-    fn stop(self, n: usize) -> usize
-        requires { ⌜ self .depth ≤ maxDepth ⌝ }
-        ensures { λ r. ⌜ r ≡ stopOf self n ⌝ }
-    {
-        let depth = self.depth;
-        if depth == 0 {
-            return n;
-        }
-        self.ends[depth - 1]
-    }
-
-    // ---- a step, the same in both forms
-
-    // 1 before 13, of a stream that is over its limit, and of one of n units that the state does not fit; else 0.
-    fn barred(self, over: bool, n: usize) -> u8
-        ensures { λ r. ⌜ r ≡ barredBy over n self ⌝ }
-    {
-        if over {
-            return 1;
-        }
-        if self.is_fit(n) { 0 } else { 13 }
-    }
-
-    // The item with these first sextets, which ends within len units. 7 is asked at top level, and where the mark is set.
-    fn frame_next(self, cs: [u8; 12], len: usize) -> Framed
-        ensures { λ r. ⌜ r ≡ frameHead self (λ i. getD cs i 0) len ⌝ }
-    {
-        if self.depth == 0 {
-            return framing::frame_ruled_head(cs, len);
-        }
-        if self.first {
-            return framing::frame_ruled_head(cs, len);
-        }
-        framing::frame_head(cs, len)
-    }
-
-    // The state behind an item that is yielded.
-    fn past_item(self, kind: Kind, head: usize, size: usize) -> Walk
-        requires { ⌜ (self .depth ≤ maxDepth) × (self .at ≤ reach) × (head ≤ size) × (size ≤ reach) × Slotted kind (self .depth) ⌝ }
-        ensures { λ r. ⌜ r ≡ nextOf self kind head size ⌝ }
-    {
-        let at = self.at;
-        if is_entered(kind) {
-            let mark = is_marking(kind);
-            return self.open_group(at + head, at + size, mark).close_finished();
-        }
-        self.moved_to(at + size).close_finished()
-    }
-
-    // A refusal at a place so many sextets from the position: the state stays as it was.
-    fn refused(self, number: u8, place: usize) -> Stepped
-        requires { ⌜ (self .at ≤ reach) × (place ≤ reach) ⌝ }
-        ensures { λ r. ⌜ r ≡ record { next = self; found = Found.Refused number (4 * self .at + place) } ⌝ }
-    {
-        Stepped {
-            next: self,
-            found: Found::Refused {
-                number,
-                place: 4 * self.at + place,
-            },
-        }
-    }
-
-    // At the end of the whole units, where elements of one more may stand.
-    fn ended(self, tail: bool) -> Stepped
-        requires { ⌜ self .at ≤ reach ⌝ }
-        ensures { λ r. ⌜ r ≡ record { next = self; found = pick tail (Found.Refused 4 (4 * self .at)) Found.End } ⌝ }
-    {
-        if tail {
-            return self.refused(4, 0);
-        }
-        Stepped {
-            next: self,
-            found: Found::End,
-        }
-    }
-
-    // What framing and the own checks make of the next item.
-    fn yielded(self, framed: Framed, v: Verdict) -> Stepped
-        requires { ⌜ (self .depth ≤ maxDepth) × (self .at ≤ reach) × Ready self framed v ⌝ }
-        ensures { λ r. ⌜ r ≡ foundBy self framed v ⌝ }
-    {
-        match framed {
-            Framed::Unframed { number, place } => self.refused(number, place),
-            Framed::Item { kind, head, size } => match v {
-                Verdict::Refused { number, place } => self.refused(number, place),
-                Verdict::Accepted => {
-                    let next = self.past_item(kind, head, size);
-                    let offset = self.at;
-                    let depth = self.depth;
-                    Stepped {
-                        next,
-                        found: Found::Item {
-                            offset,
-                            size,
-                            depth,
-                            kind,
-                            head,
-                        },
-                    }
-                }
-            },
-        }
-    }
-
-    // ---- a step over a text
-
-    // The part runs from the position to where the innermost group ends.
-    fn part_text(self, part: &[u8]) -> Stepped
-        requires { ⌜ (self .depth ≤ maxDepth) × (self .at ≤ reach) × (length (now part) ≤ text .limit) ⌝ }
-        ensures { λ r. ⌜ r ≡ partStep self (textSextets (now (part .entry))) ⌝ }
-    {
-        let cs = framing::text_head(part);
-        let framed = self.frame_next(cs, part.len() / 4);
-        let levels = MAX_DEPTH - self.depth;
-        let v = verdict_text(framed, cs, part, levels);
-        self.yielded(framed, v)
-    }
-
-    // The step of a state that fits, without the test, so that a caller that tested once need not again. Offset and size are in
-    // units, the place in sextets.
-    fn step_fit_text(self, s: &[u8]) -> Stepped
-        requires { ⌜ (length (now s) ≤ text .limit) × (isFit self (length (now s) / 4) ≡ true) ⌝ }
-        ensures { λ r. ⌜ r ≡ stepFit (textSextets (now (s .entry))) (length (now (s .entry)) / 4) (ltb 0 (length (now (s .entry)) % 4)) self ⌝ }
-    {
-        let n = s.len() / 4;
-        let at = self.at;
-        if at == n {
-            return self.ended(0 < s.len() % 4);
-        }
-        let from = at * 4;
-        let to = self.stop(n) * 4;
-        self.part_text(&s[from..to])
-    }
-
-    // The next item of a text at any depth, the first refusal or the end, with the next state.
-    pub fn step_text(self, s: &[u8]) -> TextStep
-        ensures { λ r. ⌜ r ≡ textStep (now (s .entry)) self ⌝ }
-    {
-        let number = self.barred(MAX_CHARACTERS < s.len(), s.len() / 4);
-        if number != 0 {
-            return TextStep {
-                next: self,
-                found: TextItem::Refused {
-                    number,
-                    place: TextOffset(0),
-                },
-            };
-        }
-        let r = self.step_fit_text(s);
-        let next = r.next;
-        let found = r.found;
-        TextStep {
-            next,
-            found: text_item(found),
-        }
-    }
-
-    // ---- a step over a binary
-
-    fn part_binary(self, part: &[u8]) -> Stepped
-        requires { ⌜ (self .depth ≤ maxDepth) × (self .at ≤ reach) × (length (now part) ≤ binary .limit) ⌝ }
-        ensures { λ r. ⌜ r ≡ partStep self (binarySextets (now (part .entry))) ⌝ }
-    {
-        let cs = framing::binary_head(part);
-        let framed = self.frame_next(cs, part.len() / 3);
-        let levels = MAX_DEPTH - self.depth;
-        let v = verdict_binary(framed, cs, levels);
-        self.yielded(framed, v)
-    }
-
-    fn step_fit_binary(self, s: &[u8]) -> Stepped
-        requires { ⌜ (length (now s) ≤ binary .limit) × (isFit self (length (now s) / 3) ≡ true) ⌝ }
-        ensures { λ r. ⌜ r ≡ stepFit (binarySextets (now (s .entry))) (length (now (s .entry)) / 3) (ltb 0 (length (now (s .entry)) % 3)) self ⌝ }
-    {
-        let n = s.len() / 3;
-        let at = self.at;
-        if at == n {
-            return self.ended(0 < s.len() % 3);
-        }
-        let from = at * 3;
-        let to = self.stop(n) * 3;
-        self.part_binary(&s[from..to])
-    }
-
-    // The same of a binary.
-    pub fn step_binary(self, s: &[u8]) -> BinaryStep
-        ensures { λ r. ⌜ r ≡ binaryStep (now (s .entry)) self ⌝ }
-    {
-        let number = self.barred(MAX_BYTES < s.len(), s.len() / 3);
-        if number != 0 {
-            return BinaryStep {
-                next: self,
-                found: BinaryItem::Refused {
-                    number,
-                    place: BinaryOffset(0),
-                },
-            };
-        }
-        let r = self.step_fit_binary(s);
-        let next = r.next;
-        let found = r.found;
-        BinaryStep {
-            next,
-            found: binary_item(found),
-        }
+// A step over a binary.
+pub fn step_binary(w: Walk, s: &[u8]) -> BinaryStep
+    ensures { λ r. ⌜ r ≡ binaryStep (now (s .entry)) w ⌝ }
+{
+    let r = step_in(w, Form::Binary, s);
+    let next = r.next;
+    let found = r.found;
+    BinaryStep {
+        next,
+        found: binary_item(found),
     }
 }

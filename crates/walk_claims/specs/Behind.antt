@@ -15,10 +15,10 @@ use Rattle.format.specs.declared.Kind.the-variants.{Fixed, Variable, Group, Gen
 use Rattle.format.specs.Units.{Domain}
 use Rattle.format.specs.Registry.{isOpaque, isOverrideable}
 use Rattle.laws.specs.Domains.{Reader}
-use Rattle.walk.specs.declared.Walk.{Walk}
-use Rattle.walk.specs.declared.Found.{Found}
-use Rattle.walk.specs.declared.Found.the-variants as F
-use Rattle.walk.specs.Walking.{closed, movedTo, past, nextOf, foundIn, stepIn}
+use Rattle.walk_state.specs.declared.Walk.{Walk}
+use Rattle.walk_state.specs.declared.Found.{Found}
+use Rattle.walk_state.specs.declared.Found.the-variants as F
+use Rattle.walk_state.specs.Walking.{closed, movedTo, past, nextOf, foundIn, stepIn}
 use Rattle.walk_claims.specs.Words.{unitsIn, tailOf, opens, marks, Behind}
 use Rattle.walk_claims.specs.Steps.{step-by, overNext, opens-next, opaque-next, in-by}
 use Rattle.walk_claims.specs.Runs.{closed-keeps, closed-at}

@@ -14,9 +14,9 @@ use Rattle.format.specs.Judging.{maxDepth}
 use Rattle.format.specs.Report.{rowsIn, refusalsIn, remainderIn, frameIn, judgeIn}
 use Rattle.claims.specs.Words.{WholeText, WholeBinary}
 use Rattle.claims.specs.Order.{None, Refusal}
-use Rattle.walk.specs.declared.Walk.{Walk}
-use Rattle.walk.specs.declared.Found.the-variants as F
-use Rattle.walk.specs.Walking.{isFit, stepIn}
+use Rattle.walk_state.specs.declared.Walk.{Walk}
+use Rattle.walk_state.specs.declared.Found.the-variants as F
+use Rattle.walk_state.specs.Walking.{isFit, stepIn}
 use Rattle.walk_claims.specs.Words.{Fit, stepRules, unitsIn, after, foundAt, Yields, Stops, Behind, outerItems, spanOf, upToRefusal}
 use Rattle.walk_claims.specs.Words.{foundOf, firstRefusal, Last, SameStep}
 

@@ -10,11 +10,11 @@ use Rattle.format.specs.declared.Kind.the-variants.{Fixed, Group, Genus}
 use Rattle.format.specs.Units.{Domain, text, binary}
 use Rattle.format.specs.Registry.{oneLetter}
 use Rattle.format.specs.Deck.{given}
-use Rattle.walk.specs.declared.Walk.{Walk}
-use Rattle.walk.specs.declared.Found.the-variants as F
-use Rattle.walk.specs.declared.Stepped.{Stepped}
-use Rattle.walk.specs.Walking.{start, allBelow, slotFits, isFit, closed, movedTo, opened, past, nextOf, stopOf, judged, framedBy, frameAt}
-use Rattle.walk.specs.Walking.{stepFit, step, foundIn, stepIn}
+use Rattle.walk_state.specs.declared.Walk.{Walk}
+use Rattle.walk_state.specs.declared.Found.the-variants as F
+use Rattle.walk_state.specs.declared.Stepped.{Stepped}
+use Rattle.walk_state.specs.Walking.{start, allBelow, slotFits, isFit, closed, movedTo, opened, past, nextOf, stopOf, judged, framedBy, frameAt}
+use Rattle.walk_state.specs.Walking.{stepFit, step, foundIn, stepIn}
 
 infixr 5 _&_
 -- ---- a step and what is expected of it

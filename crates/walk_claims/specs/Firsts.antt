@@ -21,11 +21,11 @@ use Rattle.damage.specs.Cuts as C
 use Rattle.damage.specs.Damage.{shift-zero}
 use Rattle.laws.specs.Domains.{Reader}
 use Rattle.laws.specs.Frames.{frames}
-use Rattle.walk.specs.declared.Walk.{Walk}
-use Rattle.walk.specs.declared.Found.{Found}
-use Rattle.walk.specs.declared.Found.the-variants as F
-use Rattle.walk.specs.declared.Stepped.{Stepped}
-use Rattle.walk.specs.Walking.{start, foundIn, stepIn}
+use Rattle.walk_state.specs.declared.Walk.{Walk}
+use Rattle.walk_state.specs.declared.Found.{Found}
+use Rattle.walk_state.specs.declared.Found.the-variants as F
+use Rattle.walk_state.specs.declared.Stepped.{Stepped}
+use Rattle.walk_state.specs.Walking.{start, foundIn, stepIn}
 use Rattle.walk_claims.specs.Words.{unitsIn, tailOf, after, foundAt, Stops, foundOf, firstOf, firstRefusal}
 use Rattle.laws.specs.Levels.{part}
 use Rattle.walk_claims.specs.Rest.{then-accepted, orElse, or-again, whole-refused, Telling, rest, left, Tells}

@@ -11,8 +11,8 @@ use borrow.Author.Tests.{ltb-true, leb-true, eqb-true, not-true, lt-ltb, le-ltb,
 use Rattle.base.specs.Pick.{pick}
 use Rattle.base.specs.Cases.{lt-or-ge, whether}
 use Rattle.format.specs.Judging.{maxDepth}
-use Rattle.walk.specs.declared.Walk.{Walk}
-use Rattle.walk.specs.Walking.{allBelow, slotFits, isFit}
+use Rattle.walk_state.specs.declared.Walk.{Walk}
+use Rattle.walk_state.specs.Walking.{allBelow, slotFits, isFit}
 use Rattle.walk_claims.specs.Words.{Fit}
 
 -- ---- the test and the plain facts

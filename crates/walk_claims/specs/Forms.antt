@@ -17,11 +17,11 @@ use Rattle.laws.specs.Framing.{Told, frame-told, frameRuled-told}
 use Rattle.laws.specs.Judging.{kind-by, check-by}
 use Rattle.claims.specs.Aligned.{Aligned, aligned, below-anywhere}
 use Rattle.claims.specs.Ratio.{Same, same-units}
-use Rattle.walk.specs.declared.Walk.{Walk}
-use Rattle.walk.specs.declared.Found.{Found}
-use Rattle.walk.specs.declared.Found.the-variants as F
-use Rattle.walk.specs.declared.Stepped.{Stepped}
-use Rattle.walk.specs.Walking.{isFit, stopOf, foundIn, stepFit, step, stepIn}
+use Rattle.walk_state.specs.declared.Walk.{Walk}
+use Rattle.walk_state.specs.declared.Found.{Found}
+use Rattle.walk_state.specs.declared.Found.the-variants as F
+use Rattle.walk_state.specs.declared.Stepped.{Stepped}
+use Rattle.walk_state.specs.Walking.{isFit, stopOf, foundIn, stepFit, step, stepIn}
 use Rattle.walk_claims.specs.Words.{after, FoundRatio, SameStep}
 use Rattle.laws.specs.Levels.{part, frameNext}
 use Rattle.walk_claims.specs.Steps.{asked, step-by}

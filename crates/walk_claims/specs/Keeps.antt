@@ -16,8 +16,8 @@ use Rattle.format.specs.declared.Kind.the-variants.{Group}
 use Rattle.format.specs.declared.Framed.the-variants.{Item}
 use Rattle.format.specs.declared.Verdict.the-variants.{Accepted}
 use Rattle.format.specs.Judging.{judgeKind, ownCheck, maxDepth}
-use Rattle.walk.specs.declared.Walk.{Walk}
-use Rattle.walk.specs.Walking.{start, closed, movedTo, stopOf, stepFit}
+use Rattle.walk_state.specs.declared.Walk.{Walk}
+use Rattle.walk_state.specs.Walking.{start, closed, movedTo, stopOf, stepFit}
 use Rattle.laws.specs.Levels.{part, part-length, any-item, item-sizes}
 use Rattle.walk_claims.specs.Fitting.{stopAt, stop-inner, stop-in, Nested, Fits}
 use Rattle.walk_claims.specs.Steps.{asked, framedHere, judgedHere, step-by, entered, intoNext, overNext, next-by}

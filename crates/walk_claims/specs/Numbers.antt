@@ -22,10 +22,10 @@ use Rattle.format.specs.Registry.{isOpaque}
 use Rattle.format.specs.Framing.{fit, second, headed, frameWith, isOurs, ruled, sextet, frame, frameRuled}
 use Rattle.format.specs.Judging.{shift, andThen, unless, scan, behind, judgeKind, ownCheck}
 use Rattle.laws.specs.Framing.{known-by}
-use Rattle.walk.specs.declared.Walk.{Walk}
-use Rattle.walk.specs.declared.Found.{Found}
-use Rattle.walk.specs.declared.Found.the-variants as F
-use Rattle.walk.specs.Walking.{isFit, stopOf, foundIn, step, stepIn}
+use Rattle.walk_state.specs.declared.Walk.{Walk}
+use Rattle.walk_state.specs.declared.Found.{Found}
+use Rattle.walk_state.specs.declared.Found.the-variants as F
+use Rattle.walk_state.specs.Walking.{isFit, stopOf, foundIn, step, stepIn}
 use Rattle.walk_claims.specs.Words.{unitsIn, tailOf}
 use Rattle.laws.specs.Levels.{part, frameNext}
 use Rattle.walk_claims.specs.Steps.{asked, step-by, in-by}

@@ -32,11 +32,11 @@ use Rattle.claims.specs.Conditions as C
 use Rattle.claims.specs.Framed.{framed-found, unframed-first}
 use Rattle.claims.specs.Judged.{Judged, own-judged}
 use Rattle.claims.specs.Judged.Judged.{passes, refuses}
-use Rattle.walk.specs.declared.Walk.{Walk}
-use Rattle.walk.specs.declared.Found.{Found}
-use Rattle.walk.specs.declared.Found.the-variants as F
-use Rattle.walk.specs.declared.Stepped.{Stepped}
-use Rattle.walk.specs.Walking.{isFit, stopOf, foundIn, stepIn}
+use Rattle.walk_state.specs.declared.Walk.{Walk}
+use Rattle.walk_state.specs.declared.Found.{Found}
+use Rattle.walk_state.specs.declared.Found.the-variants as F
+use Rattle.walk_state.specs.declared.Stepped.{Stepped}
+use Rattle.walk_state.specs.Walking.{isFit, stopOf, foundIn, stepIn}
 use Rattle.walk_claims.specs.Words.{Fit, aheadOf, ownOf, OtherGenus, stepRules, unitsIn, tailOf}
 use Rattle.walk_claims.specs.Fitting.{fit-facts, fit-made}
 use Rattle.walk_claims.specs.Steps.{asked, step-by, in-by}

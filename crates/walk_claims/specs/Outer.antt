@@ -22,11 +22,11 @@ use Rattle.damage.specs.Cuts as C
 use Rattle.laws.specs.Domains.{Reader}
 use Rattle.laws.specs.Frames.{frames}
 use Rattle.laws.specs.Items.{rowsAt, rows-nil, rows-refused, rows-item}
-use Rattle.walk.specs.declared.Walk.{Walk}
-use Rattle.walk.specs.declared.Found.{Found}
-use Rattle.walk.specs.declared.Found.the-variants as F
-use Rattle.walk.specs.declared.Stepped.{Stepped}
-use Rattle.walk.specs.Walking.{start, foundIn, stepIn}
+use Rattle.walk_state.specs.declared.Walk.{Walk}
+use Rattle.walk_state.specs.declared.Found.{Found}
+use Rattle.walk_state.specs.declared.Found.the-variants as F
+use Rattle.walk_state.specs.declared.Stepped.{Stepped}
+use Rattle.walk_state.specs.Walking.{start, foundIn, stepIn}
 use Rattle.walk_claims.specs.Words.{unitsIn, tailOf, after, foundAt, Stops, Span, outer}
 use Rattle.walk_claims.specs.Words.{outerItems, opens, isOpened, upTo, upToRefusal}
 use Rattle.laws.specs.Levels.{part}

@@ -13,7 +13,7 @@ use Rattle.format.specs.Cutting.Cut.{done, stopped, item}
 use Rattle.format.specs.Judging.{shift, andThen}
 use Rattle.format.specs.Report.{ItemRow, RefusalRow, rowsOf, remainderOf, refusal, refusalsOf, frameIn, judgeIn, placed}
 use Rattle.format.specs.Report.{rows, refusals, remainder, rowsIn, refusalsIn, remainderIn}
-use Rattle.walk.specs.declared.Found.{Found}
+use Rattle.walk_state.specs.declared.Found.{Found}
 use Rattle.walk_claims.specs.Words.{Span, spanOf, upTo, upToRefusal, foundOf, firstOf, firstRefusal, LastBy, Last}
 
 -- ---- the last answer

@@ -21,11 +21,11 @@ use Rattle.format.specs.declared.Verdict.the-variants.{Accepted, Refused}
 use Rattle.format.specs.Registry.{isOpaque, isOverrideable}
 use Rattle.format.specs.Framing.{frameRuled}
 use Rattle.format.specs.Judging.{shift, andThen, inTurn, contents, judgeKind, ownCheck, group, judge, maxDepth}
-use Rattle.walk.specs.declared.Walk.{Walk}
-use Rattle.walk.specs.declared.Found.{Found}
-use Rattle.walk.specs.declared.Found.the-variants as F
-use Rattle.walk.specs.declared.Stepped.{Stepped}
-use Rattle.walk.specs.Walking.{closed, movedTo, past, nextOf, stepFit}
+use Rattle.walk_state.specs.declared.Walk.{Walk}
+use Rattle.walk_state.specs.declared.Found.{Found}
+use Rattle.walk_state.specs.declared.Found.the-variants as F
+use Rattle.walk_state.specs.declared.Stepped.{Stepped}
+use Rattle.walk_state.specs.Walking.{closed, movedTo, past, nextOf, stepFit}
 use Rattle.laws.specs.Levels.{shift-shift, part, part-drop, frameNext, level, level-end, level-refused, level-item}
 use Rattle.walk_claims.specs.Fitting.{stopAt, stop-outer, stop-in, Fits}
 use Rattle.walk_claims.specs.Steps.{asked, framedHere, judgedHere, step-by, intoNext, overNext, opens-next, opaque-next}

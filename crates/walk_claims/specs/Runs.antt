@@ -14,11 +14,11 @@ use Rattle.format.specs.declared.Framed.the-variants.{Item}
 use Rattle.format.specs.Units.{Domain}
 use Rattle.format.specs.Judging.{maxDepth}
 use Rattle.laws.specs.Domains.{Reader}
-use Rattle.walk.specs.declared.Walk.{Walk}
-use Rattle.walk.specs.declared.Found.{Found}
-use Rattle.walk.specs.declared.Found.the-variants as F
-use Rattle.walk.specs.declared.Stepped.{Stepped}
-use Rattle.walk.specs.Walking.{isFit, closed, movedTo, nextOf, stopOf, foundIn, stepFit, stepIn}
+use Rattle.walk_state.specs.declared.Walk.{Walk}
+use Rattle.walk_state.specs.declared.Found.{Found}
+use Rattle.walk_state.specs.declared.Found.the-variants as F
+use Rattle.walk_state.specs.declared.Stepped.{Stepped}
+use Rattle.walk_state.specs.Walking.{isFit, closed, movedTo, nextOf, stopOf, foundIn, stepFit, stepIn}
 use Rattle.walk_claims.specs.Words.{unitsIn, tailOf, after, foundAt, Yields, Stops}
 use Rattle.laws.specs.Levels.{part, any-item, item-sizes}
 use Rattle.walk_claims.specs.Fitting.{fit-facts, fit-made, Fits, plain, by-depth}

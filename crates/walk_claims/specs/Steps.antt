@@ -19,11 +19,11 @@ use Rattle.format.specs.Units.{Domain}
 use Rattle.format.specs.Registry.{isOpaque, isOverrideable}
 use Rattle.format.specs.Framing.{frame, frameRuled}
 use Rattle.format.specs.Judging.{judgeKind, ownCheck, maxDepth}
-use Rattle.walk.specs.declared.Walk.{Walk}
-use Rattle.walk.specs.declared.Found.the-variants as F
-use Rattle.walk.specs.declared.Stepped.{Stepped}
-use Rattle.walk.specs.Walking.{isFit, closed, movedTo, opened, past, nextOf, stopOf, judged}
-use Rattle.walk.specs.Walking.{framedBy, frameAt, stepFit, step, foundIn, stepIn}
+use Rattle.walk_state.specs.declared.Walk.{Walk}
+use Rattle.walk_state.specs.declared.Found.the-variants as F
+use Rattle.walk_state.specs.declared.Stepped.{Stepped}
+use Rattle.walk_state.specs.Walking.{isFit, closed, movedTo, opened, past, nextOf, stopOf, judged}
+use Rattle.walk_state.specs.Walking.{framedBy, frameAt, stepFit, step, foundIn, stepIn}
 use Rattle.walk_claims.specs.Words.{unitsIn, tailOf}
 use Rattle.laws.specs.Levels.{part, frameNext}
 

@@ -25,11 +25,11 @@ use Rattle.damage.specs.Words.{itemAt}
 use Rattle.claims.specs.Words.{Ratio}
 use Rattle.claims.specs.Order.{Rule, _when_}
 use Rattle.claims.specs.Conditions.{framing, itemKind, itemHead, itemSize, ownRules}
-use Rattle.walk.specs.declared.Walk.{Walk}
-use Rattle.walk.specs.declared.Found.{Found}
-use Rattle.walk.specs.declared.Found.the-variants as F
-use Rattle.walk.specs.declared.Stepped.{Stepped}
-use Rattle.walk.specs.Walking.{start, stopOf, stepIn}
+use Rattle.walk_state.specs.declared.Walk.{Walk}
+use Rattle.walk_state.specs.declared.Found.{Found}
+use Rattle.walk_state.specs.declared.Found.the-variants as F
+use Rattle.walk_state.specs.declared.Stepped.{Stepped}
+use Rattle.walk_state.specs.Walking.{start, stopOf, stepIn}
 
 -- ---- 13
 

@@ -1,4 +1,4 @@
--- `reader::Reader::next_binary` meets its contract: a walk of its MIR, by hand. The struct is taken apart, `Walk::step_binary` is called, and of the slice and the answer's next state a reader is made, which goes beside what was found into a struct of its own.
+-- `reader::Reader::next_binary` meets its contract: a walk of its MIR, by hand. The struct is taken apart, `walk::step_binary` is called, and of the slice and the answer's next state a reader is made, which goes beside what was found into a struct of its own.
 -- What lands of the call is put in its written-out form (`rewrite`), so that its fields can be read. What the result owns is what the struct owns, with the next state in the place of the old one, and what was found.
 -- Assumes nothing.
 use mathlib.Core.Path.{_≡_, refl, sym, ap, _∙_}
@@ -40,16 +40,16 @@ use denote.Triple.Table.{entered, cited}
 use denote.Triple.Walked.{says, Stays, stay-none, walkOf, goes-none, Walks, ends-at, walked, walk-meets}
 use denote.Exit.{yes}
 use denote.Triple.Clauses.{ensured, lasts}
-use Rattle.walk.specs.Walking.{binaryStep}
-use Rattle.walk.specs.declared.BinaryStep.{BinaryStep}
-use Rattle.walk.proofs.Walk as S
-use Rattle.walk.proofs.Walk.Laws as S′
-use Rattle.walk.proofs.BinaryStep as R
-use Rattle.walk.proofs.BinaryStep.Laws as R′
-use Rattle.walk.proofs.Walk.step_binary as step
-use Rattle.walk.proofs.Walk.step_binary.Symbol as step-def
-use Rattle.walk.proofs.Walk.step_binary.Symbol.{name as #walk·Walk·step-binary}
-use Rattle.walk.proofs.Walk.step_binary.Met as step-thm
+use Rattle.walk_state.specs.Walking.{binaryStep}
+use Rattle.walk_state.specs.declared.BinaryStep.{BinaryStep}
+use Rattle.walk_state.proofs.Walk as S
+use Rattle.walk_state.proofs.Walk.Laws as S′
+use Rattle.walk_state.proofs.BinaryStep as R
+use Rattle.walk_state.proofs.BinaryStep.Laws as R′
+use Rattle.walk.proofs.step_binary as step
+use Rattle.walk.proofs.step_binary.Symbol as step-def
+use Rattle.walk.proofs.step_binary.Symbol.{name as #walk·step-binary}
+use Rattle.walk.proofs.step_binary.Met as step-thm
 use Rattle.reader.specs.Behind.{binary-taken}
 use Rattle.reader.specs.declared.Reader.{Reader}
 use Rattle.reader.specs.declared.BinaryTaken.{BinaryTaken}
@@ -161,7 +161,7 @@ module _ {M : Type 1} (𝓤 : URA M) (H : Heap 𝓤) (A : Atoms 𝓤) (W : Given
       -- [what the reader owns; what was found owns]
       nothing ! $ move ! (2 ∷ 0 ∷ []) $ fjoin ! $ move ! (1 ∷ 0 ∷ []) $ fjoin ! $ by ! (own-shut 𝓤 H A W DK LK (d′ r, (r .found, tt))))
 
-  module _ (C : Calls 𝓤 H) (Λ : Loops 𝓤 H) (fm : FmC 𝓤 H (W .laws) C) (known : Triple 𝓤 (C #walk·Walk·step-binary) (Step 𝓤 H A mem run)) where
+  module _ (C : Calls 𝓤 H) (Λ : Loops 𝓤 H) (fm : FmC 𝓤 H (W .laws) C) (known : Triple 𝓤 (C #walk·step-binary) (Step 𝓤 H A mem run)) where
     walk : Is (B (κ, tt)) d (mach ∷ []) → ent 𝓤 (onEntry 𝓤 H A next.signature (κ, tt) (q, tt) (d, tt) (mach ∷ [], tt)) (WpFn 𝓤 H C Λ code.function (mach ∷ []) Post)
     walk isd =
         let wt = LL.lawful D L 𝓤 H A W .typed d _ isd .0 in
@@ -190,13 +190,13 @@ module _ {M : Type 1} (𝓤 : URA M) (H : Heap 𝓤) (A : Atoms 𝓤) (W : Given
         move ! (15 ∷ 16 ∷ []) $ free1 ! $ move ! (13 ∷ 14 ∷ []) $ free1 ! $ move ! (11 ∷ 12 ∷ []) $ free1 ! $ move ! (9 ∷ 10 ∷ []) $ free1 ! $ move ! (7 ∷ 8 ∷ []) $ free1 ! $ move ! (5 ∷ 6 ∷ []) $ free1 ! $ move ! (3 ∷ 4 ∷ []) $ free1 ! $ free0 ! $ by ! (exits r u e isn))))))))))))
 
 module _ {M : Type 1} (𝓤 : URA M) (H : Heap 𝓤) (A : Atoms 𝓤) (W : Given 𝓤 H A) (mem : Memory → SProp 𝓤) (run : Routine → Fun 𝓤) where
-  next-walks : (C : Calls 𝓤 H) (Λ : Loops 𝓤 H) → FmC 𝓤 H (W .laws) C → Triple 𝓤 (C #walk·Walk·step-binary) (Step 𝓤 H A mem run)
+  next-walks : (C : Calls 𝓤 H) (Λ : Loops 𝓤 H) → FmC 𝓤 H (W .laws) C → Triple 𝓤 (C #walk·step-binary) (Step 𝓤 H A mem run)
       → Walks 𝓤 H A next.ended stayed (WpFn 𝓤 H C Λ code.function) (next.clauses 𝓤 H A mem run)
   next-walks C Λ fm known = walked 𝓤 H A next.ended stayed (next.clauses 𝓤 H A mem run) (WpFn 𝓤 H C Λ code.function) (λ κs. (LL.vals (T.the-type (namedLft 1 0 tt κs)) (T′.the-laws (namedLft 1 0 tt κs)), tt)) (λ κs. (LL.tells (T.the-type (namedLft 1 0 tt κs)) (T′.the-laws (namedLft 1 0 tt κs)), tt))
       (λ κs qs bounds a g are. via 𝓤 _ (fst∗ 𝓤 _ (emp 𝓤)) (walk 𝓤 H A W mem run (κs .0) (qs .0) (a .0) C Λ fm known (are .0)))
 
 next-meets : {M : Type 1} (𝓤 : URA M) (H : Heap 𝓤) (A : Atoms 𝓤) (W : Given 𝓤 H A) (mem : Memory → SProp 𝓤) (run : Routine → Fun 𝓤) (𝓣 : Tables 𝓤 H)
-    → Triple 𝓤 (𝓣 .C #walk·Walk·step-binary) (Step 𝓤 H A mem run)
+    → Triple 𝓤 (𝓣 .C #walk·step-binary) (Step 𝓤 H A mem run)
     → Meets 𝓤 H A next.signature (WpFn 𝓤 H (𝓣 .C) (𝓣 .Λ) code.function) (next.spec 𝓤 H A mem run)
 next-meets 𝓤 H A W mem run 𝓣 known-step = walk-meets 𝓤 H A next.ended stayed W (goes-none 𝓤 H A W 1 B yes (λ κs x f. refl), tt) (next.clauses 𝓤 H A mem run) (WpFn 𝓤 H (𝓣 .C) (𝓣 .Λ) code.function) (WpFn-mono 𝓤 H (W .laws) 𝓣 code.function)
     (next-walks 𝓤 H A W mem run (𝓣 .C) (𝓣 .Λ) (fmOf 𝓤 H (W .laws) 𝓣) known-step)
@@ -207,4 +207,4 @@ next-binary-spec 𝓤 H 𝓜 𝓖 𝓡 =
     entered 𝓤 H (tripleOf 𝓤 H (𝓖 .A) next.signature (next.spec 𝓤 H (𝓖 .A) (𝓜 .mem) (𝓡 .run)))
     (tables 𝓤 H 𝓜 𝓡 code.env .C) (tables 𝓤 H 𝓜 𝓡 code.env .Λ) #reader·Reader·next-binary code.function (code.unfolded 𝓤 H 𝓜 𝓡)
     (next-meets 𝓤 H (𝓖 .A) (givenOf 𝓤 H 𝓜 𝓖) (𝓜 .mem) (𝓡 .run) (tablesOf 𝓤 H 𝓜 (tables 𝓤 H 𝓜 𝓡 code.env))
-    (cited 𝓤 H (Step 𝓤 H (𝓖 .A) (𝓜 .mem) (𝓡 .run)) 𝓜 𝓡 code.env #walk·Walk·step-binary step-def.routine code.calls-walk·Walk·step-binary (step-thm.met 𝓤 H 𝓜 𝓖 𝓡)))
+    (cited 𝓤 H (Step 𝓤 H (𝓖 .A) (𝓜 .mem) (𝓡 .run)) 𝓜 𝓡 code.env #walk·step-binary step-def.routine code.calls-walk·step-binary (step-thm.met 𝓤 H 𝓜 𝓖 𝓡)))

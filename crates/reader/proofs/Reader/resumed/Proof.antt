@@ -30,9 +30,9 @@ use denote.Triple.Spec.{Meets, tripleOf}
 use denote.Triple.Table.{entered}
 use denote.Triple.Walked.{says, Stays, stay-none, walkOf, goes-none, Walks, ends-at, walked, walk-meets}
 use denote.Exit.{yes}
-use Rattle.walk.specs.declared.Walk.{Walk}
-use Rattle.walk.proofs.Walk as S
-use Rattle.walk.proofs.Walk.Laws as S′
+use Rattle.walk_state.specs.declared.Walk.{Walk}
+use Rattle.walk_state.proofs.Walk as S
+use Rattle.walk_state.proofs.Walk.Laws as S′
 use Rattle.reader.specs.declared.Reader.{Reader}
 use Rattle.reader.proofs.Reader as T
 use Rattle.reader.proofs.Reader.Laws as T′

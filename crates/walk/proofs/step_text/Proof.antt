@@ -1,0 +1,18 @@
+-- `walk::step_text` meets its contract. Assumes nothing.
+use Rattle.walk_state.specs.Walking.{textStep}
+use borrow.Author.Needs.{needs}
+use Rattle.walk.proofs.step_text.Statement.{statement}
+use Rattle.walk.proofs.step_text.Tie as tie
+
+step-in-requires : tie.Need-step-in-requires
+step-in-requires c κs = search needs
+
+text-item-requires : tie.Need-text-item-requires
+text-item-requires c κs = search needs
+
+returns : tie.Need-returns
+unfolding textStep
+returns c = rw (c .text-item .ensures, c .before .before .step-in .ensures)
+
+pub step-text-spec : {M : Type 1} → statement M
+step-text-spec = tie.close (tie.spec step-in-requires text-item-requires returns)

@@ -1,0 +1,79 @@
+-- Laws of the walk's definitions that the code's answers cite: slots one by one, closing turn by turn; and that a step over an item
+-- gives Walking's next state. Assumes nothing.
+use mathlib.Core.Path.{_≡_, refl, sym, _∙_}
+use mathlib.Core.Bool.{Bool, true, false}
+use mathlib.Core.Logic.{⊎-elim}
+use Prim.Native.Nat.{ℕ, zero, suc, _+_, _-_, _<_, _≤_}
+use native.Mathlib.Numerals.{sub-one, add-one}
+use native.Mathlib.Omega.{arith}
+use lib.Dec.{ltb, eqb}
+use lib.ListN.{getD, set}
+use borrow.Author.Tests.{lt-ltb, le-ltb, lt-leb}
+use Rattle.base.specs.Pick.{pick}
+use Rattle.base.specs.Cases.{lt-or-ge}
+use Rattle.format.specs.Judging.{maxDepth}
+use Rattle.walk_state.specs.declared.Walk.{Walk}
+use Rattle.walk_state.specs.Walking.{allBelow, closed, movedTo, opened}
+use Rattle.walk_state.specs.Moving.{finished, entered, stepOver}
+
+-- ---- slots
+
+pub all-none : (p : ℕ → Bool) → allBelow p 0 ≡ true
+unfolding allBelow
+all-none p = refl
+
+pub all-more : (p : ℕ → Bool) (k : ℕ) → allBelow p k ≡ true → p k ≡ true → allBelow p (k + 1) ≡ true
+unfolding allBelow
+all-more p k h e = rw add-one (simp (e, h))
+
+pick-same {ℓ} : {X : Type ℓ} (b : Bool) (x : X) → pick b x x ≡ x
+pick-same true x = refl
+pick-same false x = refl
+
+-- a number that does not pass the test spoils the whole
+pub all-spoilt : (p : ℕ → Bool) (n k : ℕ) → k < n → p k ≡ false → allBelow p n ≡ false
+unfolding allBelow
+all-spoilt p zero k h e = absurd (omega arith)
+all-spoilt p (suc n) k h e =
+    ⊎-elim (λ l. rw (all-spoilt p n k l e) (pick-same (p n) false)) (λ g. let q : n ≡ k = omega arith in rw (q, e)) (lt-or-ge k n)
+
+-- ---- closing, as the code counts
+
+pub closed-step : (d : ℕ) (w : Walk) → 0 < d
+    → closed d w ≡ pick (eqb (getD (w .ends) (d - 1) 0) (w .at))
+    (closed (d - 1) (record { ends = set (w .ends) (d - 1) 0; depth = d - 1; at = w .at; first = w .first })) w
+unfolding closed
+closed-step zero w h = absurd (omega arith)
+closed-step (suc k) w h = rw sub-one
+
+pub closed-none : (d : ℕ) (w : Walk) → d ≤ 0 → closed d w ≡ w
+unfolding closed
+closed-none zero w h = refl
+closed-none (suc k) w h = absurd (omega arith)
+
+-- ---- a step over an item
+
+finish : (w : Walk) → w .depth ≤ maxDepth → finished w ≡ closed (w .depth) w
+unfolding finished
+finish w h = rw (le-ltb maxDepth (w .depth) h)
+
+-- contents that are not empty, counted from the stream's start or from the group's
+on-both : (a h n : ℕ) → ltb (a + h) (a + n) ≡ ltb h n
+on-both a h n =
+    ⊎-elim (λ l. lt-ltb (a + h) (a + n) (omega arith) ∙ sym (lt-ltb h n l))
+    (λ g. le-ltb (a + h) (a + n) (omega arith) ∙ sym (le-ltb h n g)) (lt-or-ge h n)
+
+-- into a group that finds a slot, and past an item
+module _ (w : Walk) (h n : ℕ) (mark : Bool) where
+  into : w .depth < maxDepth → entered w (w .at + h) (w .at + n) mark ≡ opened w h n mark
+  unfolding entered opened
+  into l = rw (lt-leb maxDepth (w .depth) l, on-both (w .at) h n)
+
+  pub steps-into : w .depth < maxDepth
+      → stepOver w (w .at + h) (w .at + n) true mark ≡ closed (opened w h n mark .depth) (opened w h n mark)
+  unfolding stepOver opened
+  steps-into l = rw (into l) (finish (opened w h n mark) (omega arith))
+
+  pub steps-past : w .depth ≤ maxDepth → stepOver w (w .at + h) (w .at + n) false mark ≡ closed (w .depth) (movedTo w (w .at + n))
+  unfolding stepOver movedTo
+  steps-past l = finish (movedTo w (w .at + n)) l
