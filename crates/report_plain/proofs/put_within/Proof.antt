@@ -13,7 +13,7 @@ mul-x : tie.Need-mul-x
 mul-x c = let h = first-in (c .before .before .before .pre) _ (c .unit .ensures) in search needs
 
 shared-slice-read-x : tie.Need-shared-slice-read-x
-shared-slice-read-x c = first-in (c .before .before .before .before .pre) _ (c .before .unit .ensures)
+shared-slice-read-x c = search first-in
 
 limit-requires : tie.Need-limit-requires
 limit-requires c κs = search needs

@@ -8,19 +8,19 @@ units-requires : tie.Need-units-requires
 units-requires c κs = search needs
 
 returns : tie.Need-returns
-returns c = (omega arith, λ l K p. none-sized (c .before .before .before .args .form) (c .before .before .before .args .s .now) _ _ p)
+returns c = search (none-sized, needs)
 
 letter-requires : tie.Need-letter-requires
 letter-requires c κs = search needs
 
 returns-2 : tie.Need-returns-2
-returns-2 c = (omega arith, λ l K p. none-sized (c .before .before .before .before .before .args .form) (c .before .before .before .before .before .args .s .now) _ _ p)
+returns-2 c = search (none-sized, needs)
 
 letter-row-requires : tie.Need-letter-row-requires
 letter-row-requires c κs = search needs
 
 returns-3 : tie.Need-returns-3
-returns-3 c = (omega arith, λ l K p. none-sized (c .before .before .before .before .before .before .before .args .form) (c .before .before .before .before .before .before .before .args .s .now) _ _ p)
+returns-3 c = search (none-sized, needs)
 
 followers-requires : tie.Need-followers-requires
 followers-requires c κs = search needs

@@ -19,7 +19,7 @@ run-requires : tie.Need-run-requires
 run-requires c κs = elements-fit (c .before .before .args .form) (c .before .before .args .s .now) _ _ _ _ (c .unit .ensures) (c .before .before .pre .0) (c .before .before .pre .1) (c .before .before .pre .2)
 
 returns : tie.Need-returns
-returns c = units-run (c .before .before .before .args .form) (c .before .before .before .args .s .now) (c .before .before .before .args .whole) (c .before .unit .result) _ _ _ _ (c .before .unit .ensures) (c .before .before .before .pre .0) (c .run .ensures)
+returns c = search units-run
 
 pub run-units-spec : {M : Type 1} → statement M
 run-units-spec =
