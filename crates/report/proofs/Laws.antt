@@ -126,8 +126,8 @@ module _ {f : Form} {u : ℕ} {values classes rows s : List ℕ} {known n : ℕ}
       pub items-fit : (m j b : ℕ) → r ≡ Stored m j b → length out * 1 < 2 ^ 63 → val.Fits w64 (i + j)
       items-fit m j b e h = omega (arith, moves m j b e, T .begun .counted .room)
 
-      pub refused-fit : (m j b : ℕ) → r ≡ Stored m j b → length out * 1 < 2 ^ 63 → val.Fits w64 (k + b)
-      refused-fit m j b e h = omega (arith, moves m j b e, T .begun .counted .room)
+      pub refused-fit : (m j b x : ℕ) → r ≡ Stored m j b → length out * 1 < 2 ^ 63 → x ≤ b → val.Fits w64 (k + x)
+      refused-fit m j b x e h l = omega (arith, moves m j b e, T .begun .counted .room)
 
       pub falls : (m j b : ℕ) → r ≡ Stored m j b → length s - (a + m) < length s - a
       falls m j b e = let h = moves m j b e in omega (arith, h .0, h .1)

@@ -43,7 +43,7 @@ add-i : tie.Need-add-i Inv-loop μ-loop
 add-i c = search items-fit
 
 add-k : tie.Need-add-k Inv-loop μ-loop
-add-k c = search refused-fit
+add-k c = search (refused-fit, needs)
 
 loop-less : tie.Need-loop-less Inv-loop μ-loop
 loop-less c = search falls
