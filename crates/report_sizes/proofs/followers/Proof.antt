@@ -1,5 +1,4 @@
-use native.Mathlib.Nat.{pos-of-ne-zero}
-use Rattle.report_sizes.proofs.Alike.{no-followers, end-within, followed}
+use Rattle.report_sizes.proofs.Alike.{no-followers, spans, followed}
 use borrow.Author.Needs.{needs}
 use Rattle.report_sizes.proofs.followers.Statement.{statement}
 use Rattle.report_sizes.proofs.followers.Tie as tie
@@ -23,10 +22,10 @@ returns-3 : tie.Need-returns-3
 returns-3 c = search no-followers
 
 run-units-requires : tie.Need-run-units-requires
-run-units-requires c κs = search (pos-of-ne-zero, end-within, needs)
+run-units-requires c κs = search spans
 
 returns-4 : tie.Need-returns-4
-returns-4 c = followed (c .before .before .before .before .before .before .before .args .form) (c .before .before .before .before .before .before .before .args .s .now) (c .before .before .before .before .before .before .before .args .clean) _ _ (c .before .before .before .before .before .units .ensures) (c .before .before .before .before .least .ensures) (c .before .before .before .before .before .before .before .args .whole) (c .before .before .before .before .before .before .before .args .at) (c .before .before .before .before .before .before .before .args .size) _ (c .run-units .ensures)
+returns-4 c = search followed
 
 pub followers-spec : {M : Type 1} → statement M
 followers-spec =

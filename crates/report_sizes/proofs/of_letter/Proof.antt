@@ -26,7 +26,7 @@ followers-requires : tie.Need-followers-requires
 followers-requires c κs = search needs
 
 returns-4 : tie.Need-returns-4
-returns-4 c = (c .followers .ensures .0, letter-follows (c .before .before .before .before .before .before .before .before .args .form) (c .before .before .before .before .before .before .before .before .args .values .now) (c .before .before .before .before .before .before .before .before .args .classes .now) (c .before .before .before .before .before .before .before .before .args .rows .now) (c .before .before .before .before .before .before .before .before .args .s .now) _ _ _ _ _ _ (λ i. omega (arith, c .before .before .before .before .before .before .before .shared-slice-known .given i)) (c .before .before .before .before .letter .ensures) (c .before .before .before .if2 .left) (c .before .before .letter-row .ensures .0) (c .before .if3 .left) (c .followers .ensures .1))
+returns-4 c = (c .followers .ensures .few, letter-follows (c .before .before .before .before .before .before .before .before .args .form) (c .before .before .before .before .before .before .before .before .args .values .now) (c .before .before .before .before .before .before .before .before .args .classes .now) (c .before .before .before .before .before .before .before .before .args .rows .now) (c .before .before .before .before .before .before .before .before .args .s .now) _ _ _ _ _ _ (λ i. omega (arith, c .before .before .before .before .before .before .before .shared-slice-known .given i)) (c .before .before .before .before .letter .ensures) (c .before .before .before .if2 .left) (c .before .before .letter-row .ensures .0) (c .before .if3 .left) (c .followers .ensures .run))
 
 pub of-letter-spec : {M : Type 1} → statement M
 of-letter-spec =

@@ -17,7 +17,7 @@ add-p : tie.Need-add-p Inv-loop μ-loop
 add-p c = search needs
 
 loop-holds : tie.Need-loop-holds Inv-loop μ-loop
-loop-holds c = reached-start _ _ _ _ (omega (arith, some (c .before .args .form), c .before .pre .0)) (c .before .pre .1)
+loop-holds c = reached-start _ _ _ _ (omega (arith, some (c .before .args .form), c .before .pre .some)) (c .before .pre .fits)
 
 add-loop : tie.Need-add-loop Inv-loop μ-loop
 add-loop c = let h = c .loop .inv .near in search needs
