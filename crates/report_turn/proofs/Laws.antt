@@ -148,7 +148,7 @@ module _ {f : Form} {u : ℕ} {s : List ℕ} {n a i k : ℕ} {out : List ℕ} (�
         → (o : List ℕ) → Fill f s o n (u * a) i k out → After f u s o n a i k (Stored m 1 b) out′
     judged-turn v J b eb out′ c o φ =
         let w = item-fits f u (Φ .unit) s a t (h * u) m (Φ .here) here-in in
-        let j : v ≡ shift (u * a) (judgeIn (domain f) (take (u * m) (drop (u * a) s))) = rw (Φ .unit) (J (Φ .few) t h e) in
+        let j : v ≡ shift (u * a) (judgeIn (domain f) (take (u * m) (drop (u * a) s))) = rw (Φ .unit) (J .judged (Φ .few) t h e) in
         (w .0, w .1, rw (mul-add u a m, eb, stored-is v out′ c) (filled-more (frameIn (domain f)) (judgeIn (domain f)) (frames (domain f) (reader f)) rowBytes 9 row-long s o n (Φ .count) (u * a) i k out φ here-in v j))
 
   pub rest-turn : (g : Framed) → g ≡ frameRuled (domain f .sextets (drop (domain f .unit * a) s)) → (m p : ℕ) → g ≡ Unframed m p → (o : List ℕ)
