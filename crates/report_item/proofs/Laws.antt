@@ -171,38 +171,6 @@ moved-on by f m p e = rw e
 near : (first : Bool) (x : List ℕ) (l : ℕ) (f : Framed) → f ≡ nextOwn first x l → length x ≤ 4194304 → (m p : ℕ) → f ≡ Unframed m p → p ≤ 4194312
 near first x l f e h m p q = omega (arith, next-near first x l m p (sym e ∙ q))
 
--- the next item of a text's part, and of a binary's
-module _ (f : Form) (s : List ℕ) (at stop : ℕ) (I : Inside (domain f) s at stop) (first : Bool) (l : ℕ) (g : Framed) where
-  module _ (q : f ≡ Text) (e : g ≡ nextOwn first (textSextets (take (4 * stop - 4 * at) (drop (4 * at) s))) l) where
-    pub text-near : Near (4 * at) g
-    text-near =
-        let i = text-in f s at stop I q in
-        let x = take (4 * stop - 4 * at) (drop (4 * at) s) in
-        record {
-          few = omega (arith, i .order, i .room, i .few);
-          near = near first (textSextets x) l g e (omega (arith, i .few, length-sextets x, length-take (4 * stop - 4 * at) (drop (4 * at) s), length-drop (4 * at) s));
-        }
-
-    pub text-found : at < stop → (r : Framed) → r ≡ moved (4 * at) g → Found (domain f .sextets s) l first at stop r
-    text-found lt r m =
-        let i = text-in f s at stop I q in
-        rw q (found-by (textSextets s) l first at stop (long text text-reader s at stop i) lt g (rw (text-part s at stop (i .order)) at e) r m)
-
-  module _ (q : f ≡ Binary) (e : g ≡ nextOwn first (binarySextets (take (3 * stop - 3 * at) (drop (3 * at) s))) l) where
-    pub binary-near : Near (4 * at) g
-    binary-near =
-        let i = binary-in f s at stop I q in
-        let x = take (3 * stop - 3 * at) (drop (3 * at) s) in
-        record {
-          few = omega (arith, i .order, i .room, i .few);
-          near = near first (binarySextets x) l g e (omega (arith, i .few, length-binary x, length-take (3 * stop - 3 * at) (drop (3 * at) s), length-drop (3 * at) s));
-        }
-
-    pub binary-found : at < stop → (r : Framed) → r ≡ moved (4 * at) g → Found (domain f .sextets s) l first at stop r
-    binary-found lt r m =
-        let i = binary-in f s at stop I q in
-        rw q (found-by (binarySextets s) l first at stop (long binary binary-reader s at stop i) lt g (rw (binary-part s at stop (i .order) (i .room)) at e) r m)
-
 -- the part is within the stream
 pub text-end : (f : Form) (s : List ℕ) (at stop : ℕ) → Inside (domain f) s at stop → f ≡ Text → 4 * stop ≤ length s
 text-end f s at stop I q = text-in f s at stop I q .room
@@ -255,9 +223,39 @@ module _ (f : Form) (s : List ℕ) (l : ℕ) (first : Bool) (at stop : ℕ) (I :
           let z = found-sizes (domain f .sextets s) l first at stop wide lt r F k a n e in
           (z .0, z .1, z .2, found-levels (domain f .sextets s) l first at stop wide lt r F k a n e)
 
-pub finds : (f : Form) (s : List ℕ) (l : ℕ) (first : Bool) (at stop : ℕ) (r : Framed) → Found (domain f .sextets s) l first at stop r → Here f s at stop
-    → Finds f s l first at stop r
-finds f s l first at stop r F H = found-finds f s l first at stop (H .inside) (H .left) r F
+-- the next item of a text's part, and of a binary's
+module _ (f : Form) (s : List ℕ) (at stop : ℕ) (I : Inside (domain f) s at stop) (first : Bool) (l : ℕ) (g : Framed) where
+  module _ (q : f ≡ Text) (e : g ≡ nextOwn first (textSextets (take (4 * stop - 4 * at) (drop (4 * at) s))) l) where
+    pub text-near : Near (4 * at) g
+    text-near =
+        let i = text-in f s at stop I q in
+        let x = take (4 * stop - 4 * at) (drop (4 * at) s) in
+        record {
+          few = omega (arith, i .order, i .room, i .few);
+          near = near first (textSextets x) l g e (omega (arith, i .few, length-sextets x, length-take (4 * stop - 4 * at) (drop (4 * at) s), length-drop (4 * at) s));
+        }
+
+    pub text-found : at < stop → (r : Framed) → r ≡ moved (4 * at) g → Finds f s l first at stop r
+    text-found lt r m =
+        let i = text-in f s at stop I q in
+        found-finds f s l first at stop I lt r
+        (rw q (found-by (textSextets s) l first at stop (long text text-reader s at stop i) lt g (rw (text-part s at stop (i .order)) at e) r m))
+
+  module _ (q : f ≡ Binary) (e : g ≡ nextOwn first (binarySextets (take (3 * stop - 3 * at) (drop (3 * at) s))) l) where
+    pub binary-near : Near (4 * at) g
+    binary-near =
+        let i = binary-in f s at stop I q in
+        let x = take (3 * stop - 3 * at) (drop (3 * at) s) in
+        record {
+          few = omega (arith, i .order, i .room, i .few);
+          near = near first (binarySextets x) l g e (omega (arith, i .few, length-binary x, length-take (3 * stop - 3 * at) (drop (3 * at) s), length-drop (3 * at) s));
+        }
+
+    pub binary-found : at < stop → (r : Framed) → r ≡ moved (4 * at) g → Finds f s l first at stop r
+    binary-found lt r m =
+        let i = binary-in f s at stop I q in
+        found-finds f s l first at stop I lt r
+        (rw q (found-by (binarySextets s) l first at stop (long binary binary-reader s at stop i) lt g (rw (binary-part s at stop (i .order) (i .room)) at e) r m))
 
 -- ---- a group's contents
 

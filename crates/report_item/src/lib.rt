@@ -14,7 +14,6 @@ ghost use Rattle.format.specs.Framing.{frameRuled};
 ghost use Rattle.format.specs.Judging.{shift};
 ghost use Rattle.format.specs.Report.{placed, judgeIn};
 ghost use Rattle.laws.specs.Levels.{level};
-ghost use Rattle.report_next.specs.Next.{Found};
 ghost use Rattle.report_item.specs.Items.{Inside, Here, moved, Near, Finds, Whole, Judges};
 
 // Elements of a stream to a unit.
@@ -91,7 +90,7 @@ fn moved(f: Framed, by: usize) -> Framed
 // The next item of a group from a unit on, framed and judged by its own checks, with a refusal's place in the stream.
 fn next(form: Form, s: &[u8], levels: usize, first: bool, at: usize, stop: usize) -> Framed
     requires { ⌜ Here form (now s) at stop ⌝ }
-    ensures { λ r. ⌜ Found (domain form .sextets (now (s .entry))) levels first at stop r ⌝ }
+    ensures { λ r. ⌜ Finds form (now (s .entry)) levels first at stop r ⌝ }
 {
     match form {
         Form::Text => {

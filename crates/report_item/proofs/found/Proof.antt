@@ -1,4 +1,4 @@
-use Rattle.report_item.proofs.Laws.{here, past-limit, past-end, none-left, finds}
+use Rattle.report_item.proofs.Laws.{here, past-limit, past-end, none-left}
 use borrow.Author.Needs.{needs}
 use Rattle.report_item.proofs.found.Statement.{statement}
 use Rattle.report_item.proofs.found.Tie as tie
@@ -27,7 +27,7 @@ next-requires : tie.Need-next-requires
 next-requires c κs = here _ _ _ _ _ _ (c .before .if2 .left) (c .before .before .before .if1 .left) (c .if3 .left) (search needs) (search needs)
 
 returns-4 : tie.Need-returns-4
-returns-4 c = search (finds, here)
+returns-4 c = c .next .ensures
 
 pub found-spec : {M : Type 1} → statement M
 found-spec =
