@@ -42,13 +42,15 @@ module _ (s : List ℕ) (f : Framed) (e : f ≡ frame s) where
     unfolding reading readFramed outcome
     read-other o = rw (← e, q, o)
 
-    read-judged : isPrimitive k ≡ true → (v : Verdict) → v ≡ judgeKind k h (take (4 * n) s) (ownCheck 0) → (r : Framed) → r ≡ toldBy (Item k h n) v
+    read-judged : isPrimitive k ≡ true → (v : Verdict) → v ≡ judgeKind k h (take (4 * n) s) (ownCheck 0) → (r : Framed)
+        → r ≡ toldBy (Item k h n) v
         → r ≡ outcome (reading s)
     unfolding reading readFramed
     read-judged o v w r t = rw (← e, q, o, ← w) (t ∙ told-out k h n v)
 
 -- a text's part, by its head
-module _ (part cs : List ℕ) (f : Framed) (c : cs ≡ headOf (textSextets part)) (e : f ≡ frameWith opening (λ i. getD cs i 0) (length part / 4)) where
+module _ (part cs : List ℕ) (f : Framed) (c : cs ≡ headOf (textSextets part))
+    (e : f ≡ frameWith opening (λ i. getD cs i 0) (length part / 4)) where
   pub text-unframed : (m p : ℕ) → f ≡ Unframed m p → f ≡ outcome (reading (textSextets part))
   text-unframed m p q = read-unframed (textSextets part) f (framed-text part cs f c e) m p q
 
@@ -75,7 +77,8 @@ module _ (part cs : List ℕ) (f : Framed) (c : cs ≡ headOf (textSextets part)
           (own-text-judged part cs own k h n 0 v c o w (g .few) (g .shape) text-room) r z
 
 -- a binary's
-module _ (part cs : List ℕ) (f : Framed) (c : cs ≡ headOf (binarySextets part)) (e : f ≡ frameWith opening (λ i. getD cs i 0) (length part / 3)) where
+module _ (part cs : List ℕ) (f : Framed) (c : cs ≡ headOf (binarySextets part))
+    (e : f ≡ frameWith opening (λ i. getD cs i 0) (length part / 3)) where
   pub binary-unframed : (m p : ℕ) → f ≡ Unframed m p → f ≡ outcome (reading (binarySextets part))
   binary-unframed m p q = read-unframed (binarySextets part) f (framed-binary part cs f c e) m p q
 
@@ -83,7 +86,8 @@ module _ (part cs : List ℕ) (f : Framed) (c : cs ≡ headOf (binarySextets par
     pub binary-other : not b ≡ true → Unframed 14 0 ≡ outcome (reading (binarySextets part))
     binary-other t = read-other (binarySextets part) f (framed-binary part cs f c e) k h n q (sym is ∙ not-true b t)
 
-    pub binary-judged : not b ≡ false → (own : List ℕ) → own ≡ headOf (take (4 * n) cs) → (v : Verdict) → v ≡ ownBy k h n own Accepted 0 → (r : Framed)
+    pub binary-judged : not b ≡ false → (own : List ℕ) → own ≡ headOf (take (4 * n) cs) → (v : Verdict) → v ≡ ownBy k h n own Accepted 0
+        → (r : Framed)
         → r ≡ toldBy (Item k h n) v → r ≡ outcome (reading (binarySextets part))
     binary-judged t own o v w r z =
         let g = lawful (binarySextets part) f k h n (framed-binary part cs f c e) q in

@@ -246,7 +246,8 @@ module _ (f : Form) (xs out : List ℕ) where
   abbrev d : Domain
   d = domain f
 
-  module _ {u : ℕ} {values classes rows : List ℕ} {known n : ℕ} (Q : Read f u values classes rows xs known) (T : Total f values classes rows xs known n) where
+  module _ {u : ℕ} {values classes rows : List ℕ} {known n : ℕ} (Q : Read f u values classes rows xs known)
+      (T : Total f values classes rows xs known n) where
     pub no-room : length out < 17 + 18 * n → Answered f xs out (R.Refused 3 0) out
     unfolding reportAnswer reportLeft
     no-room k = record { answer = rw (le-ltb (d .limit) (length xs) (Q .few), ← read-count Q n T, lt-ltb (length out) (17 + 18 * n) k); left = refl }
@@ -263,7 +264,9 @@ module _ (f : Form) (xs out : List ℕ) where
         }
 
 -- the tables as they are named, and characters known from the start
-pub reads : (f : Form) (u : ℕ) (values classes rows s : List ℕ) (known : ℕ) → u ≡ domain f .unit → values ≡ sextetTable → classes ≡ classTable → rows ≡ plainTable
-    → length s ≤ domain f .limit → (Clear (domain f .sextets s) 0 0 → Clear (domain f .sextets s) 0 known) → Read f u values classes rows s known
+pub reads : (f : Form) (u : ℕ) (values classes rows s : List ℕ) (known : ℕ) → u ≡ domain f .unit → values ≡ sextetTable
+    → classes ≡ classTable → rows ≡ plainTable
+    → length s ≤ domain f .limit → (Clear (domain f .sextets s) 0 0 → Clear (domain f .sextets s) 0 known)
+    → Read f u values classes rows s known
 reads f u values classes rows s known e v k r l c =
     record { unit = e; lent = record { characters = v; letters = k; codes = r }; few = l; clear = c (known-first (domain f .sextets s)) }

@@ -109,7 +109,8 @@ by-header f s clean at size r p G R K =
 
 -- a step of an item and those behind it
 stepped : (f : Form) (s : List ℕ) (at size r n j : ℕ) → 0 < size → Together size r n j → Sized f s at size r → Stepped f s at n j
-stepped f s at size r n j p T S = record { size = size; more = r; sized = S; none = λ z. absurd (omega (arith, T .long)); some = λ _. (p, T .long, T .many) }
+stepped f s at size r n j p T S =
+    record { size = size; more = r; sized = S; none = λ z. absurd (omega (arith, T .long)); some = λ _. (p, T .long, T .many) }
 
 none-stepped : (f : Form) (s : List ℕ) (at m : ℕ) → m ≡ sizeAt (domain f) s at → m ≡ 0 → Stepped f s at 0 0
 none-stepped f s at m e z = record {
@@ -154,8 +155,10 @@ module _ (f : Form) (values classes rows s : List ℕ) (clean at size r : ℕ) (
   }
 
 pub no-step : (f : Form) (values classes rows s : List ℕ) (clean at m : ℕ)
-    → (Lent values classes rows → Clear (domain f .sextets s) at clean → m ≡ sizeAt (domain f) s at) → m ≡ 0 → Next f values classes rows s clean at 0 0
-no-step f values classes rows s clean at m E z = record { within = (omega arith, omega arith); right = λ L K. none-stepped f s at m (E L K) z }
+    → (Lent values classes rows → Clear (domain f .sextets s) at clean → m ≡ sizeAt (domain f) s at) → m ≡ 0
+    → Next f values classes rows s clean at 0 0
+no-step f values classes rows s clean at m E z =
+    record { within = (omega arith, omega arith); right = λ L K. none-stepped f s at m (E L K) z }
 
 -- ---- the loop
 
@@ -175,7 +178,8 @@ module _ {f : Form} {values classes rows s : List ℕ} {known u : ℕ} where
     counting-fits = rw (C .unit, mul-comm (domain f .unit) a) (le-div-iff-mul-le (reader f .pos) .0 (C .within))
 
     pub counting-end : length s ≤ u * a → Total f values classes rows s known i
-    counting-end l = record { few = omega (arith, C .few, C .within); right = λ L K. counted-end f s a i (C .right L K .0) (rw (C .unit) at l) }
+    counting-end l =
+        record { few = omega (arith, C .few, C .within); right = λ L K. counted-end f s a i (C .right L K .0) (rw (C .unit) at l) }
 
     -- a step of n units and j items, where characters are known up to another unit
     module _ {to n j : ℕ} (N : Next f values classes rows s to a n j) where
@@ -191,7 +195,8 @@ module _ {f : Form} {values classes rows s : List ℕ} {known u : ℕ} where
       pub falls : (n ≡ 0 → ⊥) → length s / domain f .unit - (a + n) < length s / domain f .unit - a
       falls p = omega (arith, pos-of-ne-zero p, moves)
 
-    module _ {to n j : ℕ} (known-to : Clear (domain f .sextets s) a clean → Clear (domain f .sextets s) a to) (N : Next f values classes rows s to a n j) where
+    module _ {to n j : ℕ} (known-to : Clear (domain f .sextets s) a clean → Clear (domain f .sextets s) a to)
+        (N : Next f values classes rows s to a n j) where
       pub counting-stop : u * a < length s → n ≡ 0 → Total f values classes rows s known i
       counting-stop l z = record {
         few = omega (arith, C .few, C .within);

@@ -257,7 +257,8 @@ module _ {f : Form} {values classes rows s : List ℕ} {l : ℕ} {first : Bool} 
         going-more k h p
         (λ R. by-plain f values classes rows s l i stop (inside (going-reach lt .0) R) lt R ruled k (e (R .lent)) h)
 
-    pub going-taken : (n : ℕ) → Take f values classes rows s l ruled i stop n → (n ≡ 0 → ⊥) → Going f values classes rows s l first at stop false (i + n)
+    pub going-taken : (n : ℕ) → Take f values classes rows s l ruled i stop n → (n ≡ 0 → ⊥)
+        → Going f values classes rows s l first at stop false (i + n)
     going-taken n t p = going-more n (t .few) (pos-of-ne-zero p) (t .right)
 
     pub going-less : (n : ℕ) → Take f values classes rows s l ruled i stop n → (n ≡ 0 → ⊥) → i < stop → stop - (i + n) < stop - i
@@ -266,7 +267,8 @@ module _ {f : Form} {values classes rows s : List ℕ} {l : ℕ} {first : Bool} 
     pub going-end : stop ≤ i → Passes f values classes rows s l first at stop true
     going-end h = record { right = λ R _. sym (left-end _ _ _ _ _ _ _ (G .left R) h) }
 
-pub no-pass : (f : Form) (values classes rows s : List ℕ) (l : ℕ) (first : Bool) (at stop : ℕ) → Passes f values classes rows s l first at stop false
+pub no-pass : (f : Form) (values classes rows s : List ℕ) (l : ℕ) (first : Bool) (at stop : ℕ)
+    → Passes f values classes rows s l first at stop false
 no-pass f values classes rows s l first at stop = record { right = λ R e. absurd (let y : _≡_ {A = ℕ} 0 1 = cc in omega arith) }
 
 -- ---- the next item
@@ -280,7 +282,8 @@ module _ {l at stop : ℕ} {g : Framed} (F : Fits l at stop g) (k : Kind) (h n :
   inner-falls b is y t q = omega (arith, inner-levels F k h n e b is y)
 
 -- and of a small group
-pub group-inner : (f : Form) (s : List ℕ) (at stop n : ℕ) → Reach f s at stop → at < stop → n ≤ stop - at → 0 < n → Reach f s (at + 1) (at + n)
+pub group-inner : (f : Form) (s : List ℕ) (at stop n : ℕ) → Reach f s at stop → at < stop → n ≤ stop - at → 0 < n
+    → Reach f s (at + 1) (at + n)
 group-inner f s at stop n W lt h p = reach-part (at + 1) (at + n) W (omega arith) (omega arith)
 
 pub group-falls : (l t : ℕ) → (l ≡ 0 → ⊥) → 3 * l + 1 ≡ t → 3 * (l - 1) + 2 < t
@@ -292,8 +295,10 @@ module _ (f : Form) (values classes rows s : List ℕ) (l : ℕ) (first : Bool) 
 
   module _ (W : Reach f s at stop) (lt : at < stop) where
     -- as the general way finds it
-    module _ (g : Framed) (F : Finds f s l first at stop g) (k : Kind) (h n : ℕ) (e : g ≡ Item k h n) (b : Bool) (is : b ≡ isEntered k) where
-      pub by-contents : b ≡ true → (m : Bool) → m ≡ isRuled k → (v : Bool) → Passes f values classes rows s (l - 1) m (at + h) (at + n) v → v ≡ true
+    module _ (g : Framed) (F : Finds f s l first at stop g) (k : Kind) (h n : ℕ) (e : g ≡ Item k h n) (b : Bool)
+        (is : b ≡ isEntered k) where
+      pub by-contents : b ≡ true → (m : Bool) → m ≡ isRuled k → (v : Bool) → Passes f values classes rows s (l - 1) m (at + h) (at + n) v
+          → v ≡ true
           → Take f values classes rows s l first at stop n
       by-contents t m z v c y = record {
         few = omega (arith, F .fits .each k h n e .2);
@@ -312,8 +317,10 @@ module _ (f : Form) (values classes rows s : List ℕ) (l : ℕ) (first : Bool) 
       }
 
     -- a small group
-    pub by-inner : (n : ℕ) → 0 < n → n ≤ stop - at → (Lent values classes rows → groupAt (domain f .sextets s) at ≡ n) → (l ≡ 0 → ⊥) → (m : Bool)
-        → (Lent values classes rows → 0 < groupAt (domain f .sextets s) at → m ≡ isOverrideable (letterAt (domain f .sextets s) at)) → (v : Bool)
+    pub by-inner : (n : ℕ) → 0 < n → n ≤ stop - at → (Lent values classes rows → groupAt (domain f .sextets s) at ≡ n) → (l ≡ 0 → ⊥)
+        → (m : Bool)
+        → (Lent values classes rows → 0 < groupAt (domain f .sextets s) at → m ≡ isOverrideable (letterAt (domain f .sextets s) at))
+        → (v : Bool)
         → Passes f values classes rows s (l - 1) m (at + 1) (at + n) v → v ≡ true → Take f values classes rows s l first at stop n
     by-inner n p h e q m z v c y = record {
       few = h;
@@ -324,5 +331,6 @@ module _ (f : Form) (values classes rows s : List ℕ) (l : ℕ) (first : Bool) 
     }
 
     -- a plain primitive
-    pub by-first : (k : ℕ) → k ≤ stop - at → (Lent values classes rows → plainAt plainTable (domain f .sextets s) at ≡ k) → Take f values classes rows s l first at stop k
+    pub by-first : (k : ℕ) → k ≤ stop - at → (Lent values classes rows → plainAt plainTable (domain f .sextets s) at ≡ k)
+        → Take f values classes rows s l first at stop k
     by-first k h e = record { few = h; right = λ R. by-plain f values classes rows s l at stop (inside W R) lt R first k (e (R .lent)) h }

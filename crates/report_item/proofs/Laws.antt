@@ -77,7 +77,8 @@ module _ (s : List ℕ) (l : ℕ) (first : Bool) (at stop : ℕ) (h : 4 * stop �
   unfolding Whole
   whole-refused f F m p e = rw e (subst (Found s l first at stop) e F)
 
-  whole-passed : (f : Framed) → Found s l first at stop f → (k : Kind) (a n : ℕ) → f ≡ Item k a n → isEntered k ≡ false → Whole s l first at stop (Item k a n)
+  whole-passed : (f : Framed) → Found s l first at stop f → (k : Kind) (a n : ℕ) → f ≡ Item k a n → isEntered k ≡ false
+      → Whole s l first at stop (Item k a n)
   unfolding Whole
   whole-passed f F k a n e q = taken-plain k a n (subst (Found s l first at stop) e F) q
 
@@ -123,11 +124,13 @@ module _ (f : Form) (s : List ℕ) (at r : ℕ) (e : r ≡ length s / domain f .
   pub binary-fits : f ≡ Binary → length s * 1 < 2 ^ 63 → val.Fits w64 (3 * at)
   binary-fits q l = omega (arith, binary-at f s at r e h q)
 
-pub text-framed : (f : Form) (s : List ℕ) (at : ℕ) (g : Framed) → f ≡ Text → g ≡ frameRuled (textSextets (take (length s - 4 * at) (drop (4 * at) s)))
+pub text-framed : (f : Form) (s : List ℕ) (at : ℕ) (g : Framed) → f ≡ Text
+    → g ≡ frameRuled (textSextets (take (length s - 4 * at) (drop (4 * at) s)))
     → g ≡ frameRuled (domain f .sextets (drop (domain f .unit * at) s))
 text-framed f s at g q e = rw q (rw (to-end s (4 * at)) at e)
 
-pub binary-framed : (f : Form) (s : List ℕ) (at : ℕ) (g : Framed) → f ≡ Binary → g ≡ frameRuled (binarySextets (take (length s - 3 * at) (drop (3 * at) s)))
+pub binary-framed : (f : Form) (s : List ℕ) (at : ℕ) (g : Framed) → f ≡ Binary
+    → g ≡ frameRuled (binarySextets (take (length s - 3 * at) (drop (3 * at) s)))
     → g ≡ frameRuled (domain f .sextets (drop (domain f .unit * at) s))
 binary-framed f s at g q e = rw q (rw (to-end s (3 * at)) at e)
 
@@ -168,7 +171,8 @@ pub moved-on : (by : ℕ) (f : Framed) (m p : ℕ) → f ≡ Unframed m p → Un
 unfolding moved
 moved-on by f m p e = rw e
 
-near : (first : Bool) (x : List ℕ) (l : ℕ) (f : Framed) → f ≡ nextOwn first x l → length x ≤ 4194304 → (m p : ℕ) → f ≡ Unframed m p → p ≤ 4194312
+near : (first : Bool) (x : List ℕ) (l : ℕ) (f : Framed) → f ≡ nextOwn first x l → length x ≤ 4194304 → (m p : ℕ) → f ≡ Unframed m p
+    → p ≤ 4194312
 near first x l f e h m p q = omega (arith, next-near first x l m p (sym e ∙ q))
 
 -- the part is within the stream
@@ -287,30 +291,38 @@ module _ (f : Form) (s : List ℕ) (l : ℕ) (first : Bool) (at stop m p : ℕ) 
   past-limit n e h = record { fits = none-fits l at stop m p; right = λ I _. absurd (omega (arith, I .few)) }
 
   pub past-end : (u : ℕ) → u ≡ length s / domain f .unit → u < stop → Finds f s l first at stop (Unframed m p)
-  past-end u e h = record { fits = none-fits l at stop m p; right = λ I _. absurd (omega (arith, in-units (domain f) (reader f) s at stop I)) }
+  past-end u e h =
+      record { fits = none-fits l at stop m p; right = λ I _. absurd (omega (arith, in-units (domain f) (reader f) s at stop I)) }
 
   pub none-left : stop ≤ at → Finds f s l first at stop (Unframed m p)
   none-left h = record { fits = none-fits l at stop m p; right = λ _ lt. absurd (omega arith) }
 
 -- the next item judged whole
-module _ (f : Form) (s : List ℕ) (l : ℕ) (first : Bool) (at stop : ℕ) (g : Framed) (F : Finds f s l first at stop g) (I : Inside (domain f) s at stop) (lt : at < stop) where
+module _ (f : Form) (s : List ℕ) (l : ℕ) (first : Bool) (at stop : ℕ) (g : Framed) (F : Finds f s l first at stop g)
+    (I : Inside (domain f) s at stop) (lt : at < stop) where
   pub by-refused : (m p : ℕ) → g ≡ Unframed m p → Whole (domain f .sextets s) l first at stop g
   by-refused m p e = whole-refused (domain f .sextets s) l first at stop (wide f s l first at stop I) lt g (F .right I lt) m p e
 
-  pub by-own : (k : Kind) (a n : ℕ) → g ≡ Item k a n → (b : Bool) → b ≡ isEntered k → b ≡ false → Whole (domain f .sextets s) l first at stop (Item k a n)
-  by-own k a n e b is t = whole-passed (domain f .sextets s) l first at stop (wide f s l first at stop I) lt g (F .right I lt) k a n e (sym is ∙ t)
+  pub by-own : (k : Kind) (a n : ℕ) → g ≡ Item k a n → (b : Bool) → b ≡ isEntered k → b ≡ false
+      → Whole (domain f .sextets s) l first at stop (Item k a n)
+  by-own k a n e b is t =
+      whole-passed (domain f .sextets s) l first at stop (wide f s l first at stop I) lt g (F .right I lt) k a n e (sym is ∙ t)
 
-  pub by-contents : (k : Kind) (a n : ℕ) → g ≡ Item k a n → (b : Bool) → b ≡ isEntered k → b ≡ true → (marks : Bool) → marks ≡ isRuled k → (v : Verdict)
-      → v ≡ level (domain f .sextets s) (l - 1) marks (at + a) (at + n) → (r : Framed) → r ≡ toldBy (Item k a n) v → Whole (domain f .sextets s) l first at stop r
+  pub by-contents : (k : Kind) (a n : ℕ) → g ≡ Item k a n → (b : Bool) → b ≡ isEntered k → b ≡ true → (marks : Bool) → marks ≡ isRuled k
+      → (v : Verdict)
+      → v ≡ level (domain f .sextets s) (l - 1) marks (at + a) (at + n) → (r : Framed) → r ≡ toldBy (Item k a n) v
+      → Whole (domain f .sextets s) l first at stop r
   by-contents k a n e b is t marks z v w r q =
       whole-told (domain f .sextets s) l first at stop (wide f s l first at stop I) lt g (F .right I lt) k a n e (sym is ∙ t) marks z v w r q
 
 -- a turn of the loop over a group's items
-module _ (f : Form) (s : List ℕ) (l : ℕ) (first : Bool) (at stop : ℕ) (ruled : Bool) (i : ℕ) (w : Left (domain f .sextets s) l first at stop ruled i) (g : Framed)
+module _ (f : Form) (s : List ℕ) (l : ℕ) (first : Bool) (at stop : ℕ) (ruled : Bool) (i : ℕ)
+    (w : Left (domain f .sextets s) l first at stop ruled i) (g : Framed)
     (W : Whole (domain f .sextets s) l ruled i stop g) where
   pub left-stop : (m p : ℕ) → g ≡ Unframed m p → Refused m p ≡ level (domain f .sextets s) l first at stop
   unfolding Whole
-  left-stop m p e = left-refused (domain f .sextets s) l first at stop ruled i w m p (subst (Whole (domain f .sextets s) l ruled i stop) e W)
+  left-stop m p e =
+      left-refused (domain f .sextets s) l first at stop ruled i w m p (subst (Whole (domain f .sextets s) l ruled i stop) e W)
 
   module _ (I : Inside (domain f) s at stop) (k : Kind) (a n : ℕ) (e : g ≡ Item k a n) where
     taken-here : Taken (domain f .sextets s) l ruled i stop n
@@ -329,7 +341,8 @@ module _ (f : Form) (s : List ℕ) (l : ℕ) (first : Bool) (at stop : ℕ) (rul
     pub left-on : Left (domain f .sextets s) l first at stop false (i + n)
     left-on = left-more (domain f .sextets s) l first at stop ruled i w n (wide f s l first at stop I) taken-here
 
-inside-units : (f : Form) (s : List ℕ) (at stop u m : ℕ) → u ≡ length s / domain f .unit → m ≡ domain f .limit → stop ≤ u → length s ≤ m → at ≤ stop
+inside-units : (f : Form) (s : List ℕ) (at stop u m : ℕ) → u ≡ length s / domain f .unit → m ≡ domain f .limit → stop ≤ u → length s ≤ m
+    → at ≤ stop
     → Inside (domain f) s at stop
 inside-units f s at stop u m e q h few le = record {
   order = le;
@@ -337,7 +350,8 @@ inside-units f s at stop u m e q h few le = record {
   few = rw (← q) few;
 }
 
-pub here : (f : Form) (s : List ℕ) (at stop u m : ℕ) → stop ≤ u → length s ≤ m → at < stop → u ≡ length s / domain f .unit → m ≡ domain f .limit
+pub here : (f : Form) (s : List ℕ) (at stop u m : ℕ) → stop ≤ u → length s ≤ m → at < stop → u ≡ length s / domain f .unit
+    → m ≡ domain f .limit
     → Here f s at stop
 here f s at stop u m h few lt e q = record { inside = inside-units f s at stop u m e q h few (omega arith); left = lt }
 
@@ -417,6 +431,7 @@ module _ (f : Form) (s : List ℕ) (at n u : ℕ) (w : Verdict) where
   pub more-than-all : u ≡ length s / domain f .unit → u - at < n → Judges (domain f) s at n w
   more-than-all e l = record { judged = λ few k h i. absurd (omega (arith, framed-units (domain f) (reader f) s at n k h i)) }
 
-pub inside-item : (f : Form) (s : List ℕ) (at size u m : ℕ) → size ≤ u - at → at ≤ u → length s ≤ m → u ≡ length s / domain f .unit → m ≡ domain f .limit
+pub inside-item : (f : Form) (s : List ℕ) (at size u m : ℕ) → size ≤ u - at → at ≤ u → length s ≤ m → u ≡ length s / domain f .unit
+    → m ≡ domain f .limit
     → Inside (domain f) s at (at + size)
 inside-item f s at size u m h g few e q = inside-units f s at (at + size) u m e q (omega arith) few (omega arith)

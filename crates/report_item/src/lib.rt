@@ -6,13 +6,11 @@ use format::Framed;
 use format::Verdict;
 use judging::MAX_DEPTH;
 ghost use mathlib.Core.Path.{_≡_};
-ghost use mathlib.Core.Bool.{Bool};
-ghost use Prim.Native.Nat.{ℕ, _+_, _*_, _/_, _≤_, _<_};
-ghost use lib.ListN.{length, take, drop};
+ghost use Prim.Native.Nat.{_*_, _/_, _<_};
+ghost use lib.ListN.{drop};
 ghost use Rattle.format.specs.Units.{domain};
 ghost use Rattle.format.specs.Framing.{frameRuled};
-ghost use Rattle.format.specs.Judging.{shift};
-ghost use Rattle.format.specs.Report.{placed, judgeIn};
+ghost use Rattle.format.specs.Report.{placed};
 ghost use Rattle.laws.specs.Levels.{level};
 ghost use Rattle.report_item.specs.Items.{Inside, Here, moved, Near, Finds, Whole, Judges};
 

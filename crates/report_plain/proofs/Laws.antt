@@ -122,15 +122,18 @@ module _ {f : Form} {s : List ℕ} {at size end : ℕ} (W : Behind f s at size e
   -- and their rows
   pub followers-stored : (values rows out out′ : List ℕ) (row x limit r : ℕ)
       → (Alike f values s x limit (u * size) (u * (at + size)) (u * end) r) × (out′ ≡ sets out row (concat rowBytes (runOf (u * (at + size)) (u * size) r)))
-      → ((j : ℕ) → Fits w8 (getD s j 0)) → Like f values rows x size limit → (limit ≡ 0 → ⊥) → Followed f values rows s at size end out row r out′
+      → ((j : ℕ) → Fits w8 (getD s j 0)) → Like f values rows x size limit → (limit ≡ 0 → ⊥)
+      → Followed f values rows s at size end out row r out′
   followers-stored values rows out out′ row x limit r A b L n = record {
     few = followers-end values x limit r (A .0);
     run = followers-are values rows x limit r (λ j. omega (arith, b j)) L n (A .0);
     stored = rw (← is-u) (A .1);
   }
 
-pub followed-none : (f : Form) (values rows s : List ℕ) (at size end : ℕ) (out : List ℕ) (row : ℕ) → Followed f values rows s at size end out row 0 out
-followed-none f values rows s at size end out row = record { few = omega arith; run = λ p v e. run-none _ _ _ _ p; stored = run-start _ _ _ _ }
+pub followed-none : (f : Form) (values rows s : List ℕ) (at size end : ℕ) (out : List ℕ) (row : ℕ)
+    → Followed f values rows s at size end out row 0 out
+followed-none f values rows s at size end out row =
+    record { few = omega arith; run = λ p v e. run-none _ _ _ _ p; stored = run-start _ _ _ _ }
 
 pub behind-fits : {f : Form} {s : List ℕ} {at size end : ℕ} → Behind f s at size end → Fits w64 end → Fits w64 (at + size)
 behind-fits W h = omega (arith, W .fits, h)

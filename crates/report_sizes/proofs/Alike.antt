@@ -292,7 +292,8 @@ module _ (f : Form) (s : List ℕ) (clean u end : ℕ) (is-u : u ≡ length s / 
   pub spans : (at size : ℕ) → (size ≡ 0 → ⊥) → at < end → size ≤ end - at → Span f s at size end
   spans at size p l h = record { some = pos-of-ne-zero p; fits = omega arith; inside = end-within }
 
-  pub followed : (whole : Bool) (at size r : ℕ) → Run (likeIn f s whole at size) size end (at + size) r → Followers f s whole clean at size r
+  pub followed : (whole : Bool) (at size r : ℕ) → Run (likeIn f s whole at size) size end (at + size) r
+      → Followers f s whole clean at size r
   followed whole at size r R =
       record { few = run-ends f s whole at size end r (length s / domain f .unit) end-within R; run = λ p. rw (← is-u, ← is-end) R }
 

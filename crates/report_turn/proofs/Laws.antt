@@ -236,6 +236,8 @@ module _ {f : Form} {u : ℕ} {s : List ℕ} {n a i k : ℕ} {out : List ℕ} (�
       let m : a ≤ length s / domain f .unit = le-div-iff-mul-le (reader f .pos) .1 l in
       omega arith
 
-pub by-unit : (f : Form) (u : ℕ) (values classes rows s : List ℕ) (n clean a i k : ℕ) (out : List ℕ) (r : Turn) (out′ : List ℕ) → u ≡ domain f .unit
-    → (Lent values classes rows → Clear (domain f .sextets s) a clean → Turned f u s n a i k out r out′) → Turns f values classes rows s n clean a i k out r out′
+pub by-unit : (f : Form) (u : ℕ) (values classes rows s : List ℕ) (n clean a i k : ℕ) (out : List ℕ) (r : Turn) (out′ : List ℕ)
+    → u ≡ domain f .unit
+    → (Lent values classes rows → Clear (domain f .sextets s) a clean → Turned f u s n a i k out r out′)
+    → Turns f values classes rows s n clean a i k out r out′
 by-unit f u values classes rows s n clean a i k out r out′ e T = record { right = λ L K. rw (← e) (T L K) }
