@@ -1,54 +1,13 @@
--- What is claimed of the reader and of the counted walk. Statements only, each below the words of 01 or of what is asked of the reader.
--- Proved in Proved. Assumes nothing.
-use Prim.Native.Nat.{ℕ, _<_, _≤_}
+-- What is claimed of the reader. Statements only, each below the words of 01. Proved in Proved. Assumes nothing.
 use mathlib.Core.Path.{_≡_}
-use mathlib.Core.List.{List}
-use lib.ListN.{length}
 use denote.Ref.{now}
-use Rattle.format.specs.Units.{Domain, text, binary}
-use Rattle.format.specs.Judging.{maxDepth}
-use Rattle.walk_state.specs.declared.Walk.{Walk}
-use Rattle.walk_state.specs.declared.Found.the-variants as F
-use Rattle.walk_state.specs.Walking.{start, textStep, binaryStep}
-use Rattle.walk_claims.specs.Words.{unitsIn, foundAt, Yields, Stops}
+use Rattle.walk_state.specs.Walking.{textStep, binaryStep}
 use Rattle.reader.specs.declared.Reader.{Reader}
 use Rattle.reader.specs.Reading.{textTaken, binaryTaken}
 use Rattle.reader.specs.Behind.{textAt, binaryAt}
-use Rattle.reader.specs.declared.TextEnd.the-variants as T
-use Rattle.reader.specs.declared.BinaryEnd.the-variants as B
-use Rattle.reader.specs.Counting.{restIn, textTally, binaryTally}
-
--- ---- of the walk of a stream, counted from the start
-
-pub record CountClaims (d : Domain) (xs : List ℕ) : Type 0 where
-  -- the steps before the count each yield an item
-  pub yields : (i : ℕ) → i < restIn d xs start .items → Yields (foundAt d xs i)
-  -- the step behind them yields none, and what it finds is the answer
-  pub stops : Stops (foundAt d xs (restIn d xs start .items))
-  pub last : restIn d xs start .last ≡ foundAt d xs (restIn d xs start .items)
-  -- an item takes a unit at least
-  pub bound : restIn d xs start .items ≤ unitsIn d xs
-
--- ---- counted from any state of sixteen slots, whoever made it: the code's states have as many
-
-pub record RestClaims (d : Domain) (xs : List ℕ) : Type 0 where
-  -- no count stops at an item, so that what Counting's textEnd and binaryEnd have for one is never given
-  pub stops : (w : Walk) → length (w .ends) ≡ maxDepth → Stops (restIn d xs w .last)
-
--- ---- all of it
 
 pub record ReaderClaims : Type 0 where
   -- "keeps the stream it was opened over beside its place": the reader handed back is over the same stream, at the next state of
   -- the walk's step, and beside it is what the step found. That a refusal or the end leaves it as it was is Reading's definition.
   pub text-next : (r : Reader) → textTaken r ≡ textAt r (textStep (now (r .src)) (r .walk))
   pub binary-next : (r : Reader) → binaryTaken r ≡ binaryAt r (binaryStep (now (r .src)) (r .walk))
-  -- "the number of items of a stream and how the walk ended"
-  pub of-text : (xs : List ℕ) → CountClaims text xs
-  pub of-binary : (xs : List ℕ) → CountClaims binary xs
-  pub text-rest : (xs : List ℕ) → RestClaims text xs
-  pub binary-rest : (xs : List ℕ) → RestClaims binary xs
-  -- "or the end": where the rest of a walk is told to have ended, it has
-  pub text-end : (xs : List ℕ) (w : Walk) → length (w .ends) ≡ maxDepth → textTally (restIn text xs w) .end ≡ T.End
-      → restIn text xs w .last ≡ F.End
-  pub binary-end : (xs : List ℕ) (w : Walk) → length (w .ends) ≡ maxDepth → binaryTally (restIn binary xs w) .end ≡ B.End
-      → restIn binary xs w .last ≡ F.End

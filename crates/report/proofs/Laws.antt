@@ -1,9 +1,11 @@
 -- The report's loop, a turn at a time, its last stores, and the calls' answers, over either form. Assumes nothing.
-use Prim.Native.Nat.{ℕ, zero, suc, _+_, _-_, _*_, _/_, _≤_, _<_}
+use Prim.Native.Nat.{ℕ, _+_, _-_, _*_, _/_, _^_, _≤_, _<_}
 use mathlib.Core.Path.{_≡_, refl, sym, ap, _∙_, subst}
 use mathlib.Core.List.{List, [], _∷_, _++_}
 use native.Mathlib.Omega.{arith}
 use native.Mathlib.Nat.{mul-comm, le-div-iff-mul-le}
+use mir.Syntax.{w64}
+use mir.Val as val
 use lib.ListN.{length, length-append}
 use lib.Seq.{sets, sets-eq, length-sets}
 use borrow.Author.Tests.{lt-ltb, le-ltb}
@@ -17,14 +19,17 @@ use Rattle.laws.specs.Frames.{frames}
 use Rattle.claims.specs.Claims.{Demand3}
 use Rattle.claims.specs.Demand3.{text-demand3, binary-demand3}
 use Rattle.claims.specs.Room.{report-fits}
+use Rattle.format.specs.Alphabet.{sextetTable}
+use Rattle.runs.specs.Plain.{plainTable, classTable}
 use Rattle.runs.specs.Levels.{Clear, clear-less}
 use Rattle.report_first.specs.First.{Lent}
 use Rattle.report_rows.specs.Stores.{put, put-fits, row-long, be4-long}
 use Rattle.report_filling.specs.Filling.{reportOf, filled-start, filled-few, filled-counts, stop-rows, end-rows, stop-all, end-all}
+use Rattle.report_count.specs.Counts.{Total}
 use Rattle.report_turn.specs.declared.Turn.{Turn}
 use Rattle.report_turn.specs.declared.Turn.the-variants.{Stored, Rest}
-use Rattle.report_turn.specs.Turns.{Fill, Filling, After, Turned}
-use Rattle.report.specs.Turns.{Read, Counted, Begun, Ends, Fits, Last}
+use Rattle.report_turn.specs.Turns.{Fill, Filling, After, Turned, Turns}
+use Rattle.report.specs.Turns.{Read, Counted, Begun, Ends, Ended, Fits, Last, Written, Answered}
 use Rattle.report.specs.declared.End.{End}
 use Rattle.report.specs.declared.End.the-variants.{Whole}
 use Rattle.report.specs.declared.End.the-variants as E
@@ -78,13 +83,13 @@ module _ {f : Form} {u : ℕ} {values classes rows s : List ℕ} {known n : ℕ}
     }
 
     -- a turn, where characters are known up to another unit
-    module _ (to : ℕ) (known-to : Clear (domain f .sextets s) a clean → Clear (domain f .sextets s) a to) (l : u * a < length s) (r : Turn) (out₂ : List ℕ)
-        (A : Lent values classes rows → Clear (domain f .sextets s) a to → Turned f (domain f .unit) s n a i k out₁ r out₂) where
+    module _ {to : ℕ} {r : Turn} {out₂ : List ℕ} (A : Turns f values classes rows s n to a i k out₁ r out₂)
+        (known-to : Clear (domain f .sextets s) a clean → Clear (domain f .sextets s) a to) (l : u * a < length s) where
       after : (o : List ℕ) → Fill f s o n 0 0 0 out → After f u s o n a i k r out₂
       after o φ = turned (asks l) o (T .fills o φ)
         where
           turned : Turned f u s n a i k out₁ r out₂
-          turned = rw (T .begun .counted .read .unit) (A lent (known-to (T .clear)))
+          turned = rw (T .begun .counted .read .unit) (A .right lent (known-to (T .clear)))
 
       stored : (m j b : ℕ) → r ≡ Stored m j b → (o : List ℕ) → Fill f s o n 0 0 0 out
           → (0 < m) × (u * (a + m) ≤ length s) × Fill f s o n (u * (a + m)) (i + j) (k + b) out₂
@@ -102,11 +107,11 @@ module _ {f : Form} {u : ℕ} {values classes rows s : List ℕ} {known n : ℕ}
             fills = λ o φ. stored m j b e o φ .2;
           }
 
-      pub moves : (m j b : ℕ) → r ≡ Stored m j b → (0 < m) × (a + m ≤ length s) × (i + j ≤ n) × (k + b ≤ n) × (17 + 18 * n ≤ length out)
+      moves : (m j b : ℕ) → r ≡ Stored m j b → (0 < m) × (a + m ≤ length s) × (i + j ≤ n) × (k + b ≤ n)
       moves m j b e =
           let w = stored m j b e (T .begun .held) (T .begun .filled) in
           let c = filled-few (frameIn (domain f)) (judgeIn (domain f)) (frames (domain f) (reader f)) rowBytes 9 row-long s (T .begun .held) n (T .begun .counted .count) (u * (a + m)) (i + j) (k + b) out₂ (w .2) in
-          (w .0, few (a + m) (w .1), c .0, c .1, T .begun .counted .room)
+          (w .0, few (a + m) (w .1), c .0, c .1)
         where
           few : (x : ℕ) → u * x ≤ length s → x ≤ length s
           few x h =
@@ -114,8 +119,22 @@ module _ {f : Form} {u : ℕ} {values classes rows s : List ℕ} {known n : ℕ}
               let y = le-div-iff-mul-le {x = x} {y = length s} (reader f .pos) .1 z in
               omega (arith, y, units-few f s)
 
-      pub ends-rest : (x : ℕ) → r ≡ Rest x → (o : List ℕ) → Fill f s o n 0 0 0 out → Ends f u s o n (E.Rest a k x) out₂
-      ends-rest x e o φ =
+      -- the sums fit, and fewer units are left
+      pub units-fit : (m j b : ℕ) → r ≡ Stored m j b → val.Fits w64 (a + m)
+      units-fit m j b e = omega (arith, moves m j b e, T .begun .counted .read .few, limit-most f)
+
+      pub items-fit : (m j b : ℕ) → r ≡ Stored m j b → length out * 1 < 2 ^ 63 → val.Fits w64 (i + j)
+      items-fit m j b e h = omega (arith, moves m j b e, T .begun .counted .room)
+
+      pub refused-fit : (m j b x : ℕ) → r ≡ Stored m j b → length out * 1 < 2 ^ 63 → x ≤ b → val.Fits w64 (k + x)
+      refused-fit m j b x e h l = omega (arith, moves m j b e, T .begun .counted .room)
+
+      pub falls : (m j b : ℕ) → r ≡ Stored m j b → length s - (a + m) < length s - a
+      falls m j b e = let h = moves m j b e in omega (arith, h .0, h .1)
+
+      ends-there : (x : ℕ) → r ≡ Rest x → (o : List ℕ) → Fill f s o n 0 0 0 out → Ends f u s o n (E.Rest a k x) out₂
+      unfolding Ends
+      ends-there x e o φ =
           let w = subst (λ (t : Turn). After f u s o n a i k t out₂) e (after o φ) in
           let is-n = T .begun .counted .count in
           let stop = stop-rows (frameIn (domain f)) (judgeIn (domain f)) (frames (domain f) (reader f)) rowBytes 9 row-long s o n is-n (u * a) i k out₂ (w .2) l (w .1) in
@@ -123,14 +142,21 @@ module _ {f : Form} {u : ℕ} {values classes rows s : List ℕ} {known n : ℕ}
           let q = stop-all (frameIn (domain f)) (judgeIn (domain f)) (frames (domain f) (reader f)) rowBytes 9 row-long s o n is-n (u * a) i k out₂ (w .2) l (w .1) in
           (c .1, q .0 ∙ ap (sets o 0) (sym (report-is f s)), ap length (report-is f s) ∙ q .1, omega arith)
 
-    pub ends-whole : length s ≤ u * a → (o : List ℕ) → Fill f s o n 0 0 0 out → Ends f u s o n (Whole k) out₁
-    ends-whole l o φ =
+      pub ends-rest : (x : ℕ) → r ≡ Rest x → Ended f u s n out (E.Rest a k x) out₂
+      ends-rest x e = record { ends = ends-there x e }
+
+    ends-here : length s ≤ u * a → (o : List ℕ) → Fill f s o n 0 0 0 out → Ends f u s o n (Whole k) out₁
+    unfolding Ends
+    ends-here l o φ =
         let φ′ = T .fills o φ in
         let is-n = T .begun .counted .count in
         let stop = end-rows (frameIn (domain f)) (judgeIn (domain f)) (frames (domain f) (reader f)) rowBytes 9 row-long s o n is-n (u * a) i k out₁ φ′ l in
         let c = filled-counts (frameIn (domain f)) (judgeIn (domain f)) (frames (domain f) (reader f)) rowBytes 9 row-long s o n is-n (u * a) i k out₁ φ′ stop in
         let q = end-all (frameIn (domain f)) (judgeIn (domain f)) (frames (domain f) (reader f)) rowBytes 9 row-long s o n is-n (u * a) i k out₁ φ′ l in
         (c .1, q .0 ∙ ap (sets o 0) (sym (report-is f s)), ap length (report-is f s) ∙ q .1)
+
+    pub ends-whole : length s ≤ u * a → Ended f u s n out (Whole k) out₁
+    ends-whole l = record { ends = ends-here l }
 
 -- ---- the last stores
 
@@ -165,26 +191,33 @@ module _ {f : Form} {u : ℕ} {values classes rows s : List ℕ} {known n : ℕ}
     filled = rw stored-count (begin f s o n);
   }
 
-  pub ended : (r : End) (last : List ℕ) → ((h : List ℕ) → Fill f s h n 0 0 0 out → Ends f u s h n r last) → Ends f u s o n r last
-  ended r last E = E o (rw stored-count (begin f s o n))
+  pub ended : (r : End) (last : List ℕ) → Ended f u s n out r last → Ends f u s o n r last
+  ended r last E = E .ends o (rw stored-count (begin f s o n))
 
 -- the last stores make the report
 module _ {f : Form} {u : ℕ} {values classes rows s : List ℕ} {known n : ℕ} {o : List ℕ} (C : Counted f u values classes rows s known n o) where
   pub ends-fit : (e : End) (mid : List ℕ) → Ends f u s o n e mid → Fits u n e
+  unfolding Ends
   ends-fit (Whole k) mid w = w .0
   ends-fit (E.Rest a k x) mid w = (w .0, omega (arith, w .3, C .read .few, limit-most f))
 
-  pub ends-last : (e : End) (mid : List ℕ) → Ends f u s o n e mid → (r : ℕ) (last : List ℕ) → Last u n e mid r last
-      → (r ≡ length (report (domain f) s)) × (last ≡ sets o 0 (report (domain f) s))
-  ends-last (Whole k) mid w r last c = (c .0 ∙ sym (w .2), c .1 ∙ w .1)
-  ends-last (E.Rest a k x) mid w r last c = (c .0 ∙ sym (w .2), c .1 ∙ w .1)
+  pub ends-last : (e : End) (mid : List ℕ) → Ends f u s o n e mid → (r : ℕ) (last : List ℕ) → Last u n e mid r last → Written f s o r last
+  unfolding Ends
+  ends-last (Whole k) mid w r last c = record { long = c .0 ∙ sym (w .2); held = c .1 ∙ w .1 }
+  ends-last (E.Rest a k x) mid w r last c = record { long = c .0 ∙ sym (w .2); held = c .1 ∙ w .1 }
 
 -- by the way that it ended
 pub fits-whole : (u n : ℕ) (e : End) (k : ℕ) → Fits u n e → e ≡ Whole k → k ≤ n
 fits-whole u n e k F q = subst (Fits u n) q F
 
-pub fits-rest : (u n : ℕ) (e : End) (a k x : ℕ) → Fits u n e → e ≡ E.Rest a k x → (k ≤ n) × (u * a ≤ 9223372036854775807)
+fits-rest : (u n : ℕ) (e : End) (a k x : ℕ) → Fits u n e → e ≡ E.Rest a k x → (k ≤ n) × (u * a ≤ 9223372036854775807)
 fits-rest u n e a k x F q = subst (Fits u n) q F
+
+pub rest-few : (u n : ℕ) (e : End) (a k x : ℕ) → Fits u n e → e ≡ E.Rest a k x → k ≤ n
+rest-few u n e a k x F q = fits-rest u n e a k x F q .0
+
+pub rest-fits : (u n : ℕ) (e : End) (a k x : ℕ) → Fits u n e → e ≡ E.Rest a k x → val.Fits w64 (u * a)
+rest-fits u n e a k x F q = omega (arith, fits-rest u n e a k x F q .1)
 
 pub last-by : (u n : ℕ) (e e′ : End) (out : List ℕ) (r : ℕ) (out′ : List ℕ) → e ≡ e′ → Last u n e′ out r out′ → Last u n e out r out′
 last-by u n e e′ out r out′ q L = subst (λ (x : End). Last u n x out r out′) (sym q) L
@@ -192,35 +225,48 @@ last-by u n e e′ out r out′ q L = subst (λ (x : End). Last u n x out r out�
 -- ---- the answers
 
 module _ {f : Form} {u : ℕ} {values classes rows s : List ℕ} {known : ℕ} (Q : Read f u values classes rows s known) where
-  pub read-few : (n : ℕ) → n ≤ length s / domain f .unit → n ≤ 4194304
-  read-few n h = omega (arith, units-few f s, Q .few, limit-most f)
+  pub read-few : {n : ℕ} → Total f values classes rows s known n → n ≤ 4194304
+  read-few T = omega (arith, T .few, units-few f s, Q .few, limit-most f)
 
-  pub read-count : (n : ℕ) → (Lent values classes rows → Clear (domain f .sextets s) 0 known → n ≡ length (rowsIn (domain f) s)) → n ≡ length (rowsIn (domain f) s)
-  read-count n e = e (Q .lent) (Q .clear)
+  pub read-count : (n : ℕ) → Total f values classes rows s known n → n ≡ length (rowsIn (domain f) s)
+  read-count n T = T .right (Q .lent) (Q .clear)
 
-pub demand3 : (f : Form) → Demand3 (domain f)
+demand3 : (f : Form) → Demand3 (domain f)
 demand3 Text = text-demand3
 demand3 Binary = binary-demand3
 
-pub known-first : (s : List ℕ) → Clear s 0 0
+known-first : (s : List ℕ) → Clear s 0 0
 known-first s i h l = absurd (omega arith)
 
-module _ (d : Domain) (xs out : List ℕ) where
-  pub too-long : d .limit < length xs → R.Refused 1 0 ≡ reportAnswer d xs (length out)
-  unfolding reportAnswer
-  too-long l = rw (lt-ltb (d .limit) (length xs) l)
+pub too-long : (d : Domain) (xs out : List ℕ) → d .limit < length xs → R.Refused 1 0 ≡ reportAnswer d xs (length out)
+unfolding reportAnswer
+too-long d xs out l = rw (lt-ltb (d .limit) (length xs) l)
 
-  module _ (l : length xs ≤ d .limit) (n : ℕ) (e : n ≡ length (rowsIn d xs)) where
-    pub no-room : length out < 17 + 18 * n → R.Refused 3 0 ≡ reportAnswer d xs (length out)
-    unfolding reportAnswer
-    no-room k = rw (le-ltb (d .limit) (length xs) l, ← e, lt-ltb (length out) (17 + 18 * n) k)
+module _ (f : Form) (xs out : List ℕ) where
+  abbrev d : Domain
+  d = domain f
 
-    pub written : Demand3 d → 17 + 18 * n ≤ length out → (w : ℕ) (out′ : List ℕ) → w ≡ length (report d xs) → out′ ≡ sets out 0 (report d xs)
-        → (R.Written w ≡ reportAnswer d xs (length out)) × (out′ ≡ reportLeft (R.Written w) d xs out)
+  module _ {u : ℕ} {values classes rows : List ℕ} {known n : ℕ} (Q : Read f u values classes rows xs known)
+      (T : Total f values classes rows xs known n) where
+    pub no-room : length out < 17 + 18 * n → Answered f xs out (R.Refused 3 0) out
     unfolding reportAnswer reportLeft
-    written D k w out′ f g =
+    no-room k = record { answer = rw (le-ltb (d .limit) (length xs) (Q .few), ← read-count Q n T, lt-ltb (length out) (17 + 18 * n) k); left = refl }
+
+    pub with-room : 17 + 18 * n ≤ length out → (w : ℕ) (out′ : List ℕ) → Written f xs out w out′ → Answered f xs out (R.Written w) out′
+    unfolding reportAnswer reportLeft
+    with-room k w out′ W =
         let z : 0 + length (report d xs) ≡ length (report d xs) = omega arith in
-        let fits : 0 + length (report d xs) ≤ length out = omega (arith, report-fits d D xs) in (
-          rw (le-ltb (d .limit) (length xs) l, ← e, le-ltb (length out) (17 + 18 * n) k) (ap R.Written f),
-          g ∙ sets-eq (report d xs) out 0 fits ∙ rw (z, f),
-        )
+        let e = read-count Q n T in
+        let fits : 0 + length (report d xs) ≤ length out = omega (arith, report-fits d (demand3 f) xs) in
+        record {
+          answer = rw (le-ltb (d .limit) (length xs) (Q .few), ← e, le-ltb (length out) (17 + 18 * n) k) (ap R.Written (W .long));
+          left = W .held ∙ sets-eq (report d xs) out 0 fits ∙ rw (z, W .long);
+        }
+
+-- the tables as they are named, and characters known from the start
+pub reads : (f : Form) (u : ℕ) (values classes rows s : List ℕ) (known : ℕ) → u ≡ domain f .unit → values ≡ sextetTable
+    → classes ≡ classTable → rows ≡ plainTable
+    → length s ≤ domain f .limit → (Clear (domain f .sextets s) 0 0 → Clear (domain f .sextets s) 0 known)
+    → Read f u values classes rows s known
+reads f u values classes rows s known e v k r l c =
+    record { unit = e; lent = record { characters = v; letters = k; codes = r }; few = l; clear = c (known-first (domain f .sextets s)) }

@@ -5,8 +5,9 @@ use mathlib.Core.List.{List, [], _∷_, _++_}
 use lib.ListN.{length}
 use lib.Seq.{sets}
 use Rattle.format.specs.declared.Form.{Form}
+use Rattle.format.specs.declared.Reported.{Reported}
 use Rattle.format.specs.Units.{domain}
-use Rattle.format.specs.Report.{rowsIn, be4, report}
+use Rattle.format.specs.Report.{rowsIn, be4, report, reportAnswer, reportLeft}
 use Rattle.runs.specs.Levels.{Clear}
 use Rattle.report_first.specs.First.{Lent}
 use Rattle.report_turn.specs.Turns.{Fill}
@@ -33,7 +34,7 @@ pub record Begun (f : Form) (u : ℕ) (values classes rows s : List ℕ) (known 
   pub filled : Fill f s held n 0 0 0 out
 
 -- what all turns leave: the last stores make the report
-abbrev pub Ends : Form → ℕ → List ℕ → List ℕ → ℕ → End → List ℕ → Type 0
+unfoldable pub Ends : Form → ℕ → List ℕ → List ℕ → ℕ → End → List ℕ → Type 0
 Ends f u s o n (Whole k) out =
     (k ≤ n) × (sets (sets out (4 + 9 * n) (be4 k)) (8 + 9 * n + 9 * k) (be4 0) ≡ sets o 0 (report (domain f) s))
     × (length (report (domain f) s) ≡ 12 + 9 * n + 9 * k)
@@ -41,6 +42,10 @@ Ends f u s o n (Rest a k x) out =
     (k ≤ n)
     × (sets (sets (sets out (4 + 9 * n) (be4 k)) (8 + 9 * n + 9 * k) (be4 1)) (12 + 9 * n + 9 * k) (be4 (u * a) ++ (x ∷ [])) ≡ sets o 0 (report (domain f) s))
     × (length (report (domain f) s) ≡ 17 + 9 * n + 9 * k) × (u * a ≤ length s)
+
+-- whatever the buffer held before the first of them
+pub record Ended (f : Form) (u : ℕ) (s : List ℕ) (n : ℕ) (out : List ℕ) (r : End) (out′ : List ℕ) : Type 0 where
+  pub ends : (o : List ℕ) → Fill f s o n 0 0 0 out → Ends f u s o n r out′
 
 -- ---- the last section
 
@@ -53,3 +58,15 @@ Last u n (Whole k) out r out′ = (r ≡ 12 + 9 * n + 9 * k) × (out′ ≡ sets
 Last u n (Rest a k x) out r out′ =
     (r ≡ 17 + 9 * n + 9 * k)
     × (out′ ≡ sets (sets (sets out (4 + 9 * n) (be4 k)) (8 + 9 * n + 9 * k) (be4 1)) (12 + 9 * n + 9 * k) (be4 (u * a) ++ (x ∷ [])))
+
+-- ---- the whole
+
+-- the report is written, and this is its length
+pub record Written (f : Form) (s out : List ℕ) (r : ℕ) (out′ : List ℕ) : Type 0 where
+  pub long : r ≡ length (report (domain f) s)
+  pub held : out′ ≡ sets out 0 (report (domain f) s)
+
+-- a call's answer, and what it leaves
+pub record Answered (f : Form) (s out : List ℕ) (r : Reported) (out′ : List ℕ) : Type 0 where
+  pub answer : r ≡ reportAnswer (domain f) s (length out)
+  pub left : out′ ≡ reportLeft r (domain f) s out

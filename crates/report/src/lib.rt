@@ -6,14 +6,13 @@ use format::Form;
 use format::Reported;
 use report_turn::Turn;
 ghost use mathlib.Core.Path.{_≡_};
-ghost use mathlib.Core.List.{List, [], _∷_, _++_};
-ghost use Prim.Native.Nat.{ℕ, _+_, _*_, _≤_};
+ghost use mathlib.Core.List.{[], _∷_, _++_};
+ghost use Prim.Native.Nat.{_+_, _*_, _≤_};
 ghost use lib.ListN.{length};
 ghost use lib.Seq.{sets};
 ghost use Rattle.format.specs.Units.{domain, text, binary};
-ghost use Rattle.format.specs.Report.{be4, report, reportAnswer, reportLeft};
-ghost use Rattle.report_turn.specs.Turns.{Fill};
-ghost use Rattle.report.specs.Turns.{Read, Counted, Begun, Ends, Fits, Last};
+ghost use Rattle.format.specs.Report.{be4, reportAnswer, reportLeft};
+ghost use Rattle.report.specs.Turns.{Read, Counted, Begun, Ends, Ended, Fits, Last, Written, Answered};
 
 // ---- the rows
 
@@ -82,7 +81,7 @@ fn put_all(
     n: usize,
 ) -> End
     requires { ⌜ Begun form u (now values) (now classes) (now rows) (now s) known n (now out) ⌝ }
-    ensures { λ r. ⌜ ((o : List ℕ) → Fill form (now (s .entry)) o n 0 0 0 (now (out .entry)) → Ends form u (now (s .entry)) o n r (now (out .exit))) ⌝ }
+    ensures { λ r. ⌜ Ended form u (now (s .entry)) n (now (out .entry)) r (now (out .exit)) ⌝ }
 {
     let mut clean = known;
     let mut a = 0;
@@ -144,7 +143,7 @@ fn fill(
     n: usize,
 ) -> usize
     requires { ⌜ Counted form u (now values) (now classes) (now rows) (now s) known n (now out) ⌝ }
-    ensures { λ r. ⌜ (r ≡ length (report (domain form) (now (s .entry)))) × (now (out .exit) ≡ sets (now (out .entry)) 0 (report (domain form) (now (s .entry)))) ⌝ }
+    ensures { λ r. ⌜ Written form (now (s .entry)) (now (out .entry)) r (now (out .exit)) ⌝ }
 {
     let end = put_items(form, u, values, classes, rows, s, out, known, n);
     put_last(out, u, n, end)
@@ -164,7 +163,7 @@ fn report_by(
     known: usize,
 ) -> Reported
     requires { ⌜ Read form u (now values) (now classes) (now rows) (now s) known ⌝ }
-    ensures { λ r. ⌜ (r ≡ reportAnswer (domain form) (now (s .entry)) (length (now (out .entry)))) × (now (out .exit) ≡ reportLeft r (domain form) (now (s .entry)) (now (out .entry))) ⌝ }
+    ensures { λ r. ⌜ Answered form (now (s .entry)) (now (out .entry)) r (now (out .exit)) ⌝ }
 {
     let n = report_count::count(form, values, classes, rows, s, known);
     if out.len() < 17 + 18 * n {
@@ -178,7 +177,7 @@ fn report_by(
 // by byte.
 fn report(form: Form, s: &[u8], out: &mut [u8]) -> Reported
     requires { ⌜ length (now s) ≤ domain form .limit ⌝ }
-    ensures { λ r. ⌜ (r ≡ reportAnswer (domain form) (now (s .entry)) (length (now (out .entry)))) × (now (out .exit) ≡ reportLeft r (domain form) (now (s .entry)) (now (out .entry))) ⌝ }
+    ensures { λ r. ⌜ Answered form (now (s .entry)) (now (out .entry)) r (now (out .exit)) ⌝ }
 {
     let values = alphabet::sextets();
     let classes = runs::classes();

@@ -1,9 +1,11 @@
 -- Items counted, of either form: up to a unit, and what is still to count from there. Assumes nothing.
-use Prim.Native.Nat.{ℕ, zero, suc, _+_, _-_, _*_, _/_, _≤_, _<_}
+use Prim.Native.Nat.{ℕ, zero, suc, _+_, _-_, _*_, _/_, _^_, _≤_, _<_}
 use mathlib.Core.Path.{_≡_, refl, sym, ap, _∙_}
-use mathlib.Core.List.{List, [], _∷_}
+use mathlib.Core.List.{List, []}
 use native.Mathlib.Omega.{arith}
 use native.Mathlib.Nat.{mul-comm, mul-add, suc-mul, pos-of-ne-zero, le-div-iff-mul-le, mul-le-mul-left}
+use mir.Syntax.{w64}
+use mir.Val.{Fits}
 use lib.ListN.{length, drop, length-drop, drop-of-length-le}
 use lib.Seq.{drop-drop}
 use Rattle.format.specs.declared.Form.{Form}
@@ -23,7 +25,7 @@ use Rattle.report_first.specs.First.{Lent}
 use Rattle.runs.specs.Plain.{groupAt}
 use Rattle.report_sizes.specs.Sizes.{Grouped, sizeOf, sizeAt}
 use Rattle.report_sizes.proofs.Laws.{tells-group, size-told}
-use Rattle.report_count.specs.Counts.{Sized, Stepped, Within}
+use Rattle.report_count.specs.Counts.{Sized, Stepped, Within, Together, Small, Next, Total}
 
 pub units-few : (f : Form) (s : List ℕ) → length s / domain f .unit ≤ length s
 units-few Text s = omega arith
@@ -94,7 +96,7 @@ module _ (f : Form) (s : List ℕ) where
 -- ---- what the sizes say
 
 -- a small group, and those with its header
-pub by-header : (f : Form) (s : List ℕ) (clean at size r : ℕ) → 0 < size → Grouped (domain f) s clean at size
+by-header : (f : Form) (s : List ℕ) (clean at size r : ℕ) → 0 < size → Grouped (domain f) s clean at size
     → (Clear (domain f .sextets s) at clean → groupAt (domain f .sextets s) at ≡ size → 0 < size → Run (sizeAt (domain f) s) size (length s / domain f .unit) (at + size) r)
     → Clear (domain f .sextets s) at clean → Sized f s at size r
 by-header f s clean at size r p G R K =
@@ -106,10 +108,11 @@ by-header f s clean at size r p G R K =
     }
 
 -- a step of an item and those behind it
-pub stepped : (f : Form) (s : List ℕ) (at size r n j : ℕ) → 0 < size → n ≡ size + r * size → j ≡ 1 + r → Sized f s at size r → Stepped f s at n j
-stepped f s at size r n j p e q S = record { size = size; more = r; sized = S; none = λ z. absurd (omega arith); some = λ _. (p, e, q) }
+stepped : (f : Form) (s : List ℕ) (at size r n j : ℕ) → 0 < size → Together size r n j → Sized f s at size r → Stepped f s at n j
+stepped f s at size r n j p T S =
+    record { size = size; more = r; sized = S; none = λ z. absurd (omega (arith, T .long)); some = λ _. (p, T .long, T .many) }
 
-pub none-stepped : (f : Form) (s : List ℕ) (at m : ℕ) → m ≡ sizeAt (domain f) s at → m ≡ 0 → Stepped f s at 0 0
+none-stepped : (f : Form) (s : List ℕ) (at m : ℕ) → m ≡ sizeAt (domain f) s at → m ≡ 0 → Stepped f s at 0 0
 none-stepped f s at m e z = record {
   size = m;
   more = 0;
@@ -118,17 +121,44 @@ none-stepped f s at m e z = record {
   some = λ p. absurd (omega arith);
 }
 
-pub step-items : (size r : ℕ) → 0 < size → 1 + r ≤ size + r * size
-step-items size r p = let z : r * 1 ≤ r * size = mul-le-mul-left r p in omega arith
-
-pub step-small : (f : Form) (s : List ℕ) (at size r : ℕ) → size ≤ length s / domain f .unit - at → r * size ≤ length s / domain f .unit - (at + size)
-    → size + r * size ≤ length s
-step-small f s at size r h g = omega (arith, units-few f s)
+pub step-items : {size r : ℕ} → Small size r → 1 + r ≤ size + r * size
+step-items {size} {r} S = let z : r * 1 ≤ r * size = mul-le-mul-left r (S .some) in omega (arith, S .some)
 
 -- no more items than units
-pub step-within : (f : Form) (s : List ℕ) (at size r n j : ℕ) → 0 < size → size ≤ length s / domain f .unit - at
-    → r * size ≤ length s / domain f .unit - (at + size) → n ≡ size + r * size → j ≡ 1 + r → Within f s at n j
-step-within f s at size r n j p h g e q = let z : r * 1 ≤ r * size = mul-le-mul-left r p in (omega arith, omega arith)
+step-within : (f : Form) (s : List ℕ) (at size r n j : ℕ) → 0 < size → size ≤ length s / domain f .unit - at
+    → r * size ≤ length s / domain f .unit - (at + size) → Together size r n j → Within f s at n j
+step-within f s at size r n j p h g T =
+    let z : r * 1 ≤ r * size = mul-le-mul-left r p in
+    (omega (arith, T .long), omega (arith, T .long, T .many))
+
+module _ (f : Form) (values classes rows s : List ℕ) (clean at size r : ℕ) (h : size ≤ length s / domain f .unit - at)
+    (g : r * size ≤ length s / domain f .unit - (at + size)) where
+  pub step-small : length s * 1 < 2 ^ 63 → 0 < size → Small size r
+  step-small l p = record { some = p; fits = omega (arith, units-few f s) }
+
+  -- groups with one header, and items with one letter
+  pub by-headers : (n j : ℕ) → Together size r n j → 0 < size → (Lent values classes rows → Grouped (domain f) s clean at size)
+      → (Clear (domain f .sextets s) at clean → groupAt (domain f .sextets s) at ≡ size → 0 < size → Run (sizeAt (domain f) s) size (length s / domain f .unit) (at + size) r)
+      → Next f values classes rows s clean at n j
+  by-headers n j T p G R = record {
+    within = step-within f s at size r n j p h g T;
+    right = λ L K. stepped f s at size r n j p T (by-header f s clean at size r p (G L) R K);
+  }
+
+  pub by-letters : (n j : ℕ) → Together size r n j → (size ≡ 0 → ⊥)
+      → (Lent values classes rows → Clear (domain f .sextets s) at clean → size ≡ sizeAt (domain f) s at)
+      → (Lent values classes rows → Clear (domain f .sextets s) at clean → 0 < size → Run (sizeAt (domain f) s) size (length s / domain f .unit) (at + size) r)
+      → Next f values classes rows s clean at n j
+  by-letters n j T p E R = record {
+    within = step-within f s at size r n j (pos-of-ne-zero p) h g T;
+    right = λ L K. stepped f s at size r n j (pos-of-ne-zero p) T (record { first = E L K; behind = R L K });
+  }
+
+pub no-step : (f : Form) (values classes rows s : List ℕ) (clean at m : ℕ)
+    → (Lent values classes rows → Clear (domain f .sextets s) at clean → m ≡ sizeAt (domain f) s at) → m ≡ 0
+    → Next f values classes rows s clean at 0 0
+no-step f values classes rows s clean at m E z =
+    record { within = (omega arith, omega arith); right = λ L K. none-stepped f s at m (E L K) z }
 
 -- ---- the loop
 
@@ -147,35 +177,44 @@ module _ {f : Form} {values classes rows s : List ℕ} {known u : ℕ} where
     pub counting-fits : u * a ≤ length s
     counting-fits = rw (C .unit, mul-comm (domain f .unit) a) (le-div-iff-mul-le (reader f .pos) .0 (C .within))
 
-    pub counting-end : length s ≤ u * a
-        → (i ≤ length s / domain f .unit) × (Lent values classes rows → Clear (domain f .sextets s) 0 known → i ≡ length (rowsIn (domain f) s))
-    counting-end l = (omega (arith, C .few, C .within), λ L K. counted-end f s a i (C .right L K .0) (rw (C .unit) at l))
+    pub counting-end : length s ≤ u * a → Total f values classes rows s known i
+    counting-end l =
+        record { few = omega (arith, C .few, C .within); right = λ L K. counted-end f s a i (C .right L K .0) (rw (C .unit) at l) }
 
     -- a step of n units and j items, where characters are known up to another unit
-    module _ (to n j : ℕ) (known-to : Clear (domain f .sextets s) a clean → Clear (domain f .sextets s) a to) (h : Within f s a n j)
-        (S : Lent values classes rows → Clear (domain f .sextets s) a to → Stepped f s a n j) where
-      pub counting-stop : u * a < length s → n ≡ 0
-          → (i ≤ length s / domain f .unit) × (Lent values classes rows → Clear (domain f .sextets s) 0 known → i ≡ length (rowsIn (domain f) s))
-      counting-stop l z = (
-        omega (arith, C .few, C .within),
-        λ L K.
-            let q = C .right L K in
-            let T = S L (known-to (q .1)) in
-            counted-stop f s a i (T .size) (T .more) (q .0) (T .sized) (T .none z) (rw (C .unit) at l),
-      )
+    module _ {to n j : ℕ} (N : Next f values classes rows s to a n j) where
+      moves : (a + n ≤ length s / domain f .unit) × (i + j ≤ a + n) × (a + n ≤ length s)
+      moves = (omega (arith, C .within, N .within .0), omega (arith, C .few, N .within .1), omega (arith, C .within, N .within .0, units-few f s))
 
-      pub counting-moves : (a + n ≤ length s / domain f .unit) × (i + j ≤ a + n) × (a + n ≤ length s)
-      counting-moves = (omega (arith, C .within, h .0), omega (arith, C .few, h .1), omega (arith, C .within, h .0, units-few f s))
+      pub units-fit : length s * 1 < 2 ^ 63 → Fits w64 (a + n)
+      units-fit l = omega (arith, moves)
+
+      pub items-fit : length s * 1 < 2 ^ 63 → Fits w64 (i + j)
+      items-fit l = omega (arith, moves)
+
+      pub falls : (n ≡ 0 → ⊥) → length s / domain f .unit - (a + n) < length s / domain f .unit - a
+      falls p = omega (arith, pos-of-ne-zero p, moves)
+
+    module _ {to n j : ℕ} (known-to : Clear (domain f .sextets s) a clean → Clear (domain f .sextets s) a to)
+        (N : Next f values classes rows s to a n j) where
+      pub counting-stop : u * a < length s → n ≡ 0 → Total f values classes rows s known i
+      counting-stop l z = record {
+        few = omega (arith, C .few, C .within);
+        right = λ L K.
+            let q = C .right L K in
+            let T = N .right L (known-to (q .1)) in
+            counted-stop f s a i (T .size) (T .more) (q .0) (T .sized) (T .none z) (rw (C .unit) at l);
+      }
 
       pub counting-next : (n ≡ 0 → ⊥) → Counting f values classes rows s known u to (a + n) (i + j)
       counting-next p = record {
         unit = C .unit;
-        within = counting-moves .0;
-        few = counting-moves .1;
+        within = moves N .0;
+        few = moves N .1;
         right = λ L K.
             let q = C .right L K in
             let K′ = known-to (q .1) in
-            let T = S L K′ in
+            let T = N .right L K′ in
             let w = T .some (pos-of-ne-zero p) in
             let y : a + n ≡ a + T .size + T .more * T .size = omega (arith, w .1) in
             let x : i + j ≡ i + 1 + T .more = omega (arith, w .2) in

@@ -2,14 +2,7 @@
 // like items that follow one another are counted at once. The tables are lent. Positions count units; in text, `clean` is a unit in
 // front of which, from the present one on, all characters are known.
 use format::Form;
-ghost use mathlib.Core.Path.{_≡_};
-ghost use Prim.Native.Nat.{_+_, _*_, _/_, _≤_, _<_};
-ghost use lib.ListN.{length};
-ghost use Rattle.format.specs.Units.{domain};
-ghost use Rattle.format.specs.Report.{rowsIn};
-ghost use Rattle.runs.specs.Levels.{Clear};
-ghost use Rattle.report_first.specs.First.{Lent};
-ghost use Rattle.report_count.specs.Counts.{Within, Stepped};
+ghost use Rattle.report_count.specs.Counts.{Small, Together, Next, Total};
 
 // Like items that are counted at once: units and items, none where nothing is framed.
 struct Step {
@@ -19,8 +12,8 @@ struct Step {
 
 // An item of so many units, and so many of its size behind it.
 fn stepped(size: usize, followers: usize) -> Step
-    requires { ⌜ (0 < size) × (size + followers * size ≤ 9223372036854775807) ⌝ }
-    ensures { λ r. ⌜ (r .units ≡ size + followers * size) × (r .items ≡ 1 + followers) ⌝ }
+    requires { ⌜ Small size followers ⌝ }
+    ensures { λ r. ⌜ Together size followers (r .units) (r .items) ⌝ }
 {
     Step {
         units: size + followers * size,
@@ -38,7 +31,7 @@ fn next(
     clean: usize,
     at: usize,
 ) -> Step
-    ensures { λ r. ⌜ Within form (now (s .entry)) at (r .units) (r .items) × (Lent (now (values .entry)) (now (classes .entry)) (now (rows .entry)) → Clear (domain form .sextets (now (s .entry))) at clean → Stepped form (now (s .entry)) at (r .units) (r .items)) ⌝ }
+    ensures { λ r. ⌜ Next form (now (values .entry)) (now (classes .entry)) (now (rows .entry)) (now (s .entry)) clean at (r .units) (r .items) ⌝ }
 {
     let g = report_sizes::group_size(form, values, classes, rows, s, clean, at);
     if 0 < g {
@@ -62,7 +55,7 @@ pub fn count(
     s: &[u8],
     known: usize,
 ) -> usize
-    ensures { λ r. ⌜ (r ≤ length (now (s .entry)) / domain form .unit) × (Lent (now (values .entry)) (now (classes .entry)) (now (rows .entry)) → Clear (domain form .sextets (now (s .entry))) 0 known → r ≡ length (rowsIn (domain form) (now (s .entry)))) ⌝ }
+    ensures { λ r. ⌜ Total form (now (values .entry)) (now (classes .entry)) (now (rows .entry)) (now (s .entry)) known r ⌝ }
 {
     let u = report_item::unit(form);
     let mut clean = known;

@@ -26,12 +26,12 @@ use Rattle.laws.specs.Domains.{reader}
 use Rattle.laws.specs.Levels.{part, any-item, item-sizes, level, level-end, Taken, taken-sizes}
 use Rattle.runs.specs.Plain.{plainTable, plainAt, groupAt, letterAt, nested}
 use Rattle.runs.specs.Levels.{Clear, clear-less, plain-taken, plain-level, group-taken, Nested, nested-level}
-use Rattle.report_next.specs.Next.{Found, isEntered, isRuled}
-use Rattle.report_item.specs.Items.{Inside, Fits, Takes}
+use Rattle.report_next.specs.Next.{isEntered, isRuled}
+use Rattle.report_item.specs.Items.{Inside, Fits, Finds, Takes}
 use native.Mathlib.Nat.{pos-of-ne-zero}
-use Rattle.report_item.proofs.Laws.{wide, in-units, judged-good, Left, left-start, left-end, left-more, taken-found, taken-entered}
+use Rattle.report_item.proofs.Laws.{wide, in-units, judged-good, Left, left-start, left-end, left-more, taken-found, taken-entered, inner-levels}
 use Rattle.report_first.specs.First.{Lent}
-use Rattle.report_fast.specs.Fast.{Reach, Ready, Good, Accepts}
+use Rattle.report_fast.specs.Fast.{Reach, Ready, Good, Accepts, Take, Passes}
 
 -- ---- groups one in the other
 
@@ -123,7 +123,7 @@ module _ (f : Form) (values classes rows s : List ℕ) (l at stop : ℕ) (I : In
       → level own (l - 1) m (at + 1) (at + n) ≡ Accepted → Takes own l first at stop n
   by-group first n e p h q m z v _ = group-taken own l stop long first at n stop e p (omega arith) q (R .clear) lt (rw z at v)
 
-  pub by-plain : (first : Bool) (k : ℕ) → plainAt plainTable own at ≡ k → k ≤ stop - at → Takes own l first at stop k
+  by-plain : (first : Bool) (k : ℕ) → plainAt plainTable own at ≡ k → k ≤ stop - at → Takes own l first at stop k
   by-plain first k e h p = plain-taken own l stop long first at k stop e p (omega arith) (R .clear) (omega arith)
 
 pub ready-part : (f : Form) (values classes rows s : List ℕ) (at stop i to : ℕ) → Ready f values classes rows s at stop → at ≤ i → to ≤ stop
@@ -192,14 +192,14 @@ module _ (f : Form) (values classes rows s : List ℕ) (at clean units stop : �
   pub top-reach : Reach f s at stop × (at < stop)
   top-reach = (record { order = omega arith; room = rw (← is-u, e) (min-le-right clean units) }, here)
 
-  pub top-good : (r : ℕ) → (r ≤ stop - at) × (Ready f values classes rows s at stop → Takes (domain f .sextets s) maxDepth true at stop r)
+  pub top-good : (r : ℕ) → Take f values classes rows s maxDepth true at stop r
       → (r ≤ length s / domain f .unit - at)
       × (length s ≤ domain f .limit → Lent values classes rows → Clear (domain f .sextets s) at clean → Accepts (domain f) s at r)
   top-good r t = (
-    omega (arith, t .0, min-le-right clean units),
+    omega (arith, t .few, min-le-right clean units),
     λ l L K p.
         let R : Ready f values classes rows s at stop = record { few = l; lent = L; clear = clear-less (domain f .sextets s) at clean at stop K (omega arith) (omega (arith, min-le-left clean units)) } in
-        taken-good f s at stop r (inside (top-reach .0) R) (t .1 R p),
+        taken-good f s at stop r (inside (top-reach .0) R) (t .right R p),
   )
 
 -- a group of so many units
@@ -257,61 +257,80 @@ module _ {f : Form} {values classes rows s : List ℕ} {l : ℕ} {first : Bool} 
         going-more k h p
         (λ R. by-plain f values classes rows s l i stop (inside (going-reach lt .0) R) lt R ruled k (e (R .lent)) h)
 
-    pub going-taken : (n : ℕ) → (n ≤ stop - i) × (Ready f values classes rows s i stop → Takes (domain f .sextets s) l ruled i stop n) → (n ≡ 0 → ⊥)
+    pub going-taken : (n : ℕ) → Take f values classes rows s l ruled i stop n → (n ≡ 0 → ⊥)
         → Going f values classes rows s l first at stop false (i + n)
-    going-taken n t p = going-more n (t .0) (pos-of-ne-zero p) (t .1)
+    going-taken n t p = going-more n (t .few) (pos-of-ne-zero p) (t .right)
 
-    pub going-end : stop ≤ i → Ready f values classes rows s at stop → level (domain f .sextets s) l first at stop ≡ Accepted
-    going-end h R = sym (left-end _ _ _ _ _ _ _ (G .left R) h)
+    pub going-less : (n : ℕ) → Take f values classes rows s l ruled i stop n → (n ≡ 0 → ⊥) → i < stop → stop - (i + n) < stop - i
+    going-less n t p h = omega (arith, pos-of-ne-zero p, t .few)
+
+    pub going-end : stop ≤ i → Passes f values classes rows s l first at stop true
+    going-end h = record { right = λ R _. sym (left-end _ _ _ _ _ _ _ (G .left R) h) }
+
+pub no-pass : (f : Form) (values classes rows s : List ℕ) (l : ℕ) (first : Bool) (at stop : ℕ)
+    → Passes f values classes rows s l first at stop false
+no-pass f values classes rows s l first at stop = record { right = λ R e. absurd (let y : _≡_ {A = ℕ} 0 1 = cc in omega arith) }
 
 -- ---- the next item
 
 -- a group's contents, as the general way finds it
-module _ {f : Form} {s : List ℕ} {l at stop : ℕ} (W : Reach f s at stop) (g : Framed) (F : Fits l at stop g) (k : Kind) (h n : ℕ) (e : g ≡ Item k h n) where
-  pub inner-reach : (0 < h) × (h ≤ n) × (at + n ≤ stop) × Reach f s (at + h) (at + n)
-  inner-reach = let w = F k h n e in (w .0, w .1, w .2, reach-part (at + h) (at + n) W (omega (arith, w .1)) (w .2))
+module _ {l at stop : ℕ} {g : Framed} (F : Fits l at stop g) (k : Kind) (h n : ℕ) (e : g ≡ Item k h n) where
+  pub inner-reach : (f : Form) (s : List ℕ) → Reach f s at stop → Reach f s (at + h) (at + n)
+  inner-reach f s W = let w = F .each k h n e in reach-part (at + h) (at + n) W (omega (arith, w .1)) (w .2)
 
-  pub inner-levels : (b : Bool) → b ≡ isEntered k → b ≡ true → 0 < l
-  inner-levels b is t = F k h n e .3 (sym is ∙ t)
+  pub inner-falls : (b : Bool) → b ≡ isEntered k → b ≡ true → (t : ℕ) → 3 * l ≡ t → 3 * (l - 1) + 2 < t
+  inner-falls b is y t q = omega (arith, inner-levels F k h n e b is y)
 
-pub group-inner : {f : Form} {s : List ℕ} {at stop : ℕ} → Reach f s at stop → at < stop → (n : ℕ) → 0 < n → n ≤ stop - at → Reach f s (at + 1) (at + n)
-group-inner {f} {s} {at} W lt n p h = reach-part (at + 1) (at + n) W (omega arith) (omega arith)
+-- and of a small group
+pub group-inner : (f : Form) (s : List ℕ) (at stop n : ℕ) → Reach f s at stop → at < stop → n ≤ stop - at → 0 < n
+    → Reach f s (at + 1) (at + n)
+group-inner f s at stop n W lt h p = reach-part (at + 1) (at + n) W (omega arith) (omega arith)
 
-module _ {f : Form} {values classes rows s : List ℕ} {l : ℕ} {first : Bool} {at stop : ℕ} (W : Reach f s at stop) (lt : at < stop) where
-  -- as the general way finds it
-  module _ (g : Framed) (F : Fits l at stop g × (Inside (domain f) s at stop → at < stop → Found (domain f .sextets s) l first at stop g)) (k : Kind) (h n : ℕ)
-      (e : g ≡ Item k h n) (b : Bool) (is : b ≡ isEntered k) where
-    pub by-contents : b ≡ true → (m : Bool) → m ≡ isRuled k → (v : Bool)
-        → (Ready f values classes rows s (at + h) (at + n) → v ≡ true → level (domain f .sextets s) (l - 1) m (at + h) (at + n) ≡ Accepted) → v ≡ true
-        → (n ≤ stop - at) × (Ready f values classes rows s at stop → Takes (domain f .sextets s) l first at stop n)
-    by-contents t m z v c y = (
-      omega (arith, F .0 k h n e .2),
-      λ R p.
-          let I = inside W R in
-          taken-entered (domain f .sextets s) l first at stop (wide f s l first at stop I) lt g (F .1 I lt) k h n e (sym is ∙ t) m z
-          (c (ready-part f values classes rows s at stop (at + h) (at + n) R (omega arith) (F .0 k h n e .2)) y),
-    )
+pub group-falls : (l t : ℕ) → (l ≡ 0 → ⊥) → 3 * l + 1 ≡ t → 3 * (l - 1) + 2 < t
+group-falls l t p q = omega (arith, pos-of-ne-zero p)
 
-    pub by-own : b ≡ false → (n ≤ stop - at) × (Ready f values classes rows s at stop → Takes (domain f .sextets s) l first at stop n)
-    by-own t = (
-      omega (arith, F .0 k h n e .2),
-      λ R p.
-          let I = inside W R in
-          taken-found (domain f .sextets s) l first at stop (wide f s l first at stop I) lt g (F .1 I lt) k h n e (sym is ∙ t),
-    )
+module _ (f : Form) (values classes rows s : List ℕ) (l : ℕ) (first : Bool) (at stop : ℕ) where
+  pub nothing : Take f values classes rows s l first at stop 0
+  nothing = record { few = omega arith; right = λ R p. absurd (omega arith) }
 
-  -- a small group
-  module _ (n : ℕ) (e : Lent values classes rows → groupAt (domain f .sextets s) at ≡ n) (p : 0 < n) (h : n ≤ stop - at) where
-    pub by-inner : (l ≡ 0 → ⊥) → (m : Bool) → (Lent values classes rows → 0 < groupAt (domain f .sextets s) at → m ≡ isOverrideable (letterAt (domain f .sextets s) at))
-        → (v : Bool) → (Ready f values classes rows s (at + 1) (at + n) → v ≡ true → level (domain f .sextets s) (l - 1) m (at + 1) (at + n) ≡ Accepted) → v ≡ true
-        → (n ≤ stop - at) × (Ready f values classes rows s at stop → Takes (domain f .sextets s) l first at stop n)
-    by-inner q m z v c y = (
-      h,
-      λ R.
+  module _ (W : Reach f s at stop) (lt : at < stop) where
+    -- as the general way finds it
+    module _ (g : Framed) (F : Finds f s l first at stop g) (k : Kind) (h n : ℕ) (e : g ≡ Item k h n) (b : Bool)
+        (is : b ≡ isEntered k) where
+      pub by-contents : b ≡ true → (m : Bool) → m ≡ isRuled k → (v : Bool) → Passes f values classes rows s (l - 1) m (at + h) (at + n) v
+          → v ≡ true
+          → Take f values classes rows s l first at stop n
+      by-contents t m z v c y = record {
+        few = omega (arith, F .fits .each k h n e .2);
+        right = λ R p.
+            let I = inside W R in
+            taken-entered (domain f .sextets s) l first at stop (wide f s l first at stop I) lt g (F .right I lt) k h n e (sym is ∙ t) m z
+            (c .right (ready-part f values classes rows s at stop (at + h) (at + n) R (omega arith) (F .fits .each k h n e .2)) y);
+      }
+
+      pub by-own : b ≡ false → Take f values classes rows s l first at stop n
+      by-own t = record {
+        few = omega (arith, F .fits .each k h n e .2);
+        right = λ R p.
+            let I = inside W R in
+            taken-found (domain f .sextets s) l first at stop (wide f s l first at stop I) lt g (F .right I lt) k h n e (sym is ∙ t);
+      }
+
+    -- a small group
+    pub by-inner : (n : ℕ) → 0 < n → n ≤ stop - at → (Lent values classes rows → groupAt (domain f .sextets s) at ≡ n) → (l ≡ 0 → ⊥)
+        → (m : Bool)
+        → (Lent values classes rows → 0 < groupAt (domain f .sextets s) at → m ≡ isOverrideable (letterAt (domain f .sextets s) at))
+        → (v : Bool)
+        → Passes f values classes rows s (l - 1) m (at + 1) (at + n) v → v ≡ true → Take f values classes rows s l first at stop n
+    by-inner n p h e q m z v c y = record {
+      few = h;
+      right = λ R.
           let g = e (R .lent) in
           by-group f values classes rows s l at stop (inside W R) lt R first n g p h (pos-of-ne-zero q) m (z (R .lent) (rw g p))
-          (c (ready-part f values classes rows s at stop (at + 1) (at + n) R (omega arith) (omega arith)) y),
-    )
+          (c .right (ready-part f values classes rows s at stop (at + 1) (at + n) R (omega arith) (omega arith)) y);
+    }
 
-  pub nothing : (0 ≤ stop - at) × (Ready f values classes rows s at stop → Takes (domain f .sextets s) l first at stop 0)
-  nothing = (omega arith, λ R p. absurd (omega arith))
+    -- a plain primitive
+    pub by-first : (k : ℕ) → k ≤ stop - at → (Lent values classes rows → plainAt plainTable (domain f .sextets s) at ≡ k)
+        → Take f values classes rows s l first at stop k
+    by-first k h e = record { few = h; right = λ R. by-plain f values classes rows s l at stop (inside W R) lt R first k (e (R .lent)) h }

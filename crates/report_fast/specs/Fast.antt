@@ -1,6 +1,7 @@
 -- What the fast way asks, and what it says of the item at a unit of a stream. Assumes nothing.
-use Prim.Native.Nat.{ℕ, _*_, _/_, _≤_, _<_}
+use Prim.Native.Nat.{ℕ, _-_, _*_, _/_, _≤_, _<_}
 use mathlib.Core.Path.{_≡_}
+use mathlib.Core.Bool.{Bool, true}
 use mathlib.Core.List.{List}
 use lib.ListN.{length, take, drop}
 use Rattle.format.specs.declared.Form.{Form}
@@ -11,7 +12,9 @@ use Rattle.format.specs.Units.{Domain, domain}
 use Rattle.format.specs.Framing.{frameRuled}
 use Rattle.format.specs.Judging.{shift}
 use Rattle.format.specs.Report.{judgeIn}
+use Rattle.laws.specs.Levels.{level}
 use Rattle.runs.specs.Levels.{Clear}
+use Rattle.report_item.specs.Items.{Takes}
 use Rattle.report_first.specs.First.{Lent}
 
 -- units of a stream
@@ -35,3 +38,12 @@ pub record Good (d : Domain) (xs : List ℕ) (at r : ℕ) : Type 0 where
 -- one-sided: 0 says nothing
 abbrev pub Accepts : Domain → List ℕ → ℕ → ℕ → Type 0
 Accepts d xs at r = 0 < r → Good d xs at r
+
+-- the next item from a unit on, if it ends in front of another and is accepted; 0 says nothing
+pub record Take (f : Form) (values classes rows s : List ℕ) (l : ℕ) (first : Bool) (at stop r : ℕ) : Type 0 where
+  pub few : r ≤ stop - at
+  pub right : Ready f values classes rows s at stop → Takes (domain f .sextets s) l first at stop r
+
+-- all items from a unit to another are accepted; false says nothing
+pub record Passes (f : Form) (values classes rows s : List ℕ) (l : ℕ) (first : Bool) (at stop : ℕ) (r : Bool) : Type 0 where
+  pub right : Ready f values classes rows s at stop → r ≡ true → level (domain f .sextets s) l first at stop ≡ Accepted

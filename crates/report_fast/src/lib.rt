@@ -14,9 +14,8 @@ ghost use Rattle.format.specs.Judging.{maxDepth};
 ghost use Rattle.laws.specs.Levels.{level};
 ghost use Rattle.runs.specs.Plain.{groupAt, letterAt};
 ghost use Rattle.runs.specs.Levels.{Clear};
-ghost use Rattle.report_item.specs.Items.{Takes};
 ghost use Rattle.report_first.specs.First.{Lent};
-ghost use Rattle.report_fast.specs.Fast.{Reach, Ready, Good, Accepts};
+ghost use Rattle.report_fast.specs.Fast.{Reach, Ready, Good, Accepts, Take, Passes};
 
 // ---- items accepted whole, where all is known
 
@@ -33,7 +32,7 @@ fn taken(
     stop: usize,
 ) -> usize
     requires { ⌜ Reach form (now s) at stop × (at < stop) ⌝ }
-    ensures { λ r. ⌜ (r ≤ stop - at) × (Ready form (now (values .entry)) (now (classes .entry)) (now (rows .entry)) (now (s .entry)) at stop → Takes (domain form .sextets (now (s .entry))) levels first at stop r) ⌝ }
+    ensures { λ r. ⌜ Take form (now (values .entry)) (now (classes .entry)) (now (rows .entry)) (now (s .entry)) levels first at stop r ⌝ }
 {
     let g = report_first::group(form, values, classes, rows, s, at);
     if 0 < g {
@@ -75,7 +74,7 @@ fn other(
     stop: usize,
 ) -> usize
     requires { ⌜ Reach form (now s) at stop × (at < stop) ⌝ }
-    ensures { λ r. ⌜ (r ≤ stop - at) × (Ready form (now (values .entry)) (now (classes .entry)) (now (rows .entry)) (now (s .entry)) at stop → Takes (domain form .sextets (now (s .entry))) levels first at stop r) ⌝ }
+    ensures { λ r. ⌜ Take form (now (values .entry)) (now (classes .entry)) (now (rows .entry)) (now (s .entry)) levels first at stop r ⌝ }
 {
     match report_item::found(form, s, levels, first, at, stop) {
         Framed::Unframed {
@@ -118,7 +117,7 @@ fn accepts(
     stop: usize,
 ) -> bool
     requires { ⌜ Reach form (now s) at stop ⌝ }
-    ensures { λ r. ⌜ (Ready form (now (values .entry)) (now (classes .entry)) (now (rows .entry)) (now (s .entry)) at stop → r ≡ true → level (domain form .sextets (now (s .entry))) levels first at stop ≡ Accepted) ⌝ }
+    ensures { λ r. ⌜ Passes form (now (values .entry)) (now (classes .entry)) (now (rows .entry)) (now (s .entry)) levels first at stop r ⌝ }
 {
     let mut i = at;
     let mut ruled = first;
@@ -155,7 +154,7 @@ fn accepted_within(
     stop: usize,
 ) -> usize
     requires { ⌜ Reach form (now s) at stop × (at < stop) ⌝ }
-    ensures { λ r. ⌜ (r ≤ stop - at) × (Ready form (now (values .entry)) (now (classes .entry)) (now (rows .entry)) (now (s .entry)) at stop → Takes (domain form .sextets (now (s .entry))) maxDepth true at stop r) ⌝ }
+    ensures { λ r. ⌜ Take form (now (values .entry)) (now (classes .entry)) (now (rows .entry)) (now (s .entry)) maxDepth true at stop r ⌝ }
 {
     let k = report_first::plain(form, values, classes, rows, s, at);
     if 0 < k {

@@ -1,10 +1,12 @@
 -- What the general way's steps say of a group's items, over either form. Assumes nothing.
-use Prim.Native.Nat.{ℕ, _+_, _-_, _*_, _/_, _%_, _≤_, _<_}
+use Prim.Native.Nat.{ℕ, _+_, _-_, _*_, _/_, _%_, _^_, _≤_, _<_}
 use mathlib.Core.Path.{_≡_, refl, sym, ap, _∙_, subst}
 use mathlib.Core.Bool.{Bool, true, false}
 use mathlib.Core.List.{List}
 use native.Mathlib.Omega.{arith}
 use native.Mathlib.Nat.{mul-comm, mul-add, add-mul, add-assoc, mul-pos, mul-le-mul-left, le-trans, le-div-iff-mul-le}
+use mir.Syntax.{w64}
+use mir.Val as val
 use lib.ListN.{length, take, drop, length-take, length-drop, drop-of-length-le}
 use Rattle.format.specs.declared.Form.{Form}
 use Rattle.format.specs.declared.Form.the-variants.{Text, Binary}
@@ -18,20 +20,32 @@ use Rattle.base.specs.Each.{each}
 use Rattle.format.specs.Framing.{frame, frameRuled, frameWith, ruled}
 use Rattle.format.specs.Judging.{shift, judge, judgeKind, group, maxDepth}
 use Rattle.format.specs.Report.{placed, judgeIn}
-use Rattle.laws.specs.Domains.{Reader, reader}
+use Rattle.laws.specs.Domains.{Reader, reader, text-reader, binary-reader}
 use Rattle.laws.specs.Levels.{then-accepts, part, take-of-drop, any-item, item-sizes, frame-own, judge-own, level, level-end, level-item, Taken, taken-sizes, taken-level}
 use Rattle.judging.specs.Own.{toldBy}
+use Rattle.judging.proofs.Laws.{to-end}
 use Rattle.report_next.specs.Next.{nextOwn, isEntered, isRuled, Own, Found}
-use Rattle.report_next.proofs.Laws.{fits, length-sextets, length-binary, next-near, found-refused, found-item, enters, whole-plain, whole-entered, turn-inner}
-use Rattle.report_item.specs.Items.{Inside, Fits, moved, Whole, Judges}
+use Rattle.report_next.proofs.Laws.{fits, length-sextets, length-binary, text-part, binary-part, next-near, found-refused, found-item, enters, whole-plain, whole-entered, turn-inner}
+use Rattle.report_item.specs.Items.{Inside, Here, Fits, Finds, Near, moved, Whole, Judges}
 
 -- ---- either form
 
-pub text-in : (f : Form) (s : List ℕ) (at stop : ℕ) → Inside (domain f) s at stop → f ≡ Text → Inside text s at stop
+text-in : (f : Form) (s : List ℕ) (at stop : ℕ) → Inside (domain f) s at stop → f ≡ Text → Inside text s at stop
 text-in f s at stop I e = subst (λ (g : Form). Inside (domain g) s at stop) e I
 
-pub binary-in : (f : Form) (s : List ℕ) (at stop : ℕ) → Inside (domain f) s at stop → f ≡ Binary → Inside binary s at stop
+binary-in : (f : Form) (s : List ℕ) (at stop : ℕ) → Inside (domain f) s at stop → f ≡ Binary → Inside binary s at stop
 binary-in f s at stop I e = subst (λ (g : Form). Inside (domain g) s at stop) e I
+
+units-small : (f : Form) (s : List ℕ) (at stop : ℕ) → Inside (domain f) s at stop → stop ≤ 1048576
+units-small Text s at stop I = omega (arith, I .room, I .few)
+units-small Binary s at stop I = omega (arith, I .room, I .few)
+
+-- elements of either form are within a number
+pub at-fits : (f : Form) (s : List ℕ) (at stop u : ℕ) → Inside (domain f) s at stop → u ≤ 4 → val.Fits w64 (u * at)
+at-fits f s at stop u I h = omega (arith, I .order, units-small f s at stop I, mul-le-mul-left at h, mul-comm at u, mul-comm at 4)
+
+pub stop-fits : (f : Form) (s : List ℕ) (at stop u : ℕ) → Inside (domain f) s at stop → u ≤ 4 → val.Fits w64 (u * stop)
+stop-fits f s at stop u I h = omega (arith, units-small f s at stop I, mul-le-mul-left stop h, mul-comm stop u, mul-comm stop 4)
 
 module _ (d : Domain) (G : Reader d) (s : List ℕ) (at stop : ℕ) (I : Inside d s at stop) where
   pub in-units : stop ≤ length s / d .unit
@@ -48,10 +62,10 @@ module _ (s : List ℕ) (l : ℕ) (first : Bool) (at stop : ℕ) (h : 4 * stop �
   found-by (Unframed m p) e r q = rw q (found-refused s l first at stop h lt m p (sym e))
   found-by (Item k n m) e r q = rw q (found-item s l first at stop k n m (sym e))
 
-  pub found-sizes : (f : Framed) → Found s l first at stop f → (k : Kind) (a n : ℕ) → f ≡ Item k a n → (0 < a) × (a ≤ n) × (at + n ≤ stop)
+  found-sizes : (f : Framed) → Found s l first at stop f → (k : Kind) (a n : ℕ) → f ≡ Item k a n → (0 < a) × (a ≤ n) × (at + n ≤ stop)
   found-sizes f F k a n e = fits s l first at stop h lt k a n (subst (Found s l first at stop) e F .framed)
 
-  pub found-levels : (f : Framed) → Found s l first at stop f → (k : Kind) (a n : ℕ) → f ≡ Item k a n → isEntered k ≡ true → 0 < l
+  found-levels : (f : Framed) → Found s l first at stop f → (k : Kind) (a n : ℕ) → f ≡ Item k a n → isEntered k ≡ true → 0 < l
   found-levels f F k a n e = enters s l first at stop h lt k a n (subst (Found s l first at stop) e F)
 
   -- ---- judged whole
@@ -59,10 +73,13 @@ module _ (s : List ℕ) (l : ℕ) (first : Bool) (at stop : ℕ) (h : 4 * stop �
   taken-plain : (k : Kind) (a n : ℕ) → Own first (part s at stop) l k a n → isEntered k ≡ false → Taken s l first at stop n
   taken-plain k a n o e = record { kind = k; head = a; framed = o .framed; judged = whole-plain s l first at stop h lt k a n o e }
 
-  pub whole-refused : (f : Framed) → Found s l first at stop f → (m p : ℕ) → f ≡ Unframed m p → Whole s l first at stop f
+  whole-refused : (f : Framed) → Found s l first at stop f → (m p : ℕ) → f ≡ Unframed m p → Whole s l first at stop f
+  unfolding Whole
   whole-refused f F m p e = rw e (subst (Found s l first at stop) e F)
 
-  pub whole-passed : (f : Framed) → Found s l first at stop f → (k : Kind) (a n : ℕ) → f ≡ Item k a n → isEntered k ≡ false → Whole s l first at stop (Item k a n)
+  whole-passed : (f : Framed) → Found s l first at stop f → (k : Kind) (a n : ℕ) → f ≡ Item k a n → isEntered k ≡ false
+      → Whole s l first at stop (Item k a n)
+  unfolding Whole
   whole-passed f F k a n e q = taken-plain k a n (subst (Found s l first at stop) e F) q
 
   pub taken-found : (f : Framed) → Found s l first at stop f → (k : Kind) (a n : ℕ) → f ≡ Item k a n → isEntered k ≡ false → Taken s l first at stop n
@@ -74,25 +91,48 @@ module _ (s : List ℕ) (l : ℕ) (first : Bool) (at stop : ℕ) (h : 4 * stop �
       let o = subst (Found s l first at stop) e F in
       record { kind = k; head = a; framed = o .framed; judged = whole-entered s l first at stop h lt k a n o q (rw z at (sym w)) }
 
-  pub whole-told : (f : Framed) → Found s l first at stop f → (k : Kind) (a n : ℕ) → f ≡ Item k a n → isEntered k ≡ true → (marks : Bool)
+  whole-told : (f : Framed) → Found s l first at stop f → (k : Kind) (a n : ℕ) → f ≡ Item k a n → isEntered k ≡ true → (marks : Bool)
       → marks ≡ isRuled k → (v : Verdict) → v ≡ level s (l - 1) marks (at + a) (at + n) → (r : Framed) → r ≡ toldBy (Item k a n) v
       → Whole s l first at stop r
-  unfolding toldBy
+  unfolding toldBy Whole
   whole-told f F k a n e q marks z Accepted w r t = rw t (taken-entered f F k a n e q marks z (sym w))
   whole-told f F k a n e q marks z (Refused m p) w r t =
       rw t (turn-inner s l first at stop h lt k a n (subst (Found s l first at stop) e F) q (Refused m p) (rw z at w) m p refl)
 
 -- ---- framing at a unit
 
-pub text-at : (f : Form) (s : List ℕ) (at r : ℕ) → r ≡ length s / domain f .unit → at ≤ r → f ≡ Text → 4 * at ≤ length s
+text-at : (f : Form) (s : List ℕ) (at r : ℕ) → r ≡ length s / domain f .unit → at ≤ r → f ≡ Text → 4 * at ≤ length s
 text-at f s at r e h q =
     let z : r ≡ length s / 4 = subst (λ (g : Form). r ≡ length s / domain g .unit) q e in
     omega arith
 
-pub binary-at : (f : Form) (s : List ℕ) (at r : ℕ) → r ≡ length s / domain f .unit → at ≤ r → f ≡ Binary → 3 * at ≤ length s
+binary-at : (f : Form) (s : List ℕ) (at r : ℕ) → r ≡ length s / domain f .unit → at ≤ r → f ≡ Binary → 3 * at ≤ length s
 binary-at f s at r e h q =
     let z : r ≡ length s / 3 = subst (λ (g : Form). r ≡ length s / domain g .unit) q e in
     omega arith
+
+module _ (f : Form) (s : List ℕ) (at r : ℕ) (e : r ≡ length s / domain f .unit) (h : at ≤ r) where
+  pub text-from : f ≡ Text → 4 * at ≤ length s
+  text-from q = text-at f s at r e h q
+
+  pub text-fits : f ≡ Text → length s * 1 < 2 ^ 63 → val.Fits w64 (4 * at)
+  text-fits q l = omega (arith, text-at f s at r e h q)
+
+  pub binary-from : f ≡ Binary → 3 * at ≤ length s
+  binary-from q = binary-at f s at r e h q
+
+  pub binary-fits : f ≡ Binary → length s * 1 < 2 ^ 63 → val.Fits w64 (3 * at)
+  binary-fits q l = omega (arith, binary-at f s at r e h q)
+
+pub text-framed : (f : Form) (s : List ℕ) (at : ℕ) (g : Framed) → f ≡ Text
+    → g ≡ frameRuled (textSextets (take (length s - 4 * at) (drop (4 * at) s)))
+    → g ≡ frameRuled (domain f .sextets (drop (domain f .unit * at) s))
+text-framed f s at g q e = rw q (rw (to-end s (4 * at)) at e)
+
+pub binary-framed : (f : Form) (s : List ℕ) (at : ℕ) (g : Framed) → f ≡ Binary
+    → g ≡ frameRuled (binarySextets (take (length s - 3 * at) (drop (3 * at) s)))
+    → g ≡ frameRuled (domain f .sextets (drop (domain f .unit * at) s))
+binary-framed f s at g q e = rw q (rw (to-end s (3 * at)) at e)
 
 -- past the last unit nothing is framed
 pub none-framed : (f : Form) (s : List ℕ) (at r : ℕ) → r ≡ length s / domain f .unit → r < at
@@ -131,14 +171,16 @@ pub moved-on : (by : ℕ) (f : Framed) (m p : ℕ) → f ≡ Unframed m p → Un
 unfolding moved
 moved-on by f m p e = rw e
 
-pub near : (first : Bool) (x : List ℕ) (l : ℕ) (f : Framed) → f ≡ nextOwn first x l → length x ≤ 4194304 → (m p : ℕ) → f ≡ Unframed m p → p ≤ 4194312
+near : (first : Bool) (x : List ℕ) (l : ℕ) (f : Framed) → f ≡ nextOwn first x l → length x ≤ 4194304 → (m p : ℕ) → f ≡ Unframed m p
+    → p ≤ 4194312
 near first x l f e h m p q = omega (arith, next-near first x l m p (sym e ∙ q))
 
-pub text-few : (s : List ℕ) (n : ℕ) → length s ≤ 4194304 → length (textSextets (take n s)) ≤ 4194304
-text-few s n h = omega (arith, length-sextets (take n s), length-take n s)
+-- the part is within the stream
+pub text-end : (f : Form) (s : List ℕ) (at stop : ℕ) → Inside (domain f) s at stop → f ≡ Text → 4 * stop ≤ length s
+text-end f s at stop I q = text-in f s at stop I q .room
 
-pub binary-few : (s : List ℕ) (n : ℕ) → length s ≤ 3145728 → length (binarySextets (take n s)) ≤ 4194304
-binary-few s n h = omega (arith, length-binary (take n s), length-take n s)
+pub binary-end : (f : Form) (s : List ℕ) (at stop : ℕ) → Inside (domain f) s at stop → f ≡ Binary → 3 * stop ≤ length s
+binary-end f s at stop I q = binary-in f s at stop I q .room
 
 -- ---- a group's items up to a unit are accepted: what is left says all
 
@@ -155,7 +197,7 @@ module _ (s : List ℕ) (l : ℕ) (first : Bool) (at stop : ℕ) where
     left-more r h t =
         record { inside = taken-sizes s l ruled i stop r h (w .inside) t .1; leaves = w .leaves ∙ taken-level s l ruled i stop r h (w .inside) t }
 
-    pub left-refused : (m p : ℕ) → Refused m p ≡ level s l ruled i stop → Refused m p ≡ level s l first at stop
+    left-refused : (m p : ℕ) → Refused m p ≡ level s l ruled i stop → Refused m p ≡ level s l first at stop
     left-refused m p e = e ∙ sym (w .leaves)
 
     pub left-end : stop ≤ i → Accepted ≡ level s l first at stop
@@ -177,39 +219,141 @@ module _ (f : Form) (s : List ℕ) (l : ℕ) (first : Bool) (at stop : ℕ) (I :
   pub wide : 4 * stop ≤ length (domain f .sextets s)
   wide = long (domain f) (reader f) s at stop I
 
-  pub found-fits : at < stop → (r : Framed) → Found (domain f .sextets s) l first at stop r → (k : Kind) (a n : ℕ) → r ≡ Item k a n
-      → (0 < a) × (a ≤ n) × (at + n ≤ stop) × (isEntered k ≡ true → 0 < l)
-  found-fits lt r F k a n e =
-      let z = found-sizes (domain f .sextets s) l first at stop wide lt r F k a n e in
-      (z .0, z .1, z .2, found-levels (domain f .sextets s) l first at stop wide lt r F k a n e)
+  found-finds : at < stop → (r : Framed) → Found (domain f .sextets s) l first at stop r → Finds f s l first at stop r
+  found-finds lt r F = record { fits = record { each = each }; right = λ _ _. F }
+    where
+      each : (k : Kind) (a n : ℕ) → r ≡ Item k a n → (0 < a) × (a ≤ n) × (at + n ≤ stop) × (isEntered k ≡ true → 0 < l)
+      each k a n e =
+          let z = found-sizes (domain f .sextets s) l first at stop wide lt r F k a n e in
+          (z .0, z .1, z .2, found-levels (domain f .sextets s) l first at stop wide lt r F k a n e)
+
+-- the next item of a text's part, and of a binary's
+module _ (f : Form) (s : List ℕ) (at stop : ℕ) (I : Inside (domain f) s at stop) (first : Bool) (l : ℕ) (g : Framed) where
+  module _ (q : f ≡ Text) (e : g ≡ nextOwn first (textSextets (take (4 * stop - 4 * at) (drop (4 * at) s))) l) where
+    pub text-near : Near (4 * at) g
+    text-near =
+        let i = text-in f s at stop I q in
+        let x = take (4 * stop - 4 * at) (drop (4 * at) s) in
+        record {
+          few = omega (arith, i .order, i .room, i .few);
+          near = near first (textSextets x) l g e (omega (arith, i .few, length-sextets x, length-take (4 * stop - 4 * at) (drop (4 * at) s), length-drop (4 * at) s));
+        }
+
+    pub text-found : at < stop → (r : Framed) → r ≡ moved (4 * at) g → Finds f s l first at stop r
+    text-found lt r m =
+        let i = text-in f s at stop I q in
+        found-finds f s l first at stop I lt r
+        (rw q (found-by (textSextets s) l first at stop (long text text-reader s at stop i) lt g (rw (text-part s at stop (i .order)) at e) r m))
+
+  module _ (q : f ≡ Binary) (e : g ≡ nextOwn first (binarySextets (take (3 * stop - 3 * at) (drop (3 * at) s))) l) where
+    pub binary-near : Near (4 * at) g
+    binary-near =
+        let i = binary-in f s at stop I q in
+        let x = take (3 * stop - 3 * at) (drop (3 * at) s) in
+        record {
+          few = omega (arith, i .order, i .room, i .few);
+          near = near first (binarySextets x) l g e (omega (arith, i .few, length-binary x, length-take (3 * stop - 3 * at) (drop (3 * at) s), length-drop (3 * at) s));
+        }
+
+    pub binary-found : at < stop → (r : Framed) → r ≡ moved (4 * at) g → Finds f s l first at stop r
+    binary-found lt r m =
+        let i = binary-in f s at stop I q in
+        found-finds f s l first at stop I lt r
+        (rw q (found-by (binarySextets s) l first at stop (long binary binary-reader s at stop i) lt g (rw (binary-part s at stop (i .order) (i .room)) at e) r m))
 
 -- ---- a group's contents
 
-module _ {d : Domain} {s : List ℕ} {l at stop : ℕ} (I : Inside d s at stop) (g : Framed) (F : Fits l at stop g) (k : Kind) (h n : ℕ) (e : g ≡ Item k h n) where
-  pub inner-inside : (0 < h) × (h ≤ n) × (at + n ≤ stop) × Inside d s (at + h) (at + n)
-  inner-inside = let w = F k h n e in (w .0, w .1, w .2, inside-part d s at stop (at + h) (at + n) I (omega (arith, w .1)) (w .2))
+module _ {l at stop : ℕ} {g : Framed} (F : Fits l at stop g) (k : Kind) (h n : ℕ) (e : g ≡ Item k h n) where
+  pub head-fits : val.Fits w64 stop → val.Fits w64 (at + h)
+  head-fits s = omega (arith, F .each k h n e .1, F .each k h n e .2)
+
+  pub size-fits : val.Fits w64 stop → val.Fits w64 (at + n)
+  size-fits s = omega (arith, F .each k h n e .2)
+
+  pub inner-inside : (d : Domain) (s : List ℕ) → Inside d s at stop → Inside d s (at + h) (at + n)
+  inner-inside d s I = let w = F .each k h n e in inside-part d s at stop (at + h) (at + n) I (omega (arith, w .1)) (w .2)
 
   pub inner-levels : (b : Bool) → b ≡ isEntered k → b ≡ true → 0 < l
-  inner-levels b is t = F k h n e .3 (sym is ∙ t)
+  inner-levels b is t = F .each k h n e .3 (sym is ∙ t)
 
-pub none-fits : (l at stop m p : ℕ) → Fits l at stop (Unframed m p)
-none-fits l at stop m p k h n e = absurd (other-variant e)
+  pub inner-falls : (b : Bool) → b ≡ isEntered k → b ≡ true → (t : ℕ) → 2 * l ≡ t → 2 * (l - 1) + 1 < t
+  inner-falls b is y t q = omega (arith, inner-levels b is y)
+
+none-fits : (l at stop m p : ℕ) → Fits l at stop (Unframed m p)
+none-fits l at stop m p = record { each = λ k h n e. absurd (other-variant k h n e) }
   where
-    other-variant : Unframed m p ≡ Item k h n → ⊥
-    other-variant e = let y : _≡_ {A = ℕ} 0 1 = cc in omega arith
+    other-variant : (k : Kind) (h n : ℕ) → Unframed m p ≡ Item k h n → ⊥
+    other-variant k h n e = let y : _≡_ {A = ℕ} 0 1 = cc in omega arith
 
-pub taken-fits : (f : Form) (s : List ℕ) (l : ℕ) (first : Bool) (at stop i : ℕ) → Inside (domain f) s at stop → i ≤ stop → (r : Framed)
-    → Whole (domain f .sextets s) l first i stop r → (k : Kind) (a n : ℕ) → r ≡ Item k a n → (0 < n) × (i + n ≤ stop)
-taken-fits f s l first at stop i I h r W k a n e =
-    taken-sizes (domain f .sextets s) l first i stop n (wide f s l first at stop I) h (subst (Whole (domain f .sextets s) l first i stop) e W)
+-- what is past the end or the limit
+module _ (f : Form) (s : List ℕ) (l : ℕ) (first : Bool) (at stop m p : ℕ) where
+  pub past-limit : (n : ℕ) → n ≡ domain f .limit → n < length s → Finds f s l first at stop (Unframed m p)
+  past-limit n e h = record { fits = none-fits l at stop m p; right = λ I _. absurd (omega (arith, I .few)) }
 
-pub inside-units : (f : Form) (s : List ℕ) (at stop u m : ℕ) → u ≡ length s / domain f .unit → m ≡ domain f .limit → stop ≤ u → length s ≤ m → at ≤ stop
+  pub past-end : (u : ℕ) → u ≡ length s / domain f .unit → u < stop → Finds f s l first at stop (Unframed m p)
+  past-end u e h =
+      record { fits = none-fits l at stop m p; right = λ I _. absurd (omega (arith, in-units (domain f) (reader f) s at stop I)) }
+
+  pub none-left : stop ≤ at → Finds f s l first at stop (Unframed m p)
+  none-left h = record { fits = none-fits l at stop m p; right = λ _ lt. absurd (omega arith) }
+
+-- the next item judged whole
+module _ (f : Form) (s : List ℕ) (l : ℕ) (first : Bool) (at stop : ℕ) (g : Framed) (F : Finds f s l first at stop g)
+    (I : Inside (domain f) s at stop) (lt : at < stop) where
+  pub by-refused : (m p : ℕ) → g ≡ Unframed m p → Whole (domain f .sextets s) l first at stop g
+  by-refused m p e = whole-refused (domain f .sextets s) l first at stop (wide f s l first at stop I) lt g (F .right I lt) m p e
+
+  pub by-own : (k : Kind) (a n : ℕ) → g ≡ Item k a n → (b : Bool) → b ≡ isEntered k → b ≡ false
+      → Whole (domain f .sextets s) l first at stop (Item k a n)
+  by-own k a n e b is t =
+      whole-passed (domain f .sextets s) l first at stop (wide f s l first at stop I) lt g (F .right I lt) k a n e (sym is ∙ t)
+
+  pub by-contents : (k : Kind) (a n : ℕ) → g ≡ Item k a n → (b : Bool) → b ≡ isEntered k → b ≡ true → (marks : Bool) → marks ≡ isRuled k
+      → (v : Verdict)
+      → v ≡ level (domain f .sextets s) (l - 1) marks (at + a) (at + n) → (r : Framed) → r ≡ toldBy (Item k a n) v
+      → Whole (domain f .sextets s) l first at stop r
+  by-contents k a n e b is t marks z v w r q =
+      whole-told (domain f .sextets s) l first at stop (wide f s l first at stop I) lt g (F .right I lt) k a n e (sym is ∙ t) marks z v w r q
+
+-- a turn of the loop over a group's items
+module _ (f : Form) (s : List ℕ) (l : ℕ) (first : Bool) (at stop : ℕ) (ruled : Bool) (i : ℕ)
+    (w : Left (domain f .sextets s) l first at stop ruled i) (g : Framed)
+    (W : Whole (domain f .sextets s) l ruled i stop g) where
+  pub left-stop : (m p : ℕ) → g ≡ Unframed m p → Refused m p ≡ level (domain f .sextets s) l first at stop
+  unfolding Whole
+  left-stop m p e =
+      left-refused (domain f .sextets s) l first at stop ruled i w m p (subst (Whole (domain f .sextets s) l ruled i stop) e W)
+
+  module _ (I : Inside (domain f) s at stop) (k : Kind) (a n : ℕ) (e : g ≡ Item k a n) where
+    taken-here : Taken (domain f .sextets s) l ruled i stop n
+    unfolding Whole
+    taken-here = subst (Whole (domain f .sextets s) l ruled i stop) e W
+
+    sizes : (0 < n) × (i + n ≤ stop)
+    sizes = taken-sizes (domain f .sextets s) l ruled i stop n (wide f s l first at stop I) (w .inside) taken-here
+
+    pub next-fits : val.Fits w64 stop → val.Fits w64 (i + n)
+    next-fits h = omega (arith, sizes .1)
+
+    pub less-left : i < stop → stop - (i + n) < stop - i
+    less-left h = omega (arith, sizes .0)
+
+    pub left-on : Left (domain f .sextets s) l first at stop false (i + n)
+    left-on = left-more (domain f .sextets s) l first at stop ruled i w n (wide f s l first at stop I) taken-here
+
+inside-units : (f : Form) (s : List ℕ) (at stop u m : ℕ) → u ≡ length s / domain f .unit → m ≡ domain f .limit → stop ≤ u → length s ≤ m
+    → at ≤ stop
     → Inside (domain f) s at stop
 inside-units f s at stop u m e q h few le = record {
   order = le;
   room = rw (mul-comm (domain f .unit) stop) (le-div-iff-mul-le (reader f .pos) .0 (rw e at h));
   few = rw (← q) few;
 }
+
+pub here : (f : Form) (s : List ℕ) (at stop u m : ℕ) → stop ≤ u → length s ≤ m → at < stop → u ≡ length s / domain f .unit
+    → m ≡ domain f .limit
+    → Here f s at stop
+here f s at stop u m h few lt e q = record { inside = inside-units f s at stop u m e q h few (omega arith); left = lt }
 
 -- ---- a framed item
 
@@ -274,7 +418,20 @@ module _ (d : Domain) (G : Reader d) (xs : List ℕ) (a n : ℕ) (k : Kind) (h :
 
 pub judged : (f : Form) (s : List ℕ) (at n : ℕ) (v w : Verdict) → v ≡ level (domain f .sextets s) maxDepth false at (at + n) → w ≡ placed (domain f .unit) v
     → Judges (domain f) s at n w
-judged f s at n v w e q few k h i = q ∙ judged-row (domain f) (reader f) s at n k h i v e
+judged f s at n v w e q = record { judged = λ few k h i. q ∙ judged-row (domain f) (reader f) s at n k h i v e }
 
-pub not-judged : (f : Form) (s : List ℕ) (at n u : ℕ) (w : Verdict) → u ≡ length s / domain f .unit → u < at + n → Judges (domain f) s at n w
-not-judged f s at n u w e l few k h i = absurd (omega (arith, framed-units (domain f) (reader f) s at n k h i))
+-- what is no item of so many units there
+module _ (f : Form) (s : List ℕ) (at n u : ℕ) (w : Verdict) where
+  pub over-limit : u ≡ domain f .limit → u < length s → Judges (domain f) s at n w
+  over-limit e l = record { judged = λ few k h i. absurd (omega arith) }
+
+  pub behind-all : u ≡ length s / domain f .unit → u < at → Judges (domain f) s at n w
+  behind-all e l = record { judged = λ few k h i. absurd (omega (arith, framed-units (domain f) (reader f) s at n k h i)) }
+
+  pub more-than-all : u ≡ length s / domain f .unit → u - at < n → Judges (domain f) s at n w
+  more-than-all e l = record { judged = λ few k h i. absurd (omega (arith, framed-units (domain f) (reader f) s at n k h i)) }
+
+pub inside-item : (f : Form) (s : List ℕ) (at size u m : ℕ) → size ≤ u - at → at ≤ u → length s ≤ m → u ≡ length s / domain f .unit
+    → m ≡ domain f .limit
+    → Inside (domain f) s at (at + size)
+inside-item f s at size u m h g few e q = inside-units f s at (at + size) u m e q (omega arith) few (omega arith)

@@ -6,16 +6,13 @@ use format::Framed;
 use format::Verdict;
 use judging::MAX_DEPTH;
 ghost use mathlib.Core.Path.{_≡_};
-ghost use mathlib.Core.Bool.{Bool};
-ghost use Prim.Native.Nat.{ℕ, _+_, _*_, _/_, _≤_, _<_};
-ghost use lib.ListN.{length, take, drop};
+ghost use Prim.Native.Nat.{_*_, _/_, _<_};
+ghost use lib.ListN.{drop};
 ghost use Rattle.format.specs.Units.{domain};
 ghost use Rattle.format.specs.Framing.{frameRuled};
-ghost use Rattle.format.specs.Judging.{shift};
-ghost use Rattle.format.specs.Report.{placed, judgeIn};
+ghost use Rattle.format.specs.Report.{placed};
 ghost use Rattle.laws.specs.Levels.{level};
-ghost use Rattle.report_next.specs.Next.{Found};
-ghost use Rattle.report_item.specs.Items.{Inside, moved, Fits, Whole, Judges};
+ghost use Rattle.report_item.specs.Items.{Inside, Here, moved, Near, Finds, Whole, Judges};
 
 // Elements of a stream to a unit.
 pub fn unit(form: Form) -> usize
@@ -72,7 +69,7 @@ pub fn framed(form: Form, s: &[u8], at: usize) -> Framed
 
 // A refusal's place counted on.
 fn moved(f: Framed, by: usize) -> Framed
-    requires { ⌜ (by ≤ 4194304) × ((m p : ℕ) → f ≡ Framed.Unframed m p → p ≤ 4194312) ⌝ }
+    requires { ⌜ Near by f ⌝ }
     ensures { λ r. ⌜ r ≡ moved by f ⌝ }
 {
     match f {
@@ -90,8 +87,8 @@ fn moved(f: Framed, by: usize) -> Framed
 
 // The next item of a group from a unit on, framed and judged by its own checks, with a refusal's place in the stream.
 fn next(form: Form, s: &[u8], levels: usize, first: bool, at: usize, stop: usize) -> Framed
-    requires { ⌜ Inside (domain form) (now s) at stop × (at < stop) ⌝ }
-    ensures { λ r. ⌜ Found (domain form .sextets (now (s .entry))) levels first at stop r ⌝ }
+    requires { ⌜ Here form (now s) at stop ⌝ }
+    ensures { λ r. ⌜ Finds form (now (s .entry)) levels first at stop r ⌝ }
 {
     match form {
         Form::Text => {
@@ -112,7 +109,7 @@ fn next(form: Form, s: &[u8], levels: usize, first: bool, at: usize, stop: usize
 
 // The same of any units: what is past the end or the limit is not framed.
 pub fn found(form: Form, s: &[u8], levels: usize, first: bool, at: usize, stop: usize) -> Framed
-    ensures { λ r. ⌜ Fits levels at stop r × (Inside (domain form) (now (s .entry)) at stop → at < stop → Found (domain form .sextets (now (s .entry))) levels first at stop r) ⌝ }
+    ensures { λ r. ⌜ Finds form (now (s .entry)) levels first at stop r ⌝ }
 {
     if limit(form) < s.len() {
         return Framed::Unframed {

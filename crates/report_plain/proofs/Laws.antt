@@ -1,11 +1,13 @@
 -- Plain primitives of one letter, by how they begin. Assumes nothing.
-use Prim.Native.Nat.{ℕ, zero, suc, _+_, _-_, _*_, _/_, _%_, _≤_, _<_, min}
+use Prim.Native.Nat.{ℕ, zero, suc, _+_, _-_, _*_, _/_, _%_, _^_, _≤_, _<_, min}
 use mathlib.Core.Path.{_≡_, refl, sym, ap, _∙_}
 use mathlib.Core.Bool.{Bool, true, false}
 use mathlib.Core.List.{List}
 use native.Mathlib.Omega.{arith}
 use native.Mathlib.Nat.{mul-comm, mul-le-mul-left, mul-add, le-div-iff-mul-le, min-le-right, pos-of-ne-zero, suc-mul}
 use lib.Dec.{ltb, eqb}
+use mir.Syntax.{w8, w64}
+use mir.Val.{Fits}
 use lib.ListN.{length, getD}
 use lib.Seq.{sets}
 use borrow.Author.Tests.{eqb-true, ltb-true}
@@ -20,11 +22,11 @@ use Rattle.laws.specs.Domains.{reader, binary-reader}
 use Rattle.laws.specs.Local.{binary-sextet}
 use Rattle.runs.specs.Plain.{plainTable, rowOf, plainAt}
 use Rattle.runs.specs.Tables.{value}
-use Rattle.runs.specs.Runs.{Run, plain-by-letter, text-sextet, text-long}
-use Rattle.report_rows.specs.Stores.{runOf}
+use Rattle.runs.specs.Runs.{Run, run-none, plain-by-letter, text-sextet, text-long}
+use Rattle.report_rows.specs.Stores.{runOf, run-start}
 use Rattle.report_rows.specs.Alike.{isAlike, Alike, alike-units}
 use Rattle.report_first.specs.First.{Lent}
-use Rattle.report_plain.specs.Plain.{Like, Behind}
+use Rattle.report_plain.specs.Plain.{Like, Behind, Followed}
 
 both : (a b : Bool) → pick a b false ≡ true → (a ≡ true) × (b ≡ true)
 both true b e = (refl, e)
@@ -73,15 +75,26 @@ in-form f g values rows x size r e L = rw e L
 -- ---- those behind an item
 
 module _ {f : Form} {s : List ℕ} {at size end : ℕ} (W : Behind f s at size end) (u : ℕ) (is-u : u ≡ domain f .unit) where
-  pub end-in : u * end ≤ length s
+  end-in : u * end ≤ length s
   end-in = rw (is-u, mul-comm (domain f .unit) end) (le-div-iff-mul-le (reader f .pos) .0 (W .inside))
 
   -- no element is past the end
   elements-in : (u * at ≤ u * end) × (u * size ≤ u * end) × (u * (at + size) ≤ u * end)
   elements-in = let h = W .fits in (mul-le-mul-left u (omega arith), mul-le-mul-left u (omega arith), mul-le-mul-left u h)
 
-  pub elements-few : (u * size ≤ length s) × (u * (at + size) ≤ length s) × (u * end ≤ length s)
-  elements-few = let e = elements-in in (omega (arith, e .1, end-in), omega (arith, e .2, end-in), end-in)
+  -- nor does its number wrap
+  module _ (l : length s * 1 < 2 ^ 63) where
+    pub size-fits : Fits w64 (u * size)
+    size-fits = omega (arith, elements-in .1, end-in)
+
+    pub from-fits : Fits w64 (u * (at + size))
+    from-fits = omega (arith, elements-in .2, end-in)
+
+    pub end-fits : Fits w64 (u * end)
+    end-fits = omega (arith, end-in)
+
+  pub first-fits : length s * 1 < 2 ^ 63 → Fits w64 (u * at)
+  first-fits l = omega (arith, elements-in .0, end-in)
 
   pub first-in : u * at < length s
   first-in =
@@ -90,7 +103,7 @@ module _ {f : Form} {s : List ℕ} {at size end : ℕ} (W : Behind f s at size e
       let b : 0 < u = rw is-u (reader f .pos) in
       omega (arith, end-in, mul-add u at 1)
 
-  pub followers-are : (values rows : List ℕ) (x limit r : ℕ) → ((j : ℕ) → getD s j 0 < 256) → Like f values rows x size limit → (limit ≡ 0 → ⊥)
+  followers-are : (values rows : List ℕ) (x limit r : ℕ) → ((j : ℕ) → getD s j 0 < 256) → Like f values rows x size limit → (limit ≡ 0 → ⊥)
       → Alike f values s x limit (u * size) (u * (at + size)) (u * end) r → 0 < size → values ≡ sextetTable → rows ≡ plainTable
       → Run (plainAt plainTable (domain f .sextets s)) size end (at + size) r
   followers-are values rows x limit r b L n A p ev er = record { some = p; each = λ j q. each j q }
@@ -107,11 +120,23 @@ module _ {f : Form} {s : List ℕ} {at size end : ℕ} (W : Behind f s at size e
       omega (arith, a .1, suc-mul r size)
 
   -- and their rows
-  pub followers-stored : (values rows out out′ : List ℕ) (row x limit r : ℕ) → ((j : ℕ) → getD s j 0 < 256) → Like f values rows x size limit → (limit ≡ 0 → ⊥)
+  pub followers-stored : (values rows out out′ : List ℕ) (row x limit r : ℕ)
       → (Alike f values s x limit (u * size) (u * (at + size)) (u * end) r) × (out′ ≡ sets out row (concat rowBytes (runOf (u * (at + size)) (u * size) r)))
-      → (r * size ≤ end - (at + size)) × (0 < size → values ≡ sextetTable → rows ≡ plainTable → Run (plainAt plainTable (domain f .sextets s)) size end (at + size) r)
-      × (out′ ≡ sets out row (concat rowBytes (runOf (domain f .unit * (at + size)) (domain f .unit * size) r)))
-  followers-stored values rows out out′ row x limit r b L n A = (followers-end values x limit r (A .0), followers-are values rows x limit r b L n (A .0), rw (← is-u) (A .1))
+      → ((j : ℕ) → Fits w8 (getD s j 0)) → Like f values rows x size limit → (limit ≡ 0 → ⊥)
+      → Followed f values rows s at size end out row r out′
+  followers-stored values rows out out′ row x limit r A b L n = record {
+    few = followers-end values x limit r (A .0);
+    run = followers-are values rows x limit r (λ j. omega (arith, b j)) L n (A .0);
+    stored = rw (← is-u) (A .1);
+  }
+
+pub followed-none : (f : Form) (values rows s : List ℕ) (at size end : ℕ) (out : List ℕ) (row : ℕ)
+    → Followed f values rows s at size end out row 0 out
+followed-none f values rows s at size end out row =
+    record { few = omega arith; run = λ p v e. run-none _ _ _ _ p; stored = run-start _ _ _ _ }
+
+pub behind-fits : {f : Form} {s : List ℕ} {at size end : ℕ} → Behind f s at size end → Fits w64 end → Fits w64 (at + size)
+behind-fits W h = omega (arith, W .fits, h)
 
 -- ---- as far as characters are known
 

@@ -6,14 +6,13 @@ ghost use mathlib.Core.List.{List};
 ghost use Prim.Native.Nat.{ℕ, _+_, _-_, _*_, _/_, _≤_, _<_, min};
 ghost use lib.ListN.{length};
 ghost use lib.Seq.{sets};
-ghost use Rattle.format.specs.Alphabet.{sextetTable};
 ghost use Rattle.format.specs.Units.{domain};
 ghost use Rattle.format.specs.Report.{rowBytes, concat};
 ghost use Rattle.runs.specs.Plain.{plainTable, plainAt};
 ghost use Rattle.runs.specs.Runs.{Run};
 ghost use Rattle.report_rows.specs.Stores.{runOf};
 ghost use Rattle.report_first.specs.First.{Lent};
-ghost use Rattle.report_plain.specs.Plain.{Like, Behind};
+ghost use Rattle.report_plain.specs.Plain.{Like, Behind, Followed};
 
 fn wide(x: u8) -> usize
     ensures { λ r. ⌜ (r ≡ x) × (r < 256) ⌝ }
@@ -79,7 +78,7 @@ fn put_within(
     row: usize,
 ) -> usize
     requires { ⌜ Behind form (now s) at size end ⌝ }
-    ensures { λ r. ⌜ (r * size ≤ end - (at + size)) × (0 < size → now (values .entry) ≡ sextetTable → now (rows .entry) ≡ plainTable → Run (plainAt plainTable (domain form .sextets (now (s .entry)))) size end (at + size) r) × (now (out .exit) ≡ sets (now (out .entry)) row (concat rowBytes (runOf (domain form .unit * (at + size)) (domain form .unit * size) r))) ⌝ }
+    ensures { λ r. ⌜ Followed form (now (values .entry)) (now (rows .entry)) (now (s .entry)) at size end (now (out .entry)) row r (now (out .exit)) ⌝ }
 {
     let u = report_item::unit(form);
     let x = s[u * at];

@@ -1,28 +1,29 @@
 -- Items that begin alike have one size: by their first element, by their first unit. Assumes nothing.
-use Prim.Native.Nat.{ℕ, zero, suc, _+_, _-_, _*_, _/_, _%_, _≤_, _<_, min}
+use Prim.Native.Nat.{ℕ, zero, suc, _+_, _-_, _*_, _/_, _%_, _^_, _≤_, _<_, min}
 use mathlib.Core.Path.{_≡_, refl, sym, ap, _∙_}
 use mathlib.Core.Bool.{Bool, true, false, not}
 use mathlib.Core.List.{List}
 use native.Mathlib.Omega.{arith}
-use native.Mathlib.Nat.{mul-add, mul-le-mul-left, mul-assoc, mul-comm, le-of-mul-le-mul-left, le-div-iff-mul-le, min-le-left, min-le-right}
-use lib.Dec.{eqb, ltb}
+use native.Mathlib.Nat.{mul-add, mul-le-mul-left, mul-assoc, mul-comm, le-of-mul-le-mul-left, le-div-iff-mul-le, min-le-left, min-le-right, pos-of-ne-zero}
+use mir.Syntax.{w64}
+use mir.Val.{Fits}
 use lib.ListN.{length, getD}
-use borrow.Author.Tests.{eq-eqb, ne-eqb, eqb-true, lt-ltb}
+use borrow.Author.Tests.{eqb-true, lt-ltb}
 use Rattle.base.specs.Pick.{pick}
 use Rattle.format.specs.declared.Form.{Form}
 use Rattle.format.specs.declared.Form.the-variants.{Text, Binary}
 use Rattle.format.specs.Alphabet.{sextetOf, sextetTable}
-use Rattle.format.specs.Units.{Domain, domain, textSextets, binarySextets}
+use Rattle.format.specs.Units.{domain, textSextets, binarySextets}
 use Rattle.format.specs.Framing.{sextet}
 use Rattle.laws.specs.Domains.{reader}
 use Rattle.laws.specs.Local.{binary-sextet}
-use Rattle.runs.specs.Plain.{plainTable, rowOf, unitBy, sizedAt, groupAt}
+use Rattle.runs.specs.Plain.{plainTable, rowOf, unitBy, groupAt}
 use Rattle.runs.specs.Tables.{value}
 use Rattle.runs.specs.Levels.{Clear, clear-less}
-use Rattle.runs.specs.Runs.{Run, run-none, run-fits, sized-by-letter, text-sextet, text-long}
+use Rattle.runs.specs.Runs.{Run, run-none, run-fits, sized-by-letter, text-sextet}
 use Rattle.report_first.specs.First.{Lent}
-use Rattle.report_sizes.specs.Sizes.{Tells, sizeAt, same, sameTwo, sameUnit, isLike, likeBy, likeIn, letterBy}
-use Rattle.report_sizes.proofs.Laws.{run-by, tells-group, tells-sized, size-told}
+use Rattle.report_sizes.specs.Sizes.{Tells, sizeAt, same, sameTwo, sameUnit, isLike, likeBy, likeIn, letterBy, Span, Elements, Followers}
+use Rattle.report_sizes.proofs.Laws.{tells-group, tells-sized, size-told}
 
 -- ---- what the tests say
 
@@ -256,31 +257,45 @@ by-binary f s at z = rw z
 pub in-elements : (f : Form) (u a n : ℕ) → u ≡ domain f .unit → a ≤ n / domain f .unit → u * a ≤ n
 in-elements f u a n e h = rw (e, mul-comm (domain f .unit) a) (le-div-iff-mul-le (reader f .pos) .0 h)
 
-pub units-run : (f : Form) (s : List ℕ) (whole : Bool) (u at size stop r : ℕ) → u ≡ domain f .unit → 0 < size
-    → Run (likeBy f s whole (u * at) (u * size)) (u * size) (u * stop) (u * at + u * size) r → Run (likeIn f s whole at size) size stop (at + size) r
-units-run f s whole u at size stop r e p R = in-units f s whole at size stop r p (rw e at R)
+module _ {f : Form} {s : List ℕ} {at size stop : ℕ} (S : Span f s at size stop) {u : ℕ} (e : u ≡ domain f .unit) where
+  pub units-run : (whole : Bool) (r : ℕ) → Run (likeBy f s whole (u * at) (u * size)) (u * size) (u * stop) (u * at + u * size) r
+      → Run (likeIn f s whole at size) size stop (at + size) r
+  units-run whole r R = in-units f s whole at size stop r (S .some) (rw e at R)
 
--- what a run of them asks of its elements
-pub elements-fit : (f : Form) (s : List ℕ) (u at size stop : ℕ) → u ≡ domain f .unit → 0 < size → at + size ≤ stop → stop ≤ length s / domain f .unit
-    → (domain f .unit ≤ u * size) × (u * at + u * size ≤ u * stop) × (u * stop ≤ length s)
-elements-fit f s u at size stop e p h l =
-    let z : u * 1 ≤ u * size = mul-le-mul-left u (omega arith) in
-    let y : u * (at + size) ≤ u * stop = mul-le-mul-left u h in
-    (omega arith, rw (mul-add u at size) at y, in-elements f u stop (length s) e l)
+  -- what a run of them asks of its elements
+  pub elements : Elements f s (u * at) (u * size) (u * stop)
+  elements =
+      let z : u * 1 ≤ u * size = mul-le-mul-left u (S .some) in
+      let y : u * (at + size) ≤ u * stop = mul-le-mul-left u (S .fits) in
+      record { some = omega arith; fits = rw (mul-add u at size) at y; inside = in-elements f u stop (length s) e (S .inside) }
+
+  -- and none of them wraps
+  module _ (l : length s * 1 < 2 ^ 63) where
+    pub at-fits : Fits w64 (u * at)
+    at-fits = omega (arith, elements)
+
+    pub size-fits : Fits w64 (u * size)
+    size-fits = omega (arith, elements)
+
+    pub stop-fits : Fits w64 (u * stop)
+    stop-fits = omega (arith, elements)
 
 -- ---- as far as characters are known
 
-pub no-followers : (f : Form) (s : List ℕ) (whole : Bool) (clean at size : ℕ)
-    → (0 * size ≤ length s / domain f .unit - (at + size)) × (0 < size → Run (likeIn f s whole at size) size (min clean (length s / domain f .unit)) (at + size) 0)
-no-followers f s whole clean at size = (omega arith, λ p. run-none _ _ _ _ p)
+pub no-followers : (f : Form) (s : List ℕ) (whole : Bool) (clean at size : ℕ) → Followers f s whole clean at size 0
+no-followers f s whole clean at size = record { few = omega arith; run = λ p. run-none _ _ _ _ p }
 
 module _ (f : Form) (s : List ℕ) (clean u end : ℕ) (is-u : u ≡ length s / domain f .unit) (is-end : end ≡ min clean u) where
-  pub end-within : end ≤ length s / domain f .unit
+  end-within : end ≤ length s / domain f .unit
   end-within = rw (← is-u, is-end) (min-le-right clean u)
 
+  pub spans : (at size : ℕ) → (size ≡ 0 → ⊥) → at < end → size ≤ end - at → Span f s at size end
+  spans at size p l h = record { some = pos-of-ne-zero p; fits = omega arith; inside = end-within }
+
   pub followed : (whole : Bool) (at size r : ℕ) → Run (likeIn f s whole at size) size end (at + size) r
-      → (r * size ≤ length s / domain f .unit - (at + size)) × (0 < size → Run (likeIn f s whole at size) size (min clean (length s / domain f .unit)) (at + size) r)
-  followed whole at size r R = (run-ends f s whole at size end r (length s / domain f .unit) end-within R, λ p. rw (← is-u, ← is-end) R)
+      → Followers f s whole clean at size r
+  followed whole at size r R =
+      record { few = run-ends f s whole at size end r (length s / domain f .unit) end-within R; run = λ p. rw (← is-u, ← is-end) R }
 
 -- ---- what is said of sizes
 

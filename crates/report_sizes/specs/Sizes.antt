@@ -1,9 +1,9 @@
 -- What is said of an item's size, and of those that follow it. Assumes nothing.
-use Prim.Native.Nat.{ℕ, _+_, _*_, _/_, _≤_, _<_}
+use Prim.Native.Nat.{ℕ, _+_, _-_, _*_, _/_, _≤_, _<_, min}
 use mathlib.Core.Path.{_≡_}
 use mathlib.Core.Bool.{Bool, false}
 use mathlib.Core.List.{List}
-use lib.Dec.{ltb, eqb}
+use lib.Dec.{eqb}
 use lib.ListN.{length, getD, drop}
 use Rattle.base.specs.Pick.{pick}
 use Rattle.format.specs.declared.Form.{Form}
@@ -14,6 +14,7 @@ use Rattle.format.specs.Alphabet.{sextetOf}
 use Rattle.format.specs.Units.{Domain, domain}
 use Rattle.format.specs.Framing.{frameRuled}
 use Rattle.runs.specs.Plain.{groupAt}
+use Rattle.runs.specs.Runs.{Run}
 
 -- the size of a framed item, 0 where it is not framed
 unfoldable pub sizeOf : Framed → ℕ
@@ -59,3 +60,22 @@ likeIn f s whole at size i = pick (isLike f s whole (domain f .unit * at) (domai
 unfoldable pub letterBy : Form → ℕ → ℕ
 letterBy Text x = sextetOf x
 letterBy Binary x = x / 4
+
+-- ---- runs of items that begin alike
+
+-- an item of so many units at a unit, and an end that is within the stream
+pub record Span (f : Form) (s : List ℕ) (at size end : ℕ) : Type 0 where
+  pub some : 0 < size
+  pub fits : at + size ≤ end
+  pub inside : end ≤ length s / domain f .unit
+
+-- the same in elements
+pub record Elements (f : Form) (s : List ℕ) (at size end : ℕ) : Type 0 where
+  pub some : domain f .unit ≤ size
+  pub fits : at + size ≤ end
+  pub inside : end ≤ length s
+
+-- so many like the item at a unit follow it, as far as characters are known
+pub record Followers (f : Form) (s : List ℕ) (whole : Bool) (clean at size r : ℕ) : Type 0 where
+  pub few : r * size ≤ length s / domain f .unit - (at + size)
+  pub run : 0 < size → Run (likeIn f s whole at size) size (min clean (length s / domain f .unit)) (at + size) r

@@ -4,7 +4,7 @@
 use format::Form;
 use format::Framed;
 ghost use mathlib.Core.Path.{_≡_};
-ghost use Prim.Native.Nat.{_+_, _-_, _*_, _/_, _≤_, _<_, min};
+ghost use Prim.Native.Nat.{_+_, _-_, _*_, _/_, _≤_, _<_};
 ghost use lib.ListN.{length, getD};
 ghost use Rattle.format.specs.Alphabet.{sextetTable};
 ghost use Rattle.format.specs.Units.{domain};
@@ -12,7 +12,7 @@ ghost use Rattle.runs.specs.Plain.{groupAt};
 ghost use Rattle.runs.specs.Levels.{Clear};
 ghost use Rattle.runs.specs.Runs.{Run};
 ghost use Rattle.report_first.specs.First.{Lent};
-ghost use Rattle.report_sizes.specs.Sizes.{Grouped, Tells, sizeOf, sizeAt, same, sameTwo, sameUnit, isLike, likeBy, likeIn, letterBy};
+ghost use Rattle.report_sizes.specs.Sizes.{Grouped, Tells, sizeOf, sizeAt, same, sameTwo, sameUnit, isLike, likeBy, likeIn, letterBy, Span, Elements, Followers};
 
 // ---- sizes
 
@@ -157,7 +157,7 @@ fn is_like(form: Form, s: &[u8], whole: bool, p: usize, q: usize) -> bool
 
 // How many items of so many elements follow the one at an element and begin like it, up to another element.
 fn run(form: Form, s: &[u8], whole: bool, at: usize, size: usize, end: usize) -> usize
-    requires { ⌜ (domain form .unit ≤ size) × (at + size ≤ end) × (end ≤ length (now s)) ⌝ }
+    requires { ⌜ Elements form (now s) at size end ⌝ }
     ensures { λ r. ⌜ Run (likeBy form (now (s .entry)) whole at size) size end (at + size) r ⌝ }
 {
     let mut p = at + size;
@@ -174,7 +174,7 @@ fn run(form: Form, s: &[u8], whole: bool, at: usize, size: usize, end: usize) ->
 
 // The same in units.
 fn run_units(form: Form, s: &[u8], whole: bool, at: usize, size: usize, end: usize) -> usize
-    requires { ⌜ (0 < size) × (at + size ≤ end) × (end ≤ length (now s) / domain form .unit) ⌝ }
+    requires { ⌜ Span form (now s) at size end ⌝ }
     ensures { λ r. ⌜ Run (likeIn form (now (s .entry)) whole at size) size end (at + size) r ⌝ }
 {
     let u = report_item::unit(form);
@@ -183,7 +183,7 @@ fn run_units(form: Form, s: &[u8], whole: bool, at: usize, size: usize, end: usi
 
 // And as far as characters are known.
 fn followers(form: Form, s: &[u8], whole: bool, clean: usize, at: usize, size: usize) -> usize
-    ensures { λ r. ⌜ (r * size ≤ length (now (s .entry)) / domain form .unit - (at + size)) × (0 < size → Run (likeIn form (now (s .entry)) whole at size) size (min clean (length (now (s .entry)) / domain form .unit)) (at + size) r) ⌝ }
+    ensures { λ r. ⌜ Followers form (now (s .entry)) whole clean at size r ⌝ }
 {
     let end = report_first::least(clean, report_item::units(form, s.len()));
     if size == 0 {

@@ -1,12 +1,12 @@
 -- A turn of the report's loop, over either form, u elements to the unit: by the general way, by the fast way, and a run of like items.
 -- Assumes nothing.
 use Prim.Native.Nat.{ℕ, zero, suc, _+_, _-_, _*_, _/_, _≤_, _<_, min}
-use mathlib.Core.Path.{_≡_, refl, sym, ap, _∙_}
-use mathlib.Core.Bool.{Bool, true}
+use mathlib.Core.Path.{_≡_, sym, ap, _∙_}
+use mathlib.Core.Bool.{true}
 use mathlib.Core.List.{List, [], _∷_, _++_}
 use native.Mathlib.Omega.{arith}
-use native.Mathlib.Nat.{mul-comm, mul-add, mul-le-mul-left, suc-mul, le-div-iff-mul-le, min-le-left, min-le-right}
-use lib.ListN.{length, take, drop, length-append, length-drop}
+use native.Mathlib.Nat.{mul-comm, mul-add, mul-le-mul-left, le-div-iff-mul-le, min-le-left, min-le-right}
+use lib.ListN.{length, take, drop, length-drop}
 use lib.Seq.{sets, length-sets}
 use Rattle.format.specs.declared.Form.{Form}
 use Rattle.format.specs.declared.Form.the-variants.{Text, Binary}
@@ -18,12 +18,11 @@ use Rattle.format.specs.declared.Verdict.the-variants.{Accepted}
 use Rattle.format.specs.Units.{Domain, domain}
 use Rattle.format.specs.Framing.{frameRuled, scale}
 use Rattle.format.specs.Judging.{shift, maxDepth}
-use Rattle.format.specs.Report.{rowsIn, frameIn, judgeIn, be4, rowBytes, verdictByte, refusalBytes, refusal, concat}
-use Rattle.damage.specs.Words.{Frames}
+use Rattle.format.specs.Report.{frameIn, judgeIn, be4, rowBytes, verdictByte, refusalBytes, refusal, concat}
 use Rattle.laws.specs.Domains.{reader}
 use Rattle.laws.specs.Frames.{frames}
 use Rattle.laws.specs.Levels.{Taken}
-use Rattle.runs.specs.Plain.{plainTable, plainAt, groupAt}
+use Rattle.runs.specs.Plain.{plainTable, plainAt}
 use Rattle.runs.specs.Levels.{Clear, clear-less, plain-taken}
 use Rattle.runs.specs.Runs.{Run}
 use Rattle.report_item.specs.Items.{Inside, Judges}
@@ -35,10 +34,10 @@ use Rattle.report_sizes.specs.Sizes.{sizeOf, sizeAt}
 use Rattle.report_sizes.proofs.Laws.{size-fits}
 use Rattle.report_rows.specs.Stores.{put, put-fits, rowWith, runOf, concat-long, row-long, refusal-long}
 use Rattle.report_rows.specs.Alike.{in-elements}
-use Rattle.report_filling.specs.Filling.{refusal-few, turn, filled-room, filled-more, filled-good, filled-few, filled-run, run-room}
+use Rattle.report_filling.specs.Filling.{refusal-few, turn, filled-room, filled-more, filled-good, filled-few, filled-run}
 use Rattle.report_turn.specs.declared.Turn.{Turn}
 use Rattle.report_turn.specs.declared.Turn.the-variants.{Stored, Rest}
-use Rattle.report_turn.specs.Turns.{Fill, Filling, After, Placed, Turned}
+use Rattle.report_turn.specs.Turns.{Fill, Filling, After, Placed, Turned, Turns}
 
 -- ---- places
 
@@ -149,7 +148,7 @@ module _ {f : Form} {u : ℕ} {s : List ℕ} {n a i k : ℕ} {out : List ℕ} (�
         → (o : List ℕ) → Fill f s o n (u * a) i k out → After f u s o n a i k (Stored m 1 b) out′
     judged-turn v J b eb out′ c o φ =
         let w = item-fits f u (Φ .unit) s a t (h * u) m (Φ .here) here-in in
-        let j : v ≡ shift (u * a) (judgeIn (domain f) (take (u * m) (drop (u * a) s))) = rw (Φ .unit) (J (Φ .few) t h e) in
+        let j : v ≡ shift (u * a) (judgeIn (domain f) (take (u * m) (drop (u * a) s))) = rw (Φ .unit) (J .judged (Φ .few) t h e) in
         (w .0, w .1, rw (mul-add u a m, eb, stored-is v out′ c) (filled-more (frameIn (domain f)) (judgeIn (domain f)) (frames (domain f) (reader f)) rowBytes 9 row-long s o n (Φ .count) (u * a) i k out φ here-in v j))
 
   pub rest-turn : (g : Framed) → g ≡ frameRuled (domain f .sextets (drop (domain f .unit * a) s)) → (m p : ℕ) → g ≡ Unframed m p → (o : List ℕ)
@@ -237,6 +236,8 @@ module _ {f : Form} {u : ℕ} {s : List ℕ} {n a i k : ℕ} {out : List ℕ} (�
       let m : a ≤ length s / domain f .unit = le-div-iff-mul-le (reader f .pos) .1 l in
       omega arith
 
-pub by-unit : (f : Form) (u : ℕ) (s : List ℕ) (n a i k : ℕ) (out : List ℕ) (r : Turn) (out′ : List ℕ) → u ≡ domain f .unit → Turned f u s n a i k out r out′
-    → Turned f (domain f .unit) s n a i k out r out′
-by-unit f u s n a i k out r out′ e T = rw (← e) T
+pub by-unit : (f : Form) (u : ℕ) (values classes rows s : List ℕ) (n clean a i k : ℕ) (out : List ℕ) (r : Turn) (out′ : List ℕ)
+    → u ≡ domain f .unit
+    → (Lent values classes rows → Clear (domain f .sextets s) a clean → Turned f u s n a i k out r out′)
+    → Turns f values classes rows s n clean a i k out r out′
+by-unit f u values classes rows s n clean a i k out r out′ e T = record { right = λ L K. rw (← e) (T L K) }

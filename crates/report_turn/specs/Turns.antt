@@ -9,6 +9,8 @@ use Rattle.format.specs.Units.{domain}
 use Rattle.format.specs.Report.{rowsIn, frameIn, judgeIn, rowBytes}
 use Rattle.laws.specs.Domains.{reader}
 use Rattle.laws.specs.Frames.{frames}
+use Rattle.runs.specs.Levels.{Clear}
+use Rattle.report_first.specs.First.{Lent}
 use Rattle.report_rows.specs.Stores.{row-long}
 use Rattle.report_filling.specs.Filling.{Filled}
 use Rattle.report_turn.specs.declared.Turn.{Turn}
@@ -43,3 +45,7 @@ pub record Placed (f : Form) (u : ℕ) (s : List ℕ) (n a i k : ℕ) : Type 0 w
 
 abbrev pub Turned : Form → ℕ → List ℕ → ℕ → ℕ → ℕ → ℕ → List ℕ → Turn → List ℕ → Type 0
 Turned f u s n a i k out r out′ = Filling f u s n a i k out → (o : List ℕ) → Fill f s o n (u * a) i k out → After f u s o n a i k r out′
+
+-- and right where the tables are and characters are known
+pub record Turns (f : Form) (values classes rows s : List ℕ) (n clean a i k : ℕ) (out : List ℕ) (r : Turn) (out′ : List ℕ) : Type 0 where
+  pub right : Lent values classes rows → Clear (domain f .sextets s) a clean → Turned f (domain f .unit) s n a i k out r out′

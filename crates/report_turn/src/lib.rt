@@ -14,7 +14,7 @@ ghost use Rattle.runs.specs.Plain.{groupAt};
 ghost use Rattle.runs.specs.Levels.{Clear};
 ghost use Rattle.report_first.specs.First.{Lent};
 ghost use Rattle.report_fast.specs.Fast.{Good};
-ghost use Rattle.report_turn.specs.Turns.{Placed, Turned};
+ghost use Rattle.report_turn.specs.Turns.{Placed, Turned, Turns};
 
 // What a turn stored: rows of so many items, of which so many are refused, up to so many units further on; or nothing, for this reason.
 pub enum Turn {
@@ -190,7 +190,7 @@ pub fn put_turn(
     i: usize,
     k: usize,
 ) -> Turn
-    ensures { λ r. ⌜ (Lent (now (values .entry)) (now (classes .entry)) (now (rows .entry)) → Clear (domain form .sextets (now (s .entry))) a clean → Turned form (domain form .unit) (now (s .entry)) n a i k (now (out .entry)) r (now (out .exit))) ⌝ }
+    ensures { λ r. ⌜ Turns form (now (values .entry)) (now (classes .entry)) (now (rows .entry)) (now (s .entry)) n clean a i k (now (out .entry)) r (now (out .exit)) ⌝ }
 {
     // Places that no report has in such a buffer; no refusal's number is 0.
     if out.len() / 18 < n {

@@ -10,10 +10,10 @@
 use exports_values::MARK;
 use exports_values::STATE;
 use libc::STDIN_FILENO;
-use reader::BinaryEnd;
-use reader::TextEnd;
 use recorded::number;
 use recorded::wide;
+use walk_count::BinaryEnd;
+use walk_count::TextEnd;
 use walk_state::BinaryItem;
 use walk_state::TextItem;
 use walk_state::Walk;
@@ -118,7 +118,7 @@ fn step(call: u8, stream: &[u8], before: [usize; STATE]) {
 
 // A step of a text through a reader.
 fn read_step_text(stream: &[u8], before: Walk) {
-    let step = reader::step_text(stream, before);
+    let step = reader_step::step_text(stream, before);
     let found = step.found;
     let state = exports_values::state_of(step.next);
     match found {
@@ -139,7 +139,7 @@ fn read_step_text(stream: &[u8], before: Walk) {
 
 // The same of a binary.
 fn read_step_binary(stream: &[u8], before: Walk) {
-    let step = reader::step_binary(stream, before);
+    let step = reader_step::step_binary(stream, before);
     let found = step.found;
     let state = exports_values::state_of(step.next);
     match found {
@@ -167,7 +167,7 @@ fn show_count(call: u8, number: u8, value: usize, items: usize) {
 // The items that are left, counted.
 fn rest(call: u8, stream: &[u8], before: Walk) {
     if call == 9 {
-        let tally = reader::rest_text(stream, before);
+        let tally = walk_count::rest_text(stream, before);
         let items = tally.items;
         let end = tally.end;
         match end {
@@ -176,7 +176,7 @@ fn rest(call: u8, stream: &[u8], before: Walk) {
         }
         return;
     }
-    let tally = reader::rest_binary(stream, before);
+    let tally = walk_count::rest_binary(stream, before);
     let items = tally.items;
     let end = tally.end;
     match end {

@@ -28,12 +28,14 @@ use Rattle.judging.specs.Own.{toldBy}
 use Rattle.report_next.specs.Next.{ownOf, nextOwn, isEntered, isRuled}
 use Rattle.report_next.proofs.Laws.{own-item, may-enter, next-near}
 use Rattle.walk_state.specs.declared.Walk.{Walk}
+use Rattle.walk_state.specs.declared.Found.{Found}
 use Rattle.walk_state.specs.declared.Found.the-variants as F
 use Rattle.walk_state.specs.declared.Stepped.{Stepped}
-use Rattle.walk_state.specs.Walking.{isFit, closed, movedTo, opened, past, nextOf, stopOf, judged, framedBy, frameAt, stepFit, step, foundIn, stepIn}
+use Rattle.walk_state.specs.Walking.{isFit, closed, movedTo, opened, past, nextOf, stopOf, judged, framedBy, frameAt}
+use Rattle.walk_state.specs.Walking.{stepFit, step, foundIn, stepIn}
 use Rattle.walk_state.specs.Moving.{stepOver}
 use Rattle.walk_state.proofs.Laws.{steps-into, steps-past}
-use Rattle.walk.specs.Stepping.{barredBy, isAsked, foundBy, partStep, reach, Slotted, Ready, InReach}
+use Rattle.walk.specs.Stepping.{isAsked, foundBy, partStep, unitsIn, reach, Slotted, Ready, Spans, Fits, Measured, InReach}
 use Rattle.walk.proofs.Fitting.{fit-few, fit-there, fit-stop, fit-ahead}
 
 -- ---- the next state
@@ -105,7 +107,8 @@ by-part w s b (Item k h′ n) h long e =
     rw (c, part-take s (w .at) n b i) (judged-told w k h′ n _)
 
 -- a part of a stream within the limit
-part-few : (w : Walk) (s : List ℕ) (n : ℕ) → isFit w n ≡ true → 4 * n ≤ length s → 4 * n ≤ reach → length (part s (w .at) (stopOf w n)) ≤ reach
+part-few : (w : Walk) (s : List ℕ) (n : ℕ) → isFit w n ≡ true → 4 * n ≤ length s → 4 * n ≤ reach
+    → length (part s (w .at) (stopOf w n)) ≤ reach
 part-few w s n fit whole b = omega (arith, part-length s (w .at) (stopOf w n) (omega (arith, fit-stop w n fit)), fit-stop w n fit)
 
 module _ (w : Walk) (s : List ℕ) (n : ℕ) (tail : Bool) (fit : isFit w n ≡ true) (whole : 4 * n ≤ length s) where
@@ -113,7 +116,8 @@ module _ (w : Walk) (s : List ℕ) (n : ℕ) (tail : Bool) (fit : isFit w n ≡ 
   unfolding stepFit partStep nextOwn
   fit-step ne =
       rw (ne-eqb (w .at) n ne, asked-frame w (part s (w .at) (stopOf w n)))
-      (by-part w s (stopOf w n) (frameNext (isAsked w) (part s (w .at) (stopOf w n))) (omega (arith, fit-ahead w n fit ne)) (omega (arith, fit-stop w n fit)) refl)
+      (by-part w s (stopOf w n) (frameNext (isAsked w) (part s (w .at) (stopOf w n))) (omega (arith, fit-ahead w n fit ne))
+      (omega (arith, fit-stop w n fit)) refl)
 
   at-end : w .at ≡ n → stepFit s n tail w ≡ record { next = w; found = pick tail (F.Refused 4 (4 * w .at)) F.End }
   unfolding stepFit
@@ -128,13 +132,6 @@ module _ (w : Walk) (s : List ℕ) (n : ℕ) (tail : Bool) (fit : isFit w n ≡ 
 
 -- ---- the same in a form
 
--- whole units, and whether elements stand behind them
-abbrev pub unitsIn : Domain → List ℕ → ℕ
-unitsIn d xs = length xs / d .unit
-
-abbrev pub tailIn : Domain → List ℕ → Bool
-tailIn d xs = ltb 0 (length xs % d .unit)
-
 -- a stream of either form within its limit
 near-units : (form : Form) (xs : List ℕ) → length xs ≤ domain form .limit → 4 * unitsIn (domain form) xs ≤ reach
 near-units Text xs h = omega arith
@@ -144,63 +141,57 @@ whole-units : (form : Form) (xs : List ℕ) (k : ℕ) → k ≤ unitsIn (domain 
 whole-units Text xs k h = omega arith
 whole-units Binary xs k h = omega arith
 
-module _ (form : Form) (xs : List ℕ) (n : ℕ) (w : Walk) (few : length xs ≤ domain form .limit) (en : n ≡ unitsIn (domain form) xs) (fit : isFit w n ≡ true) where
+module _ (form : Form) (xs : List ℕ) (n : ℕ) (w : Walk) (H : Fits form xs n w) where
   near : 4 * n ≤ reach
-  near = rw en (near-units form xs few)
+  near = rw (H .units) (near-units form xs (H .few))
 
   whole : 4 * n ≤ length (domain form .sextets xs)
-  whole = rw (en, ← (reader form .units xs)) (omega arith)
+  whole = rw (H .units, ← (reader form .units xs)) (omega arith)
 
   pub at-near : w .at ≤ reach
-  at-near = omega (arith, near, fit-there w n fit)
+  at-near = omega (arith, near, fit-there w n (H .fit))
 
   pub ends : (tail : Bool) (r : Stepped) → w .at ≡ n → r ≡ record { next = w; found = pick tail (F.Refused 4 (4 * w .at)) F.End }
       → r ≡ stepFit (domain form .sextets xs) n tail w
-  ends tail r e p = p ∙ sym (at-end w (domain form .sextets xs) n tail fit whole e)
+  ends tail r e p = p ∙ sym (at-end w (domain form .sextets xs) n tail (H .fit) whole e)
 
   module _ (ne : w .at ≡ n → ⊥) (stop : ℕ) (es : stop ≡ stopOf w n) where
-    -- what the next item is asked by
-    pub spans : (w .depth ≤ maxDepth) × (w .at ≤ stop) × (domain form .unit * stop ≤ length xs) × (length xs ≤ domain form .limit)
-    spans =
-        (fit-few w n fit, omega (arith, fit-ahead w n fit ne), whole-units form xs stop (omega (arith, fit-stop w n fit)), few)
+    pub spans : Spans form xs w stop
+    spans = record {
+      slots = fit-few w n (H .fit);
+      order = omega (arith, fit-ahead w n (H .fit) ne);
+      room = whole-units form xs stop (omega (arith, fit-stop w n (H .fit), H .units));
+      few = H .few;
+    }
 
     module _ (item : Framed) (ei : item ≡ nextOwn (isAsked w) (part (domain form .sextets xs) (w .at) stop) (maxDepth - w .depth)) where
       pub goes-ready : Ready w item
-      goes-ready = ready w _ item (rw es (part-few w (domain form .sextets xs) n fit whole near)) ei
+      goes-ready = ready w _ item (rw es (part-few w (domain form .sextets xs) n (H .fit) whole near)) ei
 
       pub goes-on : (tail : Bool) (r : Stepped) → r ≡ foundBy w item → r ≡ stepFit (domain form .sextets xs) n tail w
       unfolding partStep
-      goes-on tail r e = e ∙ rw (ei, es) (sym (fit-step w (domain form .sextets xs) n tail fit whole ne))
+      goes-on tail r e = e ∙ rw (ei, es) (sym (fit-step w (domain form .sextets xs) n tail (H .fit) whole ne))
 
   pub reaches : (tail : Bool) (r : Stepped) → r ≡ stepFit (domain form .sextets xs) n tail w → InReach (r .found)
-  reaches tail r e = rw e (step-reach w (domain form .sextets xs) n tail fit whole near)
+  reaches tail r e = rw e (step-reach w (domain form .sextets xs) n tail (H .fit) whole near)
 
 -- ---- 1 before 13
 
-module _ (d : Domain) (xs : List ℕ) (w : Walk) (number : ℕ) (e : number ≡ barredBy (ltb (d .limit) (length xs)) (unitsIn d xs) w) where
-  -- the number, by the two tests
-  told : (over fit : Bool) → ltb (d .limit) (length xs) ≡ over → isFit w (unitsIn d xs) ≡ fit → number ≡ pick over 1 (pick fit 0 13)
-  unfolding barredBy
-  told over fit o f = e ∙ ap (λ (b : Bool). pick b 1 (pick (isFit w (unitsIn d xs)) 0 13)) o ∙ ap (λ (b : Bool). pick over 1 (pick b 0 13)) f
+module _ (form : Form) (xs : List ℕ) (over : Bool) (n : ℕ) (tail : Bool) (m : Measured form xs over n tail) (w : Walk) where
+  pub too-long : over ≡ true → record { next = w; found = F.Refused 1 0 } ≡ stepIn (domain form) xs w
+  unfolding stepIn
+  too-long o = rw (← (m .limit), o)
 
-  pub barred : (number ≡ 0 → ⊥) → stepIn d xs w ≡ record { next = w; found = F.Refused number 0 }
-  unfolding stepIn step foundIn
-  barred ne =
-      let z : 0 * d .unit + 0 ≡ 0 = omega arith in
-      ⊎-elim (λ o. rw (told true _ o refl, o))
-      (λ o. ⊎-elim (λ f. absurd (ne (told false true o f))) (λ f. rw (told false false o f, o, f, z)) (whether (isFit w (unitsIn d xs))))
-      (whether (ltb (d .limit) (length xs)))
+  module _ (o : over ≡ false) where
+    pub unfit : isFit w n ≡ false → record { next = w; found = F.Refused 13 0 } ≡ stepIn (domain form) xs w
+    unfolding stepIn step foundIn
+    unfit f = let z : 0 * domain form .unit + 0 ≡ 0 = omega arith in rw (← (m .limit), o, ← (m .units), f, z)
 
-  free : number ≡ 0 → (ltb (d .limit) (length xs) ≡ false) × (isFit w (unitsIn d xs) ≡ true)
-  free n =
-      ⊎-elim (λ o. let z : number ≡ 1 = told true (isFit w (unitsIn d xs)) o refl in absurd (omega arith))
-      (λ o. ⊎-elim (λ f. (o, f)) (λ f. let z : number ≡ 13 = told false false o f in absurd (omega arith)) (whether (isFit w (unitsIn d xs))))
-      (whether (ltb (d .limit) (length xs)))
+    pub fits : isFit w n ≡ true → Fits form xs n w
+    fits f = record { few = ltb-false (domain form .limit) (length xs) (sym (m .limit) ∙ o); units = m .units; fit = f }
 
-  pub freed : number ≡ 0 → (length xs ≤ d .limit) × (isFit w (unitsIn d xs) ≡ true)
-  freed n = let f = free n in (ltb-false (d .limit) (length xs) (f .0), f .1)
-
-  pub stepped : (r : Stepped) → number ≡ 0 → r ≡ stepFit (d .sextets xs) (unitsIn d xs) (tailIn d xs) w
-      → stepIn d xs w ≡ record { next = r .next; found = foundIn (d .unit) (r .found) }
-  unfolding stepIn step
-  stepped r n q = let f = free n in rw (f .0, f .1, q)
+    pub stepped : isFit w n ≡ true → (r : Stepped) → r ≡ stepFit (domain form .sextets xs) n tail w → (f : Found)
+        → f ≡ foundIn (domain form .unit) (r .found) → record { next = r .next; found = f } ≡ stepIn (domain form) xs w
+    unfolding stepIn step
+    stepped fit r er f ef =
+        rw (← (m .limit), o, ← (m .units), fit, ← (m .rest), ← er) (ap (λ (x : Found). record { next = r .next; found = x }) ef)

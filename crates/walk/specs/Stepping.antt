@@ -1,14 +1,16 @@
 -- What the step's functions answer, in the shape of the code: proofs/Steps shows that Walking's steps are made of them. Assumes nothing.
-use Prim.Native.Nat.{ℕ, _+_, _-_, _*_, _≤_, _<_}
+use Prim.Native.Nat.{ℕ, _+_, _-_, _*_, _/_, _%_, _≤_, _<_}
 use mathlib.Core.Path.{_≡_}
 use mathlib.Core.List.{List}
 use mathlib.Core.Bool.{Bool, true}
-use lib.Dec.{eqb}
+use lib.ListN.{length}
+use lib.Dec.{ltb, eqb}
 use Rattle.base.specs.Pick.{pick}
 use Rattle.format.specs.declared.Kind.{Kind}
 use Rattle.format.specs.declared.Framed.{Framed}
 use Rattle.format.specs.declared.Framed.the-variants.{Item, Unframed}
-use Rattle.format.specs.Units.{text}
+use Rattle.format.specs.declared.Form.{Form}
+use Rattle.format.specs.Units.{Domain, domain, text}
 use Rattle.format.specs.Judging.{maxDepth}
 use Rattle.report_next.specs.Next.{nextOwn, isEntered}
 use Rattle.walk_state.specs.declared.Walk.{Walk}
@@ -16,10 +18,6 @@ use Rattle.walk_state.specs.declared.Found.{Found}
 use Rattle.walk_state.specs.declared.Found.the-variants as F
 use Rattle.walk_state.specs.declared.Stepped.{Stepped}
 use Rattle.walk_state.specs.Walking.{isFit, nextOf}
-
--- 1 before 13; 0 where neither is given
-unfoldable pub barredBy : Bool → ℕ → Walk → ℕ
-barredBy over n w = pick over 1 (pick (isFit w n) 0 13)
 
 -- 7 is asked at top level, and where the mark is set
 unfoldable pub isAsked : Walk → Bool
@@ -33,6 +31,13 @@ foundBy w (Item k h n) = record { next = nextOf w k h n; found = F.Item (w .at) 
 -- a step over a part, from the position to where the innermost group ends
 unfoldable pub partStep : Walk → List ℕ → Stepped
 partStep w s = foundBy w (nextOwn (isAsked w) s (maxDepth - w .depth))
+
+-- a stream's whole units, and whether elements stand behind them
+abbrev pub unitsIn : Domain → List ℕ → ℕ
+unitsIn d xs = length xs / d .unit
+
+abbrev pub tailIn : Domain → List ℕ → Bool
+tailIn d xs = ltb 0 (length xs % d .unit)
 
 -- ---- what private functions ask: no number that they make passes a word
 
@@ -48,6 +53,25 @@ Slotted k d = isEntered k ≡ true → d < maxDepth
 abbrev pub Ready : Walk → Framed → Type 0
 Ready w (Unframed m p) = p ≤ reach + 8
 Ready w (Item k h n) = (h ≤ n) × (n ≤ reach) × Slotted k (w .depth)
+
+-- where the next item is looked for: from the position to stop, in a stream within its limit
+pub record Spans (form : Form) (xs : List ℕ) (w : Walk) (stop : ℕ) : Type 0 where
+  pub slots : w .depth ≤ maxDepth
+  pub order : w .at ≤ stop
+  pub room : domain form .unit * stop ≤ length xs
+  pub few : length xs ≤ domain form .limit
+
+-- a state that fits a stream of n whole units
+pub record Fits (form : Form) (xs : List ℕ) (n : ℕ) (w : Walk) : Type 0 where
+  pub few : length xs ≤ domain form .limit
+  pub units : n ≡ unitsIn (domain form) xs
+  pub fit : isFit w n ≡ true
+
+-- what a stream's length says
+pub record Measured (form : Form) (xs : List ℕ) (over : Bool) (n : ℕ) (tail : Bool) : Type 0 where
+  pub limit : over ≡ ltb (domain form .limit) (length xs)
+  pub units : n ≡ unitsIn (domain form) xs
+  pub rest : tail ≡ tailIn (domain form) xs
 
 abbrev pub InReach : Found → Type 0
 InReach (F.Item o n d k h) = (o ≤ reach) × (n ≤ reach)

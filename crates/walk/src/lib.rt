@@ -13,17 +13,15 @@ use walk_state::TextItem;
 use walk_state::TextStep;
 use walk_state::Walk;
 ghost use mathlib.Core.Path.{_≡_};
-ghost use mathlib.Core.Bool.{true};
-ghost use Prim.Native.Nat.{_+_, _-_, _*_, _/_, _≤_};
-ghost use lib.ListN.{length};
+ghost use Prim.Native.Nat.{_+_, _-_, _*_, _/_, _%_, _≤_};
 ghost use Rattle.base.specs.Pick.{pick};
 ghost use Rattle.format.specs.Units.{domain};
 ghost use Rattle.format.specs.Judging.{maxDepth};
 ghost use Rattle.laws.specs.Levels.{part};
 ghost use Rattle.report_next.specs.Next.{nextOwn};
 ghost use Rattle.walk_state.specs.declared.Found.the-variants as Found;
-ghost use Rattle.walk_state.specs.Walking.{isFit, stepFit, foundIn, textItem, textStep, binaryItem, binaryStep};
-ghost use Rattle.walk.specs.Stepping.{barredBy, isAsked, foundBy, reach, Ready, InReach};
+ghost use Rattle.walk_state.specs.Walking.{stepFit, foundIn, stepIn, textItem, textStep, binaryItem, binaryStep};
+ghost use Rattle.walk.specs.Stepping.{isAsked, foundBy, reach, Ready, Spans, Fits, Measured, InReach};
 
 // The longest streams: 1.
 const MAX_CHARACTERS: usize = 4194304;
@@ -41,7 +39,7 @@ fn is_asked(w: Walk) -> bool
 
 // The next item up to where its group ends, framed and judged by its own checks, or its refusal.
 fn next_item(w: Walk, form: Form, s: &[u8], stop: usize) -> Framed
-    requires { ⌜ (w .depth ≤ maxDepth) × (w .at ≤ stop) × (domain form .unit * stop ≤ length (now s)) × (length (now s) ≤ domain form .limit) ⌝ }
+    requires { ⌜ Spans form (now s) w stop ⌝ }
     ensures { λ r. ⌜ r ≡ nextOwn (isAsked w) (part (domain form .sextets (now (s .entry))) (w .at) stop) (maxDepth - w .depth) ⌝ }
 {
     let asked = is_asked(w);
@@ -119,7 +117,7 @@ fn ended(w: Walk, tail: bool) -> Stepped
 // The step of a state that fits a stream of n whole units; tail: elements of one more stand behind them. Offset and size are in units,
 // the place in sextets.
 fn step_fit(w: Walk, form: Form, s: &[u8], n: usize, tail: bool) -> Stepped
-    requires { ⌜ (length (now s) ≤ domain form .limit) × (n ≡ length (now s) / domain form .unit) × (isFit w n ≡ true) ⌝ }
+    requires { ⌜ Fits form (now s) n w ⌝ }
     ensures { λ r. ⌜ r ≡ stepFit (domain form .sextets (now (s .entry))) n tail w ⌝ }
 {
     if w.at == n {
@@ -129,11 +127,117 @@ fn step_fit(w: Walk, form: Form, s: &[u8], n: usize, tail: bool) -> Stepped
     yielded(w, item)
 }
 
-// ---- units and sextets as offsets of a form
+// ---- units and sextets as elements of a form
+
+// So many units.
+fn elements(form: Form, units: usize) -> usize
+    requires { ⌜ units ≤ reach ⌝ }
+    ensures { λ r. ⌜ r ≡ units * domain form .unit ⌝ }
+{
+    match form {
+        Form::Text => units * 4,
+        Form::Binary => units * 3,
+    }
+}
+
+// The place of a sextet.
+fn place_in(form: Form, place: usize) -> usize
+    ensures { λ r. ⌜ r ≡ place / 4 * domain form .unit + place % 4 ⌝ }
+{
+    match form {
+        Form::Text => place / 4 * 4 + place % 4,
+        Form::Binary => place / 4 * 3 + place % 4,
+    }
+}
+
+fn found_in(form: Form, found: Found) -> Found
+    requires { ⌜ InReach found ⌝ }
+    ensures { λ r. ⌜ r ≡ foundIn (domain form .unit) found ⌝ }
+{
+    match found {
+        Found::Item {
+            offset,
+            size,
+            depth,
+            kind,
+            head,
+        } => Found::Item {
+            offset: elements(form, offset),
+            size: elements(form, size),
+            depth,
+            kind,
+            head,
+        },
+        Found::Refused { number, place } => Found::Refused {
+            number,
+            place: place_in(form, place),
+        },
+        Found::End => found,
+    }
+}
+
+// ---- a step over a stream
+
+// over: the stream is longer than its form's limit; n: its whole units; tail: elements stand behind them.
+fn step_by(w: Walk, form: Form, s: &[u8], over: bool, n: usize, tail: bool) -> Stepped
+    requires { ⌜ Measured form (now s) over n tail ⌝ }
+    ensures { λ r. ⌜ r ≡ stepIn (domain form) (now (s .entry)) w ⌝ }
+{
+    if over {
+        return Stepped {
+            next: w,
+            found: Found::Refused {
+                number: 1,
+                place: 0,
+            },
+        };
+    }
+    if !w.is_fit(n) {
+        return Stepped {
+            next: w,
+            found: Found::Refused {
+                number: 13,
+                place: 0,
+            },
+        };
+    }
+    let r = step_fit(w, form, s, n, tail);
+    let next = r.next;
+    let found = r.found;
+    Stepped {
+        next,
+        found: found_in(form, found),
+    }
+}
+
+// The next item at any depth, the first refusal or the end, with the next state. Offset, size and place count the stream's elements.
+pub fn step_in(w: Walk, form: Form, s: &[u8]) -> Stepped
+    ensures { λ r. ⌜ r ≡ stepIn (domain form) (now (s .entry)) w ⌝ }
+{
+    match form {
+        Form::Text => step_by(
+            w,
+            form,
+            s,
+            MAX_CHARACTERS < s.len(),
+            s.len() / 4,
+            0 < s.len() % 4,
+        ),
+        Form::Binary => step_by(
+            w,
+            form,
+            s,
+            MAX_BYTES < s.len(),
+            s.len() / 3,
+            0 < s.len() % 3,
+        ),
+    }
+}
+
+// ---- in a form's own offsets
 
 fn text_item(found: Found) -> TextItem
-    requires { ⌜ InReach found ⌝ }
-    ensures { λ r. ⌜ r ≡ textItem (foundIn 4 found) ⌝ }
+    ensures { λ r. ⌜ r ≡ textItem found ⌝ }
 {
     match found {
         Found::Item {
@@ -143,8 +247,8 @@ fn text_item(found: Found) -> TextItem
             kind,
             head,
         } => TextItem::Item {
-            offset: TextOffset(offset * 4),
-            size: TextOffset(size * 4),
+            offset: TextOffset(offset),
+            size: TextOffset(size),
             depth,
             kind,
             head,
@@ -157,9 +261,21 @@ fn text_item(found: Found) -> TextItem
     }
 }
 
+// A step over a text.
+pub fn step_text(w: Walk, s: &[u8]) -> TextStep
+    ensures { λ r. ⌜ r ≡ textStep (now (s .entry)) w ⌝ }
+{
+    let r = step_in(w, Form::Text, s);
+    let next = r.next;
+    let found = r.found;
+    TextStep {
+        next,
+        found: text_item(found),
+    }
+}
+
 fn binary_item(found: Found) -> BinaryItem
-    requires { ⌜ InReach found ⌝ }
-    ensures { λ r. ⌜ r ≡ binaryItem (foundIn 3 found) ⌝ }
+    ensures { λ r. ⌜ r ≡ binaryItem found ⌝ }
 {
     match found {
         Found::Item {
@@ -169,72 +285,25 @@ fn binary_item(found: Found) -> BinaryItem
             kind,
             head,
         } => BinaryItem::Item {
-            offset: BinaryOffset(offset * 3),
-            size: BinaryOffset(size * 3),
+            offset: BinaryOffset(offset),
+            size: BinaryOffset(size),
             depth,
             kind,
             head,
         },
         Found::Refused { number, place } => BinaryItem::Refused {
             number,
-            place: BinaryOffset(place / 4 * 3 + place % 4),
+            place: BinaryOffset(place),
         },
         Found::End => BinaryItem::End,
     }
 }
 
-// ---- the two forms
-
-// 1 before 13, of a stream that is over its limit, and of one of n units that the state does not fit; else 0.
-fn barred(w: Walk, over: bool, n: usize) -> u8
-    ensures { λ r. ⌜ r ≡ barredBy over n w ⌝ }
-{
-    if over {
-        return 1;
-    }
-    if w.is_fit(n) { 0 } else { 13 }
-}
-
-// The next item of a text at any depth, the first refusal or the end, with the next state.
-pub fn step_text(w: Walk, s: &[u8]) -> TextStep
-    ensures { λ r. ⌜ r ≡ textStep (now (s .entry)) w ⌝ }
-{
-    let n = s.len() / 4;
-    let number = barred(w, MAX_CHARACTERS < s.len(), n);
-    if number != 0 {
-        return TextStep {
-            next: w,
-            found: TextItem::Refused {
-                number,
-                place: TextOffset(0),
-            },
-        };
-    }
-    let r = step_fit(w, Form::Text, s, n, 0 < s.len() % 4);
-    let next = r.next;
-    let found = r.found;
-    TextStep {
-        next,
-        found: text_item(found),
-    }
-}
-
-// The same of a binary.
+// A step over a binary.
 pub fn step_binary(w: Walk, s: &[u8]) -> BinaryStep
     ensures { λ r. ⌜ r ≡ binaryStep (now (s .entry)) w ⌝ }
 {
-    let n = s.len() / 3;
-    let number = barred(w, MAX_BYTES < s.len(), n);
-    if number != 0 {
-        return BinaryStep {
-            next: w,
-            found: BinaryItem::Refused {
-                number,
-                place: BinaryOffset(0),
-            },
-        };
-    }
-    let r = step_fit(w, Form::Binary, s, n, 0 < s.len() % 3);
+    let r = step_in(w, Form::Binary, s);
     let next = r.next;
     let found = r.found;
     BinaryStep {

@@ -69,7 +69,8 @@ module _ (w : Walk) (h n : ℕ) (mark : Bool) where
   unfolding entered opened
   into l = rw (lt-leb maxDepth (w .depth) l, on-both (w .at) h n)
 
-  pub steps-into : w .depth < maxDepth → stepOver w (w .at + h) (w .at + n) true mark ≡ closed (opened w h n mark .depth) (opened w h n mark)
+  pub steps-into : w .depth < maxDepth
+      → stepOver w (w .at + h) (w .at + n) true mark ≡ closed (opened w h n mark .depth) (opened w h n mark)
   unfolding stepOver opened
   steps-into l = rw (into l) (finish (opened w h n mark) (omega arith))
 

@@ -18,12 +18,12 @@ behind p q d d₁ d₂ at n l h e f =
     let z : drop (length d₁ - at) (drop at d₁) ≡ [] = drop-of-length-le (drop at d₁) {i = length d₁ - at} (omega (arith, length-drop at d₁)) in
     rw (z, f, e, take-at p (drop at d) at l, append-nil, drop-drop n at d, append-assoc)
 
-pub put-binary : (head raw d d₁ d₂ : List ℕ) (start : ℕ) → start ≤ length head → start + length raw ≤ length d
+pub put-binary : (head raw d d₁ d₂ : List ℕ) (start : ℕ) → start ≤ 9 → length head ≡ 9 → start + length raw ≤ length d
     → d₁ ≡ take (length (take start head)) (take start head) ++ drop (length (take start head)) d
     → d₂ ≡ take (length raw) raw ++ drop (length raw) (take (length d₁ - start) (drop start d₁))
     → take start d₁ ++ (d₂ ++ drop (length d₁ - start) (drop start d₁)) ≡ take start head ++ raw ++ drop (start + length raw) d
-put-binary head raw d d₁ d₂ start s h e f =
-    let l = length-take-le start head s in
+put-binary head raw d d₁ d₂ start s nine h e f =
+    let l = length-take-le start head (omega arith) in
     let p : d₁ ≡ take start head ++ drop start d = e ∙ rw (take-all (length (take start head)) (take start head) (omega arith), l) in
     let r : drop start d₁ ≡ drop start d = rw p (drop-at (take start head) (drop start d) start l) in
     let q : d₂ ≡ raw ++ drop (length raw) (drop start d) = f ∙ rw (to-end d₁ start, r, take-all (length raw) raw (omega arith)) in
@@ -41,7 +41,7 @@ joined-text p raw k h w =
     let r = length-append p raw in
     rw (e, take-append-add p raw k, drop-append-add p raw k) at (text-joins (p ++ raw) ((length p + k) / 3) (omega arith))
 
-pub put-text : (head first raw d d₁ d₂ : List ℕ) (start : ℕ) (r₁ r₂ : ToText) → start ≤ length head → (start + length raw) % 3 ≡ 0
+pub put-text : (head first raw d d₁ d₂ : List ℕ) (start : ℕ) (r₁ r₂ : ToText) → start ≤ 9 → (start + length raw) % 3 ≡ 0
     → (start + length raw) / 3 * 4 ≤ length d → length raw ≤ 3145728 → length head ≡ 9 → first ≡ paste head start raw (length raw % 3)
     → r₁ ≡ binaryToText (take (start + length raw % 3) first) (length d) → d₁ ≡ textLeft r₁ (take (start + length raw % 3) first) d
     → r₂ ≡ binaryToText (take (length raw - length raw % 3) (drop (length raw % 3) raw)) (length (take (length d₁ - (start + length raw % 3) / 3 * 4) (drop ((start + length raw % 3) / 3 * 4) d₁)))
@@ -51,10 +51,11 @@ pub put-text : (head first raw d d₁ d₂ : List ℕ) (start : ℕ) (r₁ r₂ 
 put-text head first raw d d₁ d₂ start r₁ r₂ s w h short nine j e₁ p₁ e₂ p₂ =
     let k = length raw % 3 in
     let at = (start + k) / 3 * 4 in
-    let l = length-take-le start head s in
+    let o : start ≤ length head = omega arith in
+    let l = length-take-le start head o in
     let b : List ℕ = take start head ++ take k raw in
-    let f : take (start + k) first ≡ b = rw j (take-paste head start raw k s (omega arith)) in
-    let n : length b ≡ start + k = length-paste-head head start raw k s (omega arith) in
+    let f : take (start + k) first ≡ b = rw j (take-paste head start raw k o (omega arith)) in
+    let n : length b ≡ start + k = length-paste-head head start raw k o (omega arith) in
     let c₁ : d₁ ≡ toText b ++ drop at d = rw n at (converts b d d₁ r₁ (omega arith) (omega arith) (omega arith) (rw f at e₁) (rw f at p₁)) in
     let t : length (toText b) ≡ at = omega (arith, length-to-text b) in
     let g : drop at d₁ ≡ drop at d = rw c₁ (drop-at (toText b) (drop at d) at t) in

@@ -2,8 +2,10 @@
 use mathlib.Core.Path.{_≡_, refl, sym, _∙_}
 use mathlib.Core.List.{List, [], _++_, append-nil}
 use mathlib.Core.Logic.{⊎-elim}
-use Prim.Native.Nat.{ℕ, _+_, _-_, _*_, _<_, _≤_, min}
+use Prim.Native.Nat.{ℕ, _+_, _-_, _*_, _^_, _<_, _≤_, min}
 use native.Mathlib.Omega.{arith}
+use mir.Syntax.{w64}
+use mir.Val.{Fits}
 use lib.ListN.{length, take, drop, length-drop, drop-of-length-le}
 use lib.Seq.{take-all}
 use Rattle.base.specs.Cases.{lt-or-ge}
@@ -59,12 +61,15 @@ module _ (d : List ℕ) (cursor at : ℕ) (e : at ≡ min cursor (length d)) whe
       binary-answer = rw lent at a
 
       -- a length that is written ends within the buffer, and the cursor stands in it
-      pub binary-ends : (n : BinaryOffset) → w ≡ B.Written n → (at + n .0 ≤ length d) × (at ≡ cursor)
+      binary-ends : (n : BinaryOffset) → w ≡ B.Written n → (at + n .0 ≤ length d) × (at ≡ cursor)
       unfolding writeBinary
       binary-ends n h =
           let s = binary-some _ (length (drop cursor d)) n (held 3 code tag tags (length raw) (length (drop cursor d))) (sym binary-answer ∙ h) in
           let l = length-drop cursor d in
           (omega arith, omega arith)
+
+      pub binary-fits : (n : BinaryOffset) → w ≡ B.Written n → length d * 1 < 2 ^ 63 → Fits w64 (at + n .0)
+      binary-fits n h l = omega (arith, binary-ends n h .0)
 
       module _ (d′ : List ℕ) (p : d′ ≡ binaryItemLeft w code tag tags raw (take (length d - at) (drop at d))) where
         pub binary-behind : take at d ++ (d′ ++ drop (length d - at) (drop at d)) ≡ binaryLeftAt code tag tags raw d cursor
@@ -83,12 +88,15 @@ module _ (d : List ℕ) (cursor at : ℕ) (e : at ≡ min cursor (length d)) whe
       text-answer : w ≡ writeText code tag tags raw (length (drop cursor d))
       text-answer = rw lent at a
 
-      pub text-ends : (n : TextOffset) → w ≡ T.Written n → (at + n .0 ≤ length d) × (at ≡ cursor)
+      text-ends : (n : TextOffset) → w ≡ T.Written n → (at + n .0 ≤ length d) × (at ≡ cursor)
       unfolding writeText
       text-ends n h =
           let s = text-some _ (length (drop cursor d)) n (held 4 code tag tags (length raw) (length (drop cursor d))) (sym text-answer ∙ h) in
           let l = length-drop cursor d in
           (omega arith, omega arith)
+
+      pub text-fits : (n : TextOffset) → w ≡ T.Written n → length d * 1 < 2 ^ 63 → Fits w64 (at + n .0)
+      text-fits n h l = omega (arith, text-ends n h .0)
 
       module _ (d′ : List ℕ) (p : d′ ≡ textItemLeft w code tag tags raw (take (length d - at) (drop at d))) where
         pub text-behind : take at d ++ (d′ ++ drop (length d - at) (drop at d)) ≡ textLeftAt code tag tags raw d cursor

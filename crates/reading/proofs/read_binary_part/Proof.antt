@@ -1,11 +1,4 @@
-use mathlib.Core.Path.{sym, _∙_}
-use borrow.Author.Tests.{not-true, not-false}
-use Rattle.format.specs.Units.{binarySextets}
-use Rattle.framing.proofs.Laws.{framed-binary, lawful}
-use Rattle.judging.proofs.Laws.{own-binary-judged}
-use Rattle.reading.proofs.Laws.{read-unframed, read-other, read-judged}
-use native.Mathlib.Omega.{arith}
-use Rattle.framing.proofs.Laws.{binary-units}
+use Rattle.reading.proofs.Laws.{binary-unframed, binary-other, binary-judged}
 use borrow.Author.Needs.{needs}
 use Rattle.reading.proofs.read_binary_part.Statement.{statement}
 use Rattle.reading.proofs.read_binary_part.Tie as tie
@@ -40,9 +33,7 @@ is-primitive-requires c κs = search needs
 
 -- src/lib.rt:213:17
 returns : tie.Need-returns
-returns c =
-    read-other (binarySextets (c .before .before .before .before .before .before .before .before .args .part .now)) _ (framed-binary _ _ _ (c .before .before .before .before .before .before .binary-head .ensures) (c .before .before .before .before .before .frame-head .ensures)) _ _ _ (c .before .before .before .framed .given .1)
-    (sym (c .before .is-primitive .ensures) ∙ not-true _ (c .if1 .taken))
+returns c = search binary-other
 
 -- src/lib.rt:218:17
 within-requires : tie.Need-within-requires
@@ -58,16 +49,11 @@ told-requires c κs = search needs
 
 -- src/lib.rt:201:1
 returns-2 : tie.Need-returns-2
-returns-2 c = read-unframed (binarySextets (c .before .before .before .before .before .args .part .now)) _ (framed-binary _ _ _ (c .before .before .before .binary-head .ensures) (c .before .before .frame-head .ensures)) _ _ (c .enum-told .given .1)
+returns-2 c = search binary-unframed
 
 -- src/lib.rt:201:1
 returns-3 : tie.Need-returns-3
-returns-3 c =
-    let f = c .before .before .before .before .before .before in
-    let e = framed-binary _ _ _ (f .before .before .before .binary-head .ensures) (f .before .before .frame-head .ensures) in
-    let g = lawful (binarySextets (f .before .before .before .before .before .args .part .now)) _ _ _ _ e (f .framed .given .1) in
-    read-judged _ _ e _ _ _ (f .framed .given .1) (sym (c .before .before .before .before .is-primitive .ensures) ∙ not-false _ (c .before .before .before .if1 .left)) _
-    (own-binary-judged _ _ _ _ _ _ 0 _ (f .before .before .before .binary-head .ensures) (c .before .before .within .ensures) (c .before .own-binary .ensures) (g .few) (g .shape) (omega (arith, g .room, binary-units (f .before .before .before .before .before .args .part .now)))) _ (c .told .ensures)
+returns-3 c = search binary-judged
 
 pub read-binary-part-spec : {M : Type 1} → statement M
 read-binary-part-spec =

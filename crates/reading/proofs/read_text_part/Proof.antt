@@ -1,12 +1,4 @@
-use mathlib.Core.Path.{sym, _∙_}
-use borrow.Author.Tests.{not-true, not-false}
-use Rattle.format.specs.Units.{textSextets}
-use Rattle.framing.proofs.Laws.{framed-text, lawful}
-use Rattle.judging.proofs.Laws.{own-text-judged}
-use Rattle.reading.proofs.Laws.{read-unframed, read-other, read-judged}
-use native.Mathlib.Omega.{arith}
-use lib.Seq.{length-take-le}
-use Rattle.framing.proofs.Laws.{text-units}
+use Rattle.reading.proofs.Laws.{text-unframed, text-size-fits, text-long, text-other, text-judged}
 use borrow.Author.Needs.{needs}
 use Rattle.reading.proofs.read_text_part.Statement.{statement}
 use Rattle.reading.proofs.read_text_part.Tie as tie
@@ -41,9 +33,7 @@ is-primitive-requires c κs = search needs
 
 -- src/lib.rt:188:17
 returns : tie.Need-returns
-returns c =
-    read-other (textSextets (c .before .before .before .before .before .before .before .before .args .part .now)) _ (framed-text _ _ _ (c .before .before .before .before .before .before .text-head .ensures) (c .before .before .before .before .before .frame-head .ensures)) _ _ _ (c .before .before .before .framed .given .1)
-    (sym (c .before .is-primitive .ensures) ∙ not-true _ (c .if1 .taken))
+returns c = search text-other
 
 -- src/lib.rt:193:17
 within-requires : tie.Need-within-requires
@@ -51,17 +41,11 @@ within-requires c κs = search needs
 
 -- src/lib.rt:194:23
 mul-end : tie.Need-mul-end
-mul-end c =
-    let f = c .before .before .before .before in
-    let g = lawful (textSextets (f .before .before .before .before .before .args .part .now)) _ _ _ _ (framed-text _ _ _ (f .before .before .before .text-head .ensures) (f .before .before .frame-head .ensures)) (f .framed .given .1) in
-    omega (arith, g .room, text-units (f .before .before .before .before .before .args .part .now))
+mul-end c = search text-size-fits
 
 -- src/lib.rt:195:56
 slice-aggregate-own-text : tie.Need-slice-aggregate-own-text
-slice-aggregate-own-text c =
-    let f = c .before .before .before .before .before in
-    let g = lawful (textSextets (f .before .before .before .before .before .args .part .now)) _ _ _ _ (framed-text _ _ _ (f .before .before .before .text-head .ensures) (f .before .before .frame-head .ensures)) (f .framed .given .1) in
-    sym (length-take-le _ (f .before .before .before .before .before .args .part .now) (omega (arith, g .room, text-units (f .before .before .before .before .before .args .part .now))))
+slice-aggregate-own-text c = search text-long
 
 -- src/lib.rt:195:17
 own-text-requires : tie.Need-own-text-requires
@@ -73,16 +57,11 @@ told-requires c κs = search needs
 
 -- src/lib.rt:176:1
 returns-2 : tie.Need-returns-2
-returns-2 c = read-unframed (textSextets (c .before .before .before .before .before .args .part .now)) _ (framed-text _ _ _ (c .before .before .before .text-head .ensures) (c .before .before .frame-head .ensures)) _ _ (c .enum-told .given .1)
+returns-2 c = search text-unframed
 
 -- src/lib.rt:176:1
 returns-3 : tie.Need-returns-3
-returns-3 c =
-    let f = c .before .before .before .before .before .before .before in
-    let e = framed-text _ _ _ (f .before .before .before .text-head .ensures) (f .before .before .frame-head .ensures) in
-    let g = lawful (textSextets (f .before .before .before .before .before .args .part .now)) _ _ _ _ e (f .framed .given .1) in
-    read-judged _ _ e _ _ _ (f .framed .given .1) (sym (c .before .before .before .before .before .is-primitive .ensures) ∙ not-false _ (c .before .before .before .before .if1 .left)) _
-    (own-text-judged _ _ _ _ _ _ 0 _ (f .before .before .before .text-head .ensures) (c .before .before .before .within .ensures) (c .before .own-text .ensures) (g .few) (g .shape) (omega (arith, g .room, text-units (f .before .before .before .before .before .args .part .now)))) _ (c .told .ensures)
+returns-3 c = search text-judged
 
 pub read-text-part-spec : {M : Type 1} → statement M
 read-text-part-spec =

@@ -1,4 +1,3 @@
-use native.Mathlib.Omega.{arith}
 use Rattle.report.proofs.Laws.{ends-fit, ends-last}
 use borrow.Author.Needs.{needs}
 use Rattle.report.proofs.fill.Statement.{statement}
@@ -8,13 +7,13 @@ put-items-requires : tie.Need-put-items-requires
 put-items-requires c κs = search needs
 
 put-last-requires : tie.Need-put-last-requires
-put-last-requires c κs = (omega (arith, c .before .before .before .before .before .before .before .pre .room, c .before .before .before .put-items .kept .1 .1 .1 .1 .1 .1 .0), ends-fit (c .before .before .before .before .before .before .before .pre) (c .before .before .before .put-items .result) _ (c .before .before .before .put-items .ensures))
+put-last-requires c κs = search (ends-fit, needs)
 
 same-length : tie.Need-same-length
 same-length c = search needs
 
 returns : tie.Need-returns
-returns c = ends-last (c .before .before .before .before .before .before .before .before .before .before .pre) (c .before .before .before .before .before .before .put-items .result) _ (c .before .before .before .before .before .before .put-items .ensures) _ _ (c .before .before .put-last .ensures)
+returns c = search ends-last
 
 pub fill-spec : {M : Type 1} → statement M
 fill-spec = tie.close (tie.spec put-items-requires put-last-requires same-length returns)

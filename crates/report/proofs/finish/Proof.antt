@@ -1,5 +1,3 @@
-use mathlib.Core.Path.{refl}
-use denote.Ref.{now}
 use Rattle.report.proofs.Laws.{put-counts}
 use borrow.Author.Needs.{needs}
 use Rattle.report.proofs.finish.Statement.{statement}
@@ -45,7 +43,7 @@ same-length : tie.Need-same-length
 same-length c = search needs
 
 returns : tie.Need-returns
-returns c = (refl, put-counts (now (c .before .before .before .before .before .before .before .before .before .args .out)) (c .before .before .before .before .before .before .before .before .before .args .n) (c .before .before .before .before .before .before .before .before .before .args .k) (c .before .before .before .before .before .before .before .before .before .pre .0) (c .before .before .before .before .before .before .before .before .before .pre .1) (c .before .before .before .before .before .before .put-number .ensures) 0 (c .before .before .put-number2 .ensures))
+returns c = search put-counts
 
 pub finish-spec : {M : Type 1} → statement M
 finish-spec =

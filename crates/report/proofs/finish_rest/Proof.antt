@@ -1,5 +1,3 @@
-use mathlib.Core.Path.{refl}
-use denote.Ref.{now}
 use Rattle.report.proofs.Laws.{put-last}
 use borrow.Author.Needs.{needs}
 use Rattle.report.proofs.finish_rest.Statement.{statement}
@@ -60,7 +58,7 @@ same-length : tie.Need-same-length
 same-length c = search needs
 
 returns : tie.Need-returns
-returns c = (refl, put-last (now (c .before .before .before .before .before .before .before .before .before .before .before .before .before .args .out)) (c .before .before .before .before .before .before .before .before .before .before .before .before .before .args .n) (c .before .before .before .before .before .before .before .before .before .before .before .before .before .args .k) (c .before .before .before .before .before .before .before .before .before .before .before .before .before .pre .0) (c .before .before .before .before .before .before .before .before .before .before .before .before .before .pre .1) (c .before .before .before .before .before .before .before .before .before .before .put-number .ensures) _ _ (c .before .before .before .before .before .before .put-number2 .ensures) (c .before .before .put-remainder .ensures))
+returns c = search put-last
 
 pub finish-rest-spec : {M : Type 1} → statement M
 finish-rest-spec =

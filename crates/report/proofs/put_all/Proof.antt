@@ -1,9 +1,7 @@
 -- Every turn leaves the rows of the items so far where they are to stand. Assumes nothing.
 use Prim.Native.Nat.{_-_}
-use mathlib.Core.Path.{_∙_}
 use lib.ListN.{length}
-use native.Mathlib.Omega.{arith}
-use Rattle.report.proofs.Laws.{Reached, reached-start, reached-more, moves, ends-rest, ends-whole}
+use Rattle.report.proofs.Laws.{Reached, reached-start, reached-more, units-fit, items-fit, refused-fit, falls, ends-rest, ends-whole}
 use borrow.Author.Needs.{needs}
 use Rattle.report.proofs.put_all.Statement.{statement}
 use Rattle.report.proofs.put_all.Tie as tie
@@ -30,34 +28,34 @@ enum-known-number : tie.Need-enum-known-number Inv-loop μ-loop
 enum-known-number c = search needs
 
 same-length : tie.Need-same-length Inv-loop μ-loop
-same-length c = c .before .before .before .before .before .put-turn .kept .1 .1 .1 .1 .1 .0 ∙ c .before .before .before .before .before .before .before .before .before .loop .inv .long
+same-length c = search (needs)
 
 returns : tie.Need-returns Inv-loop μ-loop
-returns c = ends-rest (c .before .before .before .before .before .before .before .before .before .loop .inv) _ (c .before .before .before .before .before .before .before .known .ensures) (c .before .before .before .before .before .before .before .before .loop-test .taken) (c .before .before .before .before .before .put-turn .result) _ (c .before .before .before .before .before .put-turn .ensures) _ (c .before .number .given .1)
+returns c = search ends-rest
 
 enum-known-units : tie.Need-enum-known-units Inv-loop μ-loop
 enum-known-units c = search needs
 
 add-a : tie.Need-add-a Inv-loop μ-loop
-add-a c = let h = moves (c .before .before .before .before .before .before .before .before .before .loop .inv) _ (c .before .before .before .before .before .before .before .known .ensures) (c .before .before .before .before .before .before .before .before .loop-test .taken) (c .before .before .before .before .before .put-turn .result) _ (c .before .before .before .before .before .put-turn .ensures) _ _ _ (c .before .units .given .1) in search needs
+add-a c = search units-fit
 
 add-i : tie.Need-add-i Inv-loop μ-loop
-add-i c = let h = moves (c .before .before .before .before .before .before .before .before .before .loop .inv) _ (c .before .before .before .before .before .before .before .known .ensures) (c .before .before .before .before .before .before .before .before .loop-test .taken) (c .before .before .before .before .before .put-turn .result) _ (c .before .before .before .before .before .put-turn .ensures) _ _ _ (c .before .units .given .1) in search needs
+add-i c = search items-fit
 
 add-k : tie.Need-add-k Inv-loop μ-loop
-add-k c = let h = moves (c .before .before .before .before .before .before .before .before .before .loop .inv) _ (c .before .before .before .before .before .before .before .known .ensures) (c .before .before .before .before .before .before .before .before .loop-test .taken) (c .before .before .before .before .before .put-turn .result) _ (c .before .before .before .before .before .put-turn .ensures) _ _ _ (c .before .units .given .1) in search needs
+add-k c = search (refused-fit, needs)
 
 loop-less : tie.Need-loop-less Inv-loop μ-loop
-loop-less c = let h = moves (c .before .before .before .before .before .before .before .before .before .loop .inv) _ (c .before .before .before .before .before .before .before .known .ensures) (c .before .before .before .before .before .before .before .before .loop-test .taken) (c .before .before .before .before .before .put-turn .result) _ (c .before .before .before .before .before .put-turn .ensures) _ _ _ (c .before .units .given .1) in omega (arith, h .0, h .1)
+loop-less c = search falls
 
 loop-again : tie.Need-loop-again Inv-loop μ-loop
-loop-again c = reached-more (c .before .before .before .before .before .before .before .before .before .loop .inv) _ (c .before .before .before .before .before .before .before .known .ensures) (c .before .before .before .before .before .before .before .before .loop-test .taken) (c .before .before .before .before .before .put-turn .result) _ (c .before .before .before .before .before .put-turn .ensures) _ _ _ (c .before .units .given .1) (c .before .before .before .before .before .put-turn .kept .1 .1 .1 .1 .1 .0)
+loop-again c = search reached-more
 
 same-length-2 : tie.Need-same-length-2 Inv-loop μ-loop
 same-length-2 c = c .before .loop .inv .long
 
 returns-2 : tie.Need-returns-2 Inv-loop μ-loop
-returns-2 c = ends-whole (c .before .loop .inv) (c .loop-test .left)
+returns-2 c = search ends-whole
 
 pub put-all-spec : {M : Type 1} → statement M
 put-all-spec =

@@ -1,5 +1,4 @@
-use Rattle.format.specs.Units.{domain}
-use Rattle.report.proofs.Laws.{known-first}
+use Rattle.report.proofs.Laws.{reads}
 use borrow.Author.Needs.{needs}
 use Rattle.report.proofs.report.Statement.{statement}
 use Rattle.report.proofs.report.Tie as tie
@@ -20,7 +19,7 @@ unit-requires : tie.Need-unit-requires
 unit-requires c κs = search needs
 
 report-by-requires : tie.Need-report-by-requires
-report-by-requires c κs = record { unit = c .before .before .before .before .unit .ensures; lent = record { characters = c .before .before .before .before .before .before .before .before .sextets .ensures; letters = c .before .before .before .before .before .before .before .classes .ensures; codes = c .before .before .before .before .before .before .rows .ensures }; few = c .before .before .before .before .before .before .before .before .before .before .before .pre; clear = c .before .before .before .before .before .known .ensures (known-first (domain (c .before .before .before .before .before .before .before .before .before .before .before .args .form) .sextets (c .before .before .before .before .before .before .before .before .before .before .before .args .s .now))) }
+report-by-requires c κs = search reads
 
 same-length : tie.Need-same-length
 same-length c = search needs

@@ -1,5 +1,3 @@
-use mathlib.Core.Path.{refl}
-use Rattle.format.specs.Units.{text}
 use Rattle.format.specs.Report.{reportLeft}
 use Rattle.report.proofs.Laws.{too-long}
 use borrow.Author.Needs.{needs}
@@ -8,7 +6,7 @@ use Rattle.report.proofs.report_text.Tie as tie
 
 returns : tie.Need-returns
 unfolding reportLeft
-returns c = (too-long text (c .before .before .before .args .s .now) (c .before .before .before .args .out .now) (c .if1 .taken), refl)
+returns c = search too-long
 
 report-requires : tie.Need-report-requires
 report-requires c κs = search needs

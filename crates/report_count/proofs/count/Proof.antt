@@ -1,9 +1,7 @@
 use Prim.Native.Nat.{_-_, _/_}
 use lib.ListN.{length}
-use native.Mathlib.Omega.{arith}
-use native.Mathlib.Nat.{pos-of-ne-zero}
 use Rattle.format.specs.Units.{domain}
-use Rattle.report_count.proofs.Laws.{Counting, counting-start, counting-fits, counting-end, counting-stop, counting-moves, counting-next}
+use Rattle.report_count.proofs.Laws.{Counting, counting-start, counting-fits, counting-end, counting-stop, units-fit, items-fit, falls, counting-next}
 use borrow.Author.Needs.{needs}
 use Rattle.report_count.proofs.count.Statement.{statement}
 use Rattle.report_count.proofs.count.Tie as tie
@@ -18,7 +16,7 @@ unit-requires : tie.Need-unit-requires Inv-loop μ-loop
 unit-requires c κs = search needs
 
 loop-holds : tie.Need-loop-holds Inv-loop μ-loop
-loop-holds c = counting-start (c .unit .ensures)
+loop-holds c = search counting-start
 
 mul-loop : tie.Need-mul-loop Inv-loop μ-loop
 mul-loop c = let h = counting-fits (c .loop .inv) in search needs
@@ -30,22 +28,22 @@ next-requires : tie.Need-next-requires Inv-loop μ-loop
 next-requires c κs = search needs
 
 returns : tie.Need-returns Inv-loop μ-loop
-returns c = counting-stop (c .before .before .before .before .before .loop .inv) _ _ _ (c .before .before .before .known .ensures) (c .before .before .next .ensures .0) (c .before .before .next .ensures .1) (c .before .before .before .before .loop-test .taken) (c .if1 .taken)
+returns c = search counting-stop
 
 add-a : tie.Need-add-a Inv-loop μ-loop
-add-a c = let h = counting-moves (c .before .before .before .before .before .before .loop .inv) _ _ _ (c .before .before .before .before .known .ensures) (c .before .before .before .next .ensures .0) (c .before .before .before .next .ensures .1) in search needs
+add-a c = search units-fit
 
 add-i : tie.Need-add-i Inv-loop μ-loop
-add-i c = let h = counting-moves (c .before .before .before .before .before .before .before .loop .inv) _ _ _ (c .before .before .before .before .before .known .ensures) (c .before .before .before .before .next .ensures .0) (c .before .before .before .before .next .ensures .1) in search needs
+add-i c = search items-fit
 
 loop-less : tie.Need-loop-less Inv-loop μ-loop
-loop-less c = let h = counting-moves (c .before .before .before .before .before .before .before .loop .inv) _ _ _ (c .before .before .before .before .before .known .ensures) (c .before .before .before .before .next .ensures .0) (c .before .before .before .before .next .ensures .1) in omega (arith, pos-of-ne-zero (c .before .before .if1 .left), h .0)
+loop-less c = search falls
 
 loop-again : tie.Need-loop-again Inv-loop μ-loop
-loop-again c = counting-next (c .before .before .before .before .before .before .before .loop .inv) _ _ _ (c .before .before .before .before .before .known .ensures) (c .before .before .before .before .next .ensures .0) (c .before .before .before .before .next .ensures .1) (c .before .before .if1 .left)
+loop-again c = search counting-next
 
 returns-2 : tie.Need-returns-2 Inv-loop μ-loop
-returns-2 c = counting-end (c .before .loop .inv) (c .loop-test .left)
+returns-2 c = search counting-end
 
 pub count-spec : {M : Type 1} → statement M
 count-spec =

@@ -10,7 +10,7 @@ add-t4 : tie.Need-add-t4
 add-t4 c = search needs
 
 add-t5 : tie.Need-add-t5
-add-t5 c = let h = step-items (c .args .size) (c .args .followers) (c .pre .0) in search needs
+add-t5 c = let h = step-items (c .pre) in search needs
 
 returns : tie.Need-returns
 returns c = search needs

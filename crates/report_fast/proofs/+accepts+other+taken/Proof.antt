@@ -1,11 +1,11 @@
 -- The loop over a group's items, the step that takes the next one, and the same of an item that its first unit does not tell; both steps
 -- go to the loop for a group's contents, one level further in. Assumes nothing.
-use Prim.Native.Nat.{ℕ, _+_, _-_, _*_, _≤_, _<_}
-use mathlib.Core.Path.{_≡_, sym, _∙_}
+use Prim.Native.Nat.{ℕ, _+_, _-_, _*_, _<_}
 use native.Mathlib.Omega.{arith}
 use native.Mathlib.Nat.{pos-of-ne-zero}
 use borrow.Author.Needs.{needs}
-use Rattle.report_fast.proofs.Laws.{Going, going-start, going-reach, going-plain, going-taken, going-end, inner-reach, inner-levels, by-contents, by-own, group-inner, by-inner, nothing}
+use Rattle.report_fast.proofs.Laws.{Going, going-start, going-reach, going-plain, going-taken, going-less, going-end, no-pass, inner-reach, inner-falls, by-contents, by-own, group-inner, group-falls, by-inner, nothing}
+use Rattle.report_item.proofs.Laws.{inner-levels, head-fits, size-fits}
 use borrow.Fn.Kinds.{In}
 use borrow.Fn.PlainCycle.{Measures, is, falls, and}
 use Rattle.report_fast.proofs.accepts.Reads as accepts
@@ -72,19 +72,19 @@ pub +accepts+other+taken-spec : {M : Type 1} → statement M
     accepts.Post
     accepts-Inv-loop
     accepts-μ-loop
-    (λ c. going-start (c .before .pre .1))
+    (λ c. search going-start)
     (λ c κs. search needs)
     (λ c. c .before .before .before .loop .inv .to)
-    (λ c R e. absurd (let y : _≡_ {A = ℕ} 0 1 = cc in omega arith))
+    (λ c. search no-pass)
     (λ c. let h = c .if2 .left in search needs)
     (λ c. omega (arith, c .before .if1 .taken, c .before .before .before .loop-test .taken))
-    (λ c. going-plain (c .before .before .before .before .loop .inv) _ (c .before .before .plain .ensures) (c .before .if1 .taken) (c .if2 .left) (c .before .before .before .loop-test .taken))
-    (λ c κs. (omega (arith, c .before .before .before .before .before .pre .0), going-reach (c .before .before .before .loop .inv) (c .before .before .loop-test .taken)))
-    (λ c R e. absurd (let y : _≡_ {A = ℕ} 0 1 = cc in omega arith))
-    (λ c. let h = c .before .taken .ensures .0 in search needs)
-    (λ c. omega (arith, pos-of-ne-zero (c .if3 .left), c .before .taken .ensures .0, c .before .before .before .before .loop-test .taken))
-    (λ c. going-taken (c .before .before .before .before .before .loop .inv) _ (c .before .taken .ensures) (c .if3 .left))
-    (λ c R e. going-end (c .before .loop .inv) (c .loop-test .left) R))
+    (λ c. search going-plain)
+    (λ c κs. search (going-reach, needs))
+    (λ c. search no-pass)
+    (λ c. let h = c .before .taken .ensures .few in search needs)
+    (λ c. search going-less)
+    (λ c. search going-taken)
+    (λ c. search going-end))
     (λ t. other-lts.spec (
       found-reads.Asked,
       found-reads.Learnt,
@@ -102,14 +102,14 @@ pub +accepts+other+taken-spec : {M : Type 1} → statement M
     (λ c. search needs)
     (λ c κs. search needs)
     (λ c κs. search needs)
-    (λ c. inner-levels (c .before .before .before .before .before .before .before .before .pre .1 .0) (c .before .before .before .before .before .before .found .result) (c .before .before .before .before .before .before .found .ensures .0) _ _ _ (c .before .before .before .before .kind .given .1) (c .before .before .is-entered .result) (c .before .before .is-entered .ensures) (c .before .if1 .taken))
-    (λ c. let h = inner-reach (c .before .before .before .before .before .before .before .before .pre .1 .0) (c .before .before .before .before .before .before .found .result) (c .before .before .before .before .before .before .found .ensures .0) _ _ _ (c .before .before .before .before .kind .given .1) in search needs)
-    (λ c. let h = inner-reach (c .before .before .before .before .before .before .before .before .pre .1 .0) (c .before .before .before .before .before .before .found .result) (c .before .before .before .before .before .before .found .ensures .0) _ _ _ (c .before .before .before .before .kind .given .1) in search needs)
-    (λ c κs. (omega (arith, c .before .before .before .before .before .before .before .before .pre .0, inner-levels (c .before .before .before .before .before .before .before .before .pre .1 .0) (c .before .before .before .before .before .before .found .result) (c .before .before .before .before .before .before .found .ensures .0) _ _ _ (c .before .before .before .before .kind .given .1) (c .before .before .is-entered .result) (c .before .before .is-entered .ensures) (c .before .if1 .taken)), inner-reach (c .before .before .before .before .before .before .before .before .pre .1 .0) (c .before .before .before .before .before .before .found .result) (c .before .before .before .before .before .before .found .ensures .0) _ _ _ (c .before .before .before .before .kind .given .1) .3))
-    (λ c. by-contents (c .before .before .before .before .before .before .before .before .before .before .pre .1 .0) (c .before .before .before .before .before .before .before .before .before .before .pre .1 .1) (c .before .before .before .before .before .before .before .before .found .result) (c .before .before .before .before .before .before .before .before .found .ensures) _ _ _ (c .before .before .before .before .before .before .kind .given .1) (c .before .before .before .before .is-entered .result) (c .before .before .before .before .is-entered .ensures) (c .before .before .before .if1 .taken) _ (c .before .before .is-ruled .ensures) (c .before .accepts .result) (c .before .accepts .ensures) (c .if2 .taken))
-    (λ c. nothing (c .before .before .before .before .before .before .before .before .before .before .pre .1 .0) (c .before .before .before .before .before .before .before .before .before .before .pre .1 .1))
-    (λ c. nothing (c .before .before .before .before .pre .1 .0) (c .before .before .before .before .pre .1 .1))
-    (λ c. by-own (c .before .before .before .before .before .before .before .pre .1 .0) (c .before .before .before .before .before .before .before .pre .1 .1) (c .before .before .before .before .before .found .result) (c .before .before .before .before .before .found .ensures) _ _ _ (c .before .before .before .kind .given .1) (c .before .is-entered .result) (c .before .is-entered .ensures) (c .if1 .left)))
+    (λ c. search inner-levels)
+    (λ c. search (head-fits, size-fits))
+    (λ c. search (head-fits, size-fits))
+    (λ c κs. search (inner-falls, inner-reach))
+    (λ c. search by-contents)
+    (λ c. search nothing)
+    (λ c. search nothing)
+    (λ c. search by-own))
     λ t. taken-lts.spec (
       group-reads.Asked,
       group-reads.Learnt,
@@ -124,17 +124,14 @@ pub +accepts+other+taken-spec : {M : Type 1} → statement M
     taken.Post
     (λ c κs. search needs)
     (λ c. omega (arith, c .before .before .before .pre .1 .1))
-    (λ c. nothing (c .before .before .before .before .pre .1 .0) (c .before .before .before .before .pre .1 .1))
-    (λ c. nothing (c .before .before .before .before .before .pre .1 .0) (c .before .before .before .before .before .pre .1 .1))
+    (λ c. search nothing)
+    (λ c. search nothing)
     (λ c κs. search needs)
     (λ c. omega (arith, pos-of-ne-zero (c .before .if3 .left)))
     (λ c. search needs)
     (λ c. search needs)
-    (λ c κs. (
-      omega (arith, c .before .before .before .before .before .before .pre .0, pos-of-ne-zero (c .before .if3 .left)),
-      group-inner (c .before .before .before .before .before .before .pre .1 .0) (c .before .before .before .before .before .before .pre .1 .1) _ (c .before .before .before .if1 .taken) (c .before .before .if2 .left),
-    ))
-    (λ c. by-inner (c .before .before .before .before .before .before .before .before .pre .1 .0) (c .before .before .before .before .before .before .before .before .pre .1 .1) _ (c .before .before .before .before .before .before .group .ensures) (c .before .before .before .before .before .if1 .taken) (c .before .before .before .before .if2 .left) (c .before .before .before .if3 .left) (c .before .before .marks .result) (c .before .before .marks .ensures) (c .before .accepts .result) (c .before .accepts .ensures) (c .if4 .taken))
-    (λ c. nothing (c .before .before .before .before .before .before .before .before .pre .1 .0) (c .before .before .before .before .before .before .before .before .pre .1 .1))
-    (λ c κs. (omega (arith, c .before .before .before .pre .0), c .before .before .before .pre .1))
+    (λ c κs. (search group-falls, search group-inner))
+    (λ c. search by-inner)
+    (λ c. search nothing)
+    (λ c κs. search needs)
     (λ c. c .other .ensures)

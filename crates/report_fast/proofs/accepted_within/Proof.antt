@@ -1,4 +1,4 @@
-use Rattle.report_fast.proofs.Laws.{by-plain, inside, nothing}
+use Rattle.report_fast.proofs.Laws.{by-first, nothing}
 use borrow.Author.Needs.{needs}
 use Rattle.report_fast.proofs.accepted_within.Statement.{statement}
 use Rattle.report_fast.proofs.accepted_within.Tie as tie
@@ -10,10 +10,10 @@ sub-if2 : tie.Need-sub-if2
 sub-if2 c = search needs
 
 returns : tie.Need-returns
-returns c = nothing (c .before .before .before .before .pre .0) (c .before .before .before .before .pre .1)
+returns c = search nothing
 
 returns-2 : tie.Need-returns-2
-returns-2 c = (c .if2 .left, λ R. by-plain (c .before .before .before .before .args .form) (c .before .before .before .before .args .values .now) (c .before .before .before .before .args .classes .now) (c .before .before .before .before .args .rows .now) (c .before .before .before .before .args .s .now) _ _ _ (inside (c .before .before .before .before .pre .0) R) (c .before .before .before .before .pre .1) R _ _ (c .before .before .plain .ensures (R .lent)) (c .if2 .left))
+returns-2 c = search by-first
 
 taken-requires : tie.Need-taken-requires
 taken-requires c κs = search needs

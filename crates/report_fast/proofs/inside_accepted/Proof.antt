@@ -52,7 +52,7 @@ accepts-requires : tie.Need-accepts-requires
 accepts-requires c κs = let h = c .before .before .before .nested .ensures .1 in reach-part _ _ (c .before .before .before .before .before .pre .0) (omega (arith, c .before .before .before .before .before .pre .1)) (omega arith)
 
 returns-2 : tie.Need-returns-2
-returns-2 c = λ R g e. nest-rest (c .before .before .before .before .before .before .args .form) (c .before .before .before .before .before .before .args .values .now) (c .before .before .before .before .before .before .args .classes .now) (c .before .before .before .before .before .before .args .rows .now) (c .before .before .before .before .before .before .args .s .now) maxDepth (c .before .before .before .before .before .before .args .at) (c .before .before .before .before .before .before .args .stop) (inside (c .before .before .before .before .before .before .pre .0) R) (c .before .before .before .before .before .before .pre .1) R _ (c .before .before .before .before .nested .ensures .2 (R .lent)) g _ (c .before .marks .ensures (R .lent) (nest-group (c .before .before .before .before .before .before .args .form) (c .before .before .before .before .before .before .args .values .now) (c .before .before .before .before .before .before .args .classes .now) (c .before .before .before .before .before .before .args .rows .now) (c .before .before .before .before .before .before .args .s .now) maxDepth (c .before .before .before .before .before .before .args .at) (c .before .before .before .before .before .before .args .stop) (inside (c .before .before .before .before .before .before .pre .0) R) (c .before .before .before .before .before .before .pre .1) R _ (c .before .before .before .before .nested .ensures .2 (R .lent)) g)) (c .accepts .ensures (ready-part _ _ _ _ _ _ _ _ _ R (omega arith) (omega arith)) e)
+returns-2 c = λ R g e. nest-rest (c .before .before .before .before .before .before .args .form) (c .before .before .before .before .before .before .args .values .now) (c .before .before .before .before .before .before .args .classes .now) (c .before .before .before .before .before .before .args .rows .now) (c .before .before .before .before .before .before .args .s .now) maxDepth (c .before .before .before .before .before .before .args .at) (c .before .before .before .before .before .before .args .stop) (inside (c .before .before .before .before .before .before .pre .0) R) (c .before .before .before .before .before .before .pre .1) R _ (c .before .before .before .before .nested .ensures .2 (R .lent)) g _ (c .before .marks .ensures (R .lent) (nest-group (c .before .before .before .before .before .before .args .form) (c .before .before .before .before .before .before .args .values .now) (c .before .before .before .before .before .before .args .classes .now) (c .before .before .before .before .before .before .args .rows .now) (c .before .before .before .before .before .before .args .s .now) maxDepth (c .before .before .before .before .before .before .args .at) (c .before .before .before .before .before .before .args .stop) (inside (c .before .before .before .before .before .before .pre .0) R) (c .before .before .before .before .before .before .pre .1) R _ (c .before .before .before .before .nested .ensures .2 (R .lent)) g)) (c .accepts .ensures .right (ready-part _ _ _ _ _ _ _ _ _ R (omega arith) (omega arith)) e)
 
 pub inside-accepted-spec : {M : Type 1} → statement M
 inside-accepted-spec =

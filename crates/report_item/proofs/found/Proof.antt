@@ -1,7 +1,4 @@
-use native.Mathlib.Omega.{arith}
-use Rattle.format.specs.Units.{domain}
-use Rattle.laws.specs.Domains.{reader}
-use Rattle.report_item.proofs.Laws.{in-units, inside-units, found-fits, none-fits}
+use Rattle.report_item.proofs.Laws.{here, past-limit, past-end, none-left}
 use borrow.Author.Needs.{needs}
 use Rattle.report_item.proofs.found.Statement.{statement}
 use Rattle.report_item.proofs.found.Tie as tie
@@ -15,22 +12,22 @@ limit-requires : tie.Need-limit-requires
 limit-requires c κs = search needs
 
 returns : tie.Need-returns
-returns c = (none-fits _ _ _ _ _, λ I l. absurd (omega (arith, I .few, c .before .limit .ensures)))
+returns c = search past-limit
 
 units-requires : tie.Need-units-requires
 units-requires c κs = search needs
 
 returns-2 : tie.Need-returns-2
-returns-2 c = (none-fits _ _ _ _ _, λ I l. absurd (omega (arith, in-units (domain (c .before .before .before .before .before .args .form)) (reader (c .before .before .before .before .before .args .form)) (c .before .before .before .before .before .args .s .now) _ _ I, c .before .units .ensures)))
+returns-2 c = search past-end
 
 returns-3 : tie.Need-returns-3
-returns-3 c = (none-fits _ _ _ _ _, λ I l. absurd (omega arith))
+returns-3 c = search none-left
 
 next-requires : tie.Need-next-requires
-next-requires c κs = (inside-units (c .before .before .before .before .before .before .args .form) (c .before .before .before .before .before .before .args .s .now) _ _ _ _ (c .before .before .units .ensures) (c .before .before .before .before .limit .ensures) (c .before .if2 .left) (c .before .before .before .if1 .left) (omega arith), c .if3 .left)
+next-requires c κs = here _ _ _ _ _ _ (c .before .if2 .left) (c .before .before .before .if1 .left) (c .if3 .left) (search needs) (search needs)
 
 returns-4 : tie.Need-returns-4
-returns-4 c = (found-fits (c .before .before .before .before .before .before .before .args .form) (c .before .before .before .before .before .before .before .args .s .now) _ _ _ _ (inside-units (c .before .before .before .before .before .before .before .args .form) (c .before .before .before .before .before .before .before .args .s .now) _ _ _ _ (c .before .before .before .units .ensures) (c .before .before .before .before .before .limit .ensures) (c .before .before .if2 .left) (c .before .before .before .before .if1 .left) (omega arith)) (c .before .if3 .left) _ (c .next .ensures), λ I l. c .next .ensures)
+returns-4 c = c .next .ensures
 
 pub found-spec : {M : Type 1} → statement M
 found-spec =

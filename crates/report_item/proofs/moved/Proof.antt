@@ -11,7 +11,7 @@ enum-known-f : tie.Need-enum-known-f
 enum-known-f c = search needs
 
 add-t6 : tie.Need-add-t6
-add-t6 c = let h = c .before .before .before .pre .1 _ _ (c .before .f .given .1) in omega (arith, c .before .before .before .pre .0)
+add-t6 c = let h = c .before .before .before .pre .near _ _ (c .before .f .given .1) in omega (arith, c .before .before .before .pre .few)
 
 returns : tie.Need-returns
 returns c = moved-item _ _ _ _ _ (c .enum-told .given .1)

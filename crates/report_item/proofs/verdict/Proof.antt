@@ -1,5 +1,4 @@
-use native.Mathlib.Omega.{arith}
-use Rattle.report_item.proofs.Laws.{inside-units, judged, not-judged}
+use Rattle.report_item.proofs.Laws.{inside-item, judged, over-limit, behind-all, more-than-all}
 use borrow.Author.Needs.{needs}
 use Rattle.report_item.proofs.verdict.Statement.{statement}
 use Rattle.report_item.proofs.verdict.Tie as tie
@@ -11,25 +10,27 @@ limit-requires : tie.Need-limit-requires
 limit-requires c κs = search needs
 
 returns : tie.Need-returns
-returns c = λ few k h i. absurd (omega (arith, c .before .limit .ensures))
+returns c = search over-limit
 
 returns-2 : tie.Need-returns-2
-returns-2 c = not-judged (c .before .before .before .before .before .args .form) _ (c .before .before .before .before .before .args .at) (c .before .before .before .before .before .args .size) _ _ (c .before .before .before .units .ensures) (omega arith)
+returns-2 c = search behind-all
 
 returns-3 : tie.Need-returns-3
-returns-3 c = not-judged (c .before .before .before .before .before .before .args .form) _ (c .before .before .before .before .before .before .args .at) (c .before .before .before .before .before .before .args .size) _ _ (c .before .before .before .before .units .ensures) (omega arith)
+returns-3 c = search more-than-all
 
 add-level : tie.Need-add-level
 add-level c = search needs
 
 level-requires : tie.Need-level-requires
-level-requires c κs = inside-units (c .before .before .before .before .before .before .args .form) (c .before .before .before .before .before .before .args .s .now) _ _ _ _ (c .before .before .before .before .units .ensures) (c .before .before .before .limit .ensures) (omega arith) (c .before .before .if1 .left) (omega arith)
+level-requires c κs =
+    let f = c .before .before .before .before .before .before .args .form in
+    inside-item f _ _ _ _ _ (c .if3 .left) (c .before .if2 .left) (c .before .before .if1 .left) (search needs) (search needs)
 
 placed-requires : tie.Need-placed-requires
 placed-requires c κs = search needs
 
 returns-4 : tie.Need-returns-4
-returns-4 c = judged (c .before .before .before .before .before .before .before .before .args .form) _ (c .before .before .before .before .before .before .before .before .args .at) (c .before .before .before .before .before .before .before .before .args .size) _ _ (c .before .level .ensures) (c .placed .ensures)
+returns-4 c = search judged
 
 pub verdict-spec : {M : Type 1} → statement M
 verdict-spec =

@@ -16,7 +16,7 @@ limit-binary-requires : tie.Need-limit-binary-requires
 limit-binary-requires c κs = search needs
 
 returns : tie.Need-returns
-returns c = in-form _ _ (c .before .before .before .args .values .now) (c .before .before .before .args .rows .now) _ _ _ (c .before .enum-told .given .1) (c .limit-text .ensures)
+returns c = search in-form
 
 returns-2 : tie.Need-returns-2
 returns-2 c = in-form _ _ (c .before .before .before .args .values .now) (c .before .before .before .args .rows .now) _ _ _ (c .before .enum-told2 .given .1) (c .limit-binary .ensures (c .before .before .before .args .values .now))

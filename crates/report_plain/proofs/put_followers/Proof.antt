@@ -22,13 +22,13 @@ returns-2 : tie.Need-returns-2
 returns-2 c = (omega arith, λ p l. run-none _ _ _ _ p, run-start _ _ _ _)
 
 put-within-requires : tie.Need-put-within-requires
-put-within-requires c κs = record { first = c .before .before .if1 .left; fits = omega (arith, c .before .before .if1 .left, c .before .if2 .left); inside = within (c .before .before .before .before .before .before .before .args .form) (c .before .before .before .before .before .before .before .args .s .now) _ _ _ (c .before .before .before .before .units .ensures) (c .before .before .before .least .ensures) }
+put-within-requires c κs = search (within, needs)
 
 same-length : tie.Need-same-length
 same-length c = search needs
 
 returns-3 : tie.Need-returns-3
-returns-3 c = (omega (arith, c .before .before .put-within .ensures .0, within (c .before .before .before .before .before .before .before .before .before .before .args .form) (c .before .before .before .before .before .before .before .before .before .before .args .s .now) _ _ _ (c .before .before .before .before .before .before .before .units .ensures) (c .before .before .before .before .before .before .least .ensures)), known-run (c .before .before .before .before .before .before .before .before .before .before .args .form) (c .before .before .before .before .before .before .before .before .before .before .args .values .now) (c .before .before .before .before .before .before .before .before .before .before .args .classes .now) (c .before .before .before .before .before .before .before .before .before .before .args .rows .now) (c .before .before .before .before .before .before .before .before .before .before .args .s .now) _ _ _ (c .before .before .before .before .before .before .before .units .ensures) (c .before .before .before .before .before .before .least .ensures) _ _ _ (c .before .before .put-within .ensures .1), c .before .before .put-within .ensures .2)
+returns-3 c = search (within, known-run, needs)
 
 pub put-followers-spec : {M : Type 1} → statement M
 put-followers-spec =

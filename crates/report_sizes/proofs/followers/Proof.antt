@@ -1,6 +1,4 @@
-use native.Mathlib.Omega.{arith}
-use native.Mathlib.Nat.{pos-of-ne-zero}
-use Rattle.report_sizes.proofs.Alike.{no-followers, end-within, followed}
+use Rattle.report_sizes.proofs.Alike.{no-followers, spans, followed}
 use borrow.Author.Needs.{needs}
 use Rattle.report_sizes.proofs.followers.Statement.{statement}
 use Rattle.report_sizes.proofs.followers.Tie as tie
@@ -12,22 +10,22 @@ least-requires : tie.Need-least-requires
 least-requires c κs = search needs
 
 returns : tie.Need-returns
-returns c = no-followers (c .before .before .before .before .args .form) (c .before .before .before .before .args .s .now) (c .before .before .before .before .args .whole) (c .before .before .before .before .args .clean) (c .before .before .before .before .args .at) (c .before .before .before .before .args .size)
+returns c = search no-followers
 
 returns-2 : tie.Need-returns-2
-returns-2 c = no-followers (c .before .before .before .before .before .args .form) (c .before .before .before .before .before .args .s .now) (c .before .before .before .before .before .args .whole) (c .before .before .before .before .before .args .clean) (c .before .before .before .before .before .args .at) (c .before .before .before .before .before .args .size)
+returns-2 c = search no-followers
 
 sub-if3 : tie.Need-sub-if3
 sub-if3 c = search needs
 
 returns-3 : tie.Need-returns-3
-returns-3 c = no-followers (c .before .before .before .before .before .before .args .form) (c .before .before .before .before .before .before .args .s .now) (c .before .before .before .before .before .before .args .whole) (c .before .before .before .before .before .before .args .clean) (c .before .before .before .before .before .before .args .at) (c .before .before .before .before .before .before .args .size)
+returns-3 c = search no-followers
 
 run-units-requires : tie.Need-run-units-requires
-run-units-requires c κs = (omega (arith, pos-of-ne-zero (c .before .before .if1 .left)), omega (arith, c .before .if2 .left, c .if3 .left), end-within (c .before .before .before .before .before .before .args .form) (c .before .before .before .before .before .before .args .s .now) _ _ _ (c .before .before .before .before .units .ensures) (c .before .before .before .least .ensures))
+run-units-requires c κs = search spans
 
 returns-4 : tie.Need-returns-4
-returns-4 c = followed (c .before .before .before .before .before .before .before .args .form) (c .before .before .before .before .before .before .before .args .s .now) (c .before .before .before .before .before .before .before .args .clean) _ _ (c .before .before .before .before .before .units .ensures) (c .before .before .before .before .least .ensures) (c .before .before .before .before .before .before .before .args .whole) (c .before .before .before .before .before .before .before .args .at) (c .before .before .before .before .before .before .before .args .size) _ (c .run-units .ensures)
+returns-4 c = search followed
 
 pub followers-spec : {M : Type 1} → statement M
 followers-spec =

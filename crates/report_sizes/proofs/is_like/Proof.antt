@@ -8,13 +8,13 @@ same-unit-requires : tie.Need-same-unit-requires
 same-unit-requires c κs = search needs
 
 returns : tie.Need-returns
-returns c = by-unit (c .before .before .before .args .form) (c .before .before .before .args .s .now) _ _ _ _ (c .before .if1 .taken) (c .same-unit .ensures)
+returns c = search by-unit
 
 same-requires : tie.Need-same-requires
 same-requires c κs = (omega (arith, some (c .before .before .args .form), c .before .before .pre .0), omega (arith, some (c .before .before .args .form), c .before .before .pre .1))
 
 returns-2 : tie.Need-returns-2
-returns-2 c = by-element (c .before .before .before .args .form) (c .before .before .before .args .s .now) _ _ _ _ (c .before .if1 .left) (c .same .ensures)
+returns-2 c = search by-element
 
 pub is-like-spec : {M : Type 1} → statement M
 is-like-spec = tie.close (tie.spec same-unit-requires returns same-requires returns-2)

@@ -35,7 +35,7 @@ returns : tie.Need-returns
 returns c = by-text (c .before .before .before .before .before .before .args .form) (c .before .before .before .before .before .before .args .values .now) (c .before .before .before .before .before .before .args .s .now) _ _ (c .before .before .before .enum-told .given .1) (λ i. omega (arith, c .before .before .before .before .before .shared-slice-known .given i)) (ap (λ (n : ℕ). getD (c .before .before .before .before .before .before .args .values .now) n 0) (c .before .wide .ensures .0))
 
 returns-2 : tie.Need-returns-2
-returns-2 c = λ v. by-binary (c .before .before .before .before .args .form) (c .before .before .before .before .args .s .now) _ (c .before .enum-told2 .given .1)
+returns-2 c = search by-binary
 
 pub letter-spec : {M : Type 1} → statement M
 letter-spec =

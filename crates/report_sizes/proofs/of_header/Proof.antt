@@ -7,7 +7,7 @@ followers-requires : tie.Need-followers-requires
 followers-requires c κs = search needs
 
 returns : tie.Need-returns
-returns c = (c .followers .ensures .0, λ K e p. header-follows (c .before .before .args .form) (c .before .before .args .s .now) _ _ _ _ K e p (c .followers .ensures .1 p))
+returns c = (c .followers .ensures .few, λ K e p. header-follows (c .before .before .args .form) (c .before .before .args .s .now) _ _ _ _ K e p (c .followers .ensures .run p))
 
 pub of-header-spec : {M : Type 1} → statement M
 of-header-spec = tie.close (tie.spec followers-requires returns)

@@ -17,13 +17,13 @@ add-p : tie.Need-add-p Inv-loop μ-loop
 add-p c = search needs
 
 loop-holds : tie.Need-loop-holds Inv-loop μ-loop
-loop-holds c = reached-start _ _ _ _ (omega (arith, some (c .before .args .form), c .before .pre .0)) (c .before .pre .1)
+loop-holds c = reached-start _ _ _ _ (omega (arith, some (c .before .args .form), c .before .pre .some)) (c .before .pre .fits)
 
 add-loop : tie.Need-add-loop Inv-loop μ-loop
 add-loop c = let h = c .loop .inv .near in search needs
 
 is-like-requires : tie.Need-is-like-requires Inv-loop μ-loop
-is-like-requires c κs = (omega (arith, c .before .before .before .pre), omega (arith, c .loop-test .taken, c .before .before .before .pre))
+is-like-requires c κs = search (needs)
 
 returns : tie.Need-returns Inv-loop μ-loop
 returns c = c .before .before .before .loop .inv .run
@@ -35,10 +35,10 @@ add-r : tie.Need-add-r Inv-loop μ-loop
 add-r c = let h = c .before .before .before .loop .inv .few in let g = c .before .before .before .loop .inv .near in search needs
 
 loop-less : tie.Need-loop-less Inv-loop μ-loop
-loop-less c = omega (arith, c .before .before .loop-test .taken, c .before .before .before .loop .inv .run .some)
+loop-less c = search (needs)
 
 loop-again : tie.Need-loop-again Inv-loop μ-loop
-loop-again c = reached-more _ _ _ _ _ _ (c .before .before .before .loop .inv) (like-more (c .before .before .before .before .before .args .form) (c .before .before .before .before .before .args .s .now) (c .before .before .before .before .before .args .whole) _ _ _ (c .before .is-like .result) (c .before .is-like .ensures) (c .if1 .left)) (c .before .before .loop-test .taken)
+loop-again c = search (reached-more, like-more)
 
 returns-2 : tie.Need-returns-2 Inv-loop μ-loop
 returns-2 c = c .before .loop .inv .run

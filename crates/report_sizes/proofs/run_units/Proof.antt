@@ -1,4 +1,4 @@
-use Rattle.report_sizes.proofs.Alike.{elements-fit, units-run}
+use Rattle.report_sizes.proofs.Alike.{at-fits, size-fits, stop-fits, elements, units-run}
 use borrow.Author.Needs.{needs}
 use Rattle.report_sizes.proofs.run_units.Statement.{statement}
 use Rattle.report_sizes.proofs.run_units.Tie as tie
@@ -7,19 +7,19 @@ unit-requires : tie.Need-unit-requires
 unit-requires c κs = search needs
 
 mul-run : tie.Need-mul-run
-mul-run c = let h = elements-fit (c .before .before .args .form) (c .before .before .args .s .now) _ _ _ _ (c .unit .ensures) (c .before .before .pre .0) (c .before .before .pre .1) (c .before .before .pre .2) in search needs
+mul-run c = search at-fits
 
 mul-run-2 : tie.Need-mul-run-2
-mul-run-2 c = let h = elements-fit (c .before .before .args .form) (c .before .before .args .s .now) _ _ _ _ (c .unit .ensures) (c .before .before .pre .0) (c .before .before .pre .1) (c .before .before .pre .2) in search needs
+mul-run-2 c = search size-fits
 
 mul-run-3 : tie.Need-mul-run-3
-mul-run-3 c = let h = elements-fit (c .before .before .args .form) (c .before .before .args .s .now) _ _ _ _ (c .unit .ensures) (c .before .before .pre .0) (c .before .before .pre .1) (c .before .before .pre .2) in search needs
+mul-run-3 c = search stop-fits
 
 run-requires : tie.Need-run-requires
-run-requires c κs = elements-fit (c .before .before .args .form) (c .before .before .args .s .now) _ _ _ _ (c .unit .ensures) (c .before .before .pre .0) (c .before .before .pre .1) (c .before .before .pre .2)
+run-requires c κs = search elements
 
 returns : tie.Need-returns
-returns c = units-run (c .before .before .before .args .form) (c .before .before .before .args .s .now) (c .before .before .before .args .whole) (c .before .unit .result) _ _ _ _ (c .before .unit .ensures) (c .before .before .before .pre .0) (c .run .ensures)
+returns c = search units-run
 
 pub run-units-spec : {M : Type 1} → statement M
 run-units-spec =

@@ -16,7 +16,7 @@ same-requires-2 : tie.Need-same-requires-2
 same-requires-2 c κs = search needs
 
 returns : tie.Need-returns
-returns c = same-both (c .before .before .before .before .args .s .now) _ _ _ (c .before .before .same .ensures) _ (c .before .if1 .taken) (c .same2 .ensures)
+returns c = search same-both
 
 returns-2 : tie.Need-returns-2
 returns-2 c = same-first (c .before .before .before .args .s .now) _ _ _ (c .before .same .ensures) (c .if1 .left)

@@ -20,7 +20,7 @@ same-two-requires-2 : tie.Need-same-two-requires-2
 same-two-requires-2 c κs = (omega (arith, four _ _ _ (c .before .before .enum-told .given .1) (c .before .before .before .before .before .pre .0)), omega (arith, four _ _ _ (c .before .before .enum-told .given .1) (c .before .before .before .before .before .pre .1)))
 
 returns : tie.Need-returns
-returns c = unit-text (c .before .before .before .before .before .before .args .s .now) _ _ _ (c .before .before .same-two .ensures) _ _ (c .before .before .before .enum-told .given .1) (c .before .if1 .taken) (c .same-two2 .ensures)
+returns c = search unit-text
 
 enum-told-2 : tie.Need-enum-told-2
 enum-told-2 c = search needs
@@ -38,13 +38,13 @@ same-requires : tie.Need-same-requires
 same-requires c κs = (omega (arith, three _ _ _ (c .before .before .enum-told2 .given .1) (c .before .before .before .before .before .pre .0)), omega (arith, three _ _ _ (c .before .before .enum-told2 .given .1) (c .before .before .before .before .before .pre .1)))
 
 returns-2 : tie.Need-returns-2
-returns-2 c = unit-binary (c .before .before .before .before .before .before .args .s .now) _ _ _ (c .before .before .same-two3 .ensures) _ _ (c .before .before .before .enum-told2 .given .1) (c .before .if2 .taken) (c .same .ensures)
+returns-2 c = search unit-binary
 
 returns-3 : tie.Need-returns-3
-returns-3 c = unit-other (c .before .before .before .before .before .args .s .now) _ _ _ (c .before .same-two .ensures) (c .before .before .before .before .before .args .form) (c .if1 .left)
+returns-3 c = search unit-other
 
 returns-4 : tie.Need-returns-4
-returns-4 c = unit-other (c .before .before .before .before .before .args .s .now) _ _ _ (c .before .same-two3 .ensures) (c .before .before .before .before .before .args .form) (c .if2 .left)
+returns-4 c = search unit-other
 
 pub same-unit-spec : {M : Type 1} → statement M
 same-unit-spec =

@@ -37,7 +37,7 @@ same-length : tie.Need-same-length
 same-length c = search needs
 
 returns : tie.Need-returns
-returns c = λ t h e Φ. judged-turn Φ t h _ e _ (c .before .before .before .before .verdict .ensures) _ (c .before .before .put-item .ensures .0) _ (c .before .before .put-item .ensures .1)
+returns c = search judged-turn
 
 pub put-framed-spec : {M : Type 1} → statement M
 put-framed-spec =

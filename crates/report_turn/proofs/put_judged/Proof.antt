@@ -14,7 +14,7 @@ enum-known-size : tie.Need-enum-known-size
 enum-known-size c = search needs
 
 put-framed-requires : tie.Need-put-framed-requires
-put-framed-requires c κs = (c .before .before .before .before .before .before .before .pre, framed-size (c .before .before .before .before .before .before .before .args .form) (c .before .before .before .before .before .before .before .args .s .now) _ _ (c .before .before .before .before .framed .ensures) _ _ _ (c .before .before .size .given .1))
+put-framed-requires c κs = search framed-size
 
 returns : tie.Need-returns
 returns c = λ Φ. rest-turn Φ _ (c .before .before .before .framed .ensures) _ _ (c .before .number .given .1)

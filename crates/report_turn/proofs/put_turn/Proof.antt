@@ -4,19 +4,19 @@ use Rattle.report_turn.proofs.put_turn.Statement.{statement}
 use Rattle.report_turn.proofs.put_turn.Tie as tie
 
 returns : tie.Need-returns
-returns c = λ L K Φ. absurd (not-many Φ (c .if1 .taken))
+returns c = record { right = λ L K Φ. absurd (not-many Φ (c .if1 .taken)) }
 
 returns-2 : tie.Need-returns-2
-returns-2 c = λ L K Φ. absurd (not-stored Φ (c .if2 .taken))
+returns-2 c = record { right = λ L K Φ. absurd (not-stored Φ (c .if2 .taken)) }
 
 returns-3 : tie.Need-returns-3
-returns-3 c = λ L K Φ. absurd (not-refused Φ (c .if3 .taken))
+returns-3 c = record { right = λ L K Φ. absurd (not-refused Φ (c .if3 .taken)) }
 
 units-requires : tie.Need-units-requires
 units-requires c κs = search needs
 
 returns-4 : tie.Need-returns-4
-returns-4 c = λ L K Φ. absurd (not-inside Φ _ (c .before .units .ensures) (c .if4 .taken))
+returns-4 c = record { right = λ L K Φ. absurd (not-inside Φ _ (c .before .units .ensures) (c .if4 .taken)) }
 
 unit-requires : tie.Need-unit-requires
 unit-requires c κs = search needs
@@ -28,7 +28,7 @@ same-length : tie.Need-same-length
 same-length c = search needs
 
 returns-5 : tie.Need-returns-5
-returns-5 c = λ L K. by-unit (c .before .before .before .before .before .before .before .before .before .before .before .before .args .form) _ (c .before .before .before .before .before .before .before .before .before .before .before .before .args .s .now) _ _ _ _ (c .before .before .before .before .before .before .before .before .before .before .before .before .args .out .now) (c .before .before .put-here .result) _ (c .before .before .before .before .unit .ensures) (c .before .before .put-here .ensures L K)
+returns-5 c = search by-unit
 
 pub put-turn-spec : {M : Type 1} → statement M
 put-turn-spec =

@@ -1,6 +1,5 @@
 -- `walk::binary_item` meets its contract. Assumes nothing.
-use native.Mathlib.Omega.{arith}
-use Rattle.walk_state.specs.Walking.{binaryItem, foundIn}
+use Rattle.walk_state.specs.Walking.{binaryItem}
 use borrow.Author.Needs.{needs}
 use Rattle.walk.proofs.binary_item.Statement.{statement}
 use Rattle.walk.proofs.binary_item.Tie as tie
@@ -8,47 +7,24 @@ use Rattle.walk.proofs.binary_item.Tie as tie
 enum-known-found : tie.Need-enum-known-found
 enum-known-found c = search needs
 
-mul-t10 : tie.Need-mul-t10
-mul-t10 c = let r = rw (c .before .found .given .1) at (c .before .before .before .pre) in omega arith
-
-mul-t12 : tie.Need-mul-t12
-mul-t12 c = let r = rw (c .before .found .given .1) at (c .before .before .before .pre) in omega arith
-
 enum-known-found-2 : tie.Need-enum-known-found-2
 enum-known-found-2 c = search needs
-
-mul-t15 : tie.Need-mul-t15
-mul-t15 c = search needs
-
-add-t17 : tie.Need-add-t17
-add-t17 c = search needs
 
 enum-told : tie.Need-enum-told
 enum-told c = search needs
 
 returns : tie.Need-returns
-unfolding binaryItem foundIn
+unfolding binaryItem
 returns c = rw (c .before .found .given .1)
 
 returns-2 : tie.Need-returns-2
-unfolding binaryItem foundIn
+unfolding binaryItem
 returns-2 c = rw (c .before .found2 .given .1)
 
 returns-3 : tie.Need-returns-3
-unfolding binaryItem foundIn
+unfolding binaryItem
 returns-3 c = rw (c .enum-told .given .1)
 
 pub binary-item-spec : {M : Type 1} → statement M
 binary-item-spec =
-    tie.close
-    (tie.spec
-    enum-known-found
-    mul-t10
-    mul-t12
-    enum-known-found-2
-    mul-t15
-    add-t17
-    enum-told
-    returns
-    returns-2
-    returns-3)
+    tie.close (tie.spec enum-known-found enum-known-found-2 enum-told returns returns-2 returns-3)

@@ -1,6 +1,5 @@
 -- `walk::next_item` meets its contract. Assumes nothing.
 use Rattle.report_next.proofs.Laws.{text-part, binary-part}
-use Rattle.format.specs.Units.{textSextets, binarySextets}
 use borrow.Author.Needs.{needs}
 use Rattle.walk.proofs.next_item.Statement.{statement}
 use Rattle.walk.proofs.next_item.Tie as tie
@@ -56,16 +55,18 @@ next-binary-requires c κs = search needs
 returns : tie.Need-returns
 returns c =
     let b = c .before .before .before .before .before .before .before in
-    let p = rw (c .before .before .enum-told .given .1) at (b .pre) in
-    rw (c .before .before .enum-told .given .1)
-    (rw (text-part (b .args .s .now) (b .args .w .at) (b .args .stop) (p .1), c .before .before .before .before .before .is-asked .ensures) at (c .next-text .ensures))
+    let q = c .before .before .enum-told .given .1 in
+    let p = rw q at (b .pre) in
+    let e = text-part (b .args .s .now) (b .args .w .at) (b .args .stop) (p .order) in
+    rw q (rw (e, c .before .before .before .before .before .is-asked .ensures) at (c .next-text .ensures))
 
 returns-2 : tie.Need-returns-2
 returns-2 c =
     let b = c .before .before .before .before .before .before .before in
-    let p = rw (c .before .before .enum-told2 .given .1) at (b .pre) in
-    rw (c .before .before .enum-told2 .given .1)
-    (rw (binary-part (b .args .s .now) (b .args .w .at) (b .args .stop) (p .1) (p .2), c .before .before .before .before .before .is-asked .ensures) at (c .next-binary .ensures))
+    let q = c .before .before .enum-told2 .given .1 in
+    let p = rw q at (b .pre) in
+    let e = binary-part (b .args .s .now) (b .args .w .at) (b .args .stop) (p .order) (p .room) in
+    rw q (rw (e, c .before .before .before .before .before .is-asked .ensures) at (c .next-binary .ensures))
 
 pub next-item-spec : {M : Type 1} → statement M
 next-item-spec =

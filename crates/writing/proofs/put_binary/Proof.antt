@@ -43,10 +43,7 @@ same-length c = search needs
 
 -- src/lib.rt:314:1
 returns : tie.Need-returns
-returns c =
-    let a = c .before .before .before .before .before .before .before .before .before .before .before .args in
-    let q = c .before .before .before .before .before .before .before .before .before .before .before .pre in
-    put-binary (a .t1) (a .raw .now) (a .out .now) _ _ (a .start) (search needs) (q .1) (c .before .before .before .before .before .before .copy .ensures .1) (c .before .before .copy2 .ensures .1)
+returns c = search (put-binary, needs)
 
 pub put-binary-spec : {M : Type 1} → statement M
 put-binary-spec =

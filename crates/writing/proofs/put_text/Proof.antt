@@ -67,11 +67,7 @@ same-length c = search needs
 
 -- src/lib.rt:338:1
 returns : tie.Need-returns
-returns c =
-    let a = c .before .before .before .before .before .before .before .before .before .before .before .before .before .args in
-    let q = c .before .before .before .before .before .before .before .before .before .before .before .before .before .pre in
-    put-text (a .head) _ (a .raw .now) (a .out .now) _ _ (a .start) _ _ (search needs) (q .1) (q .2) (q .3) (search needs) (c .before .before .before .before .before .before .before .before .before .before .join .ensures)
-    (c .before .before .before .before .before .before .before .binary-to-text .ensures .0) (c .before .before .before .before .before .before .before .binary-to-text .ensures .1) (c .before .before .binary-to-text2 .ensures .0) (c .before .before .binary-to-text2 .ensures .1)
+returns c = search (put-text, needs)
 
 pub put-text-spec : {M : Type 1} → statement M
 put-text-spec =

@@ -1,5 +1,4 @@
-use native.Mathlib.Omega.{arith}
-use Rattle.writing.proofs.Cursors.{binary-ends, binary-behind, binary-at-refused, binary-at-written}
+use Rattle.writing.proofs.Cursors.{binary-fits, binary-behind, binary-at-refused, binary-at-written}
 use borrow.Author.Needs.{needs}
 use Rattle.writing.proofs.write_binary_at.Statement.{statement}
 use Rattle.writing.proofs.write_binary_at.Tie as tie
@@ -38,9 +37,7 @@ enum-known-written-2 c = search needs
 
 -- src/lib.rt:420:74
 add-t18 : tie.Need-add-t18
-add-t18 c =
-    let a = c .before .before .before .before .before .before .before .before .before .before .before .args in
-    omega (arith, binary-ends (a .out .now) (a .cursor .0) _ (c .before .before .before .before .before .before .before .before .cursor-in .ensures) _ _ _ (a .raw .now) _ (c .before .before .before .before .before .before .write-binary .ensures .0) _ (c .before .before .written2 .given .1) .0)
+add-t18 c = search binary-fits
 
 -- src/lib.rt:411:1
 same-length : tie.Need-same-length
@@ -48,11 +45,7 @@ same-length c = search needs
 
 -- src/lib.rt:411:1
 returns : tie.Need-returns
-returns c =
-    let a = c .before .before .before .before .before .before .before .before .before .before .args in (
-      binary-at-refused (a .out .now) (a .cursor .0) _ (c .before .before .before .before .before .before .before .cursor-in .ensures) _ _ _ (a .raw .now) _ (c .before .before .before .before .before .write-binary .ensures .0) _ _ (c .before .written .given .1),
-      binary-behind (a .out .now) (a .cursor .0) _ (c .before .before .before .before .before .before .before .cursor-in .ensures) _ _ _ (a .raw .now) _ (c .before .before .before .before .before .write-binary .ensures .0) _ (c .before .before .before .before .before .write-binary .ensures .1),
-    )
+returns c = search (binary-at-refused, binary-behind)
 
 -- src/lib.rt:411:1
 same-length-2 : tie.Need-same-length-2
@@ -60,11 +53,7 @@ same-length-2 c = search needs
 
 -- src/lib.rt:411:1
 returns-2 : tie.Need-returns-2
-returns-2 c =
-    let a = c .before .before .before .before .before .before .before .before .before .before .before .args in (
-      binary-at-written (a .out .now) (a .cursor .0) _ (c .before .before .before .before .before .before .before .before .cursor-in .ensures) _ _ _ (a .raw .now) _ (c .before .before .before .before .before .before .write-binary .ensures .0) _ (c .before .before .written2 .given .1),
-      binary-behind (a .out .now) (a .cursor .0) _ (c .before .before .before .before .before .before .before .before .cursor-in .ensures) _ _ _ (a .raw .now) _ (c .before .before .before .before .before .before .write-binary .ensures .0) _ (c .before .before .before .before .before .before .write-binary .ensures .1),
-    )
+returns-2 c = search (binary-at-written, binary-behind)
 
 pub write-binary-at-spec : {M : Type 1} → statement M
 write-binary-at-spec =

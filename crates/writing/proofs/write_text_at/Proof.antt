@@ -1,5 +1,4 @@
-use native.Mathlib.Omega.{arith}
-use Rattle.writing.proofs.Cursors.{text-ends, text-behind, text-at-refused, text-at-written}
+use Rattle.writing.proofs.Cursors.{text-fits, text-behind, text-at-refused, text-at-written}
 use borrow.Author.Needs.{needs}
 use Rattle.writing.proofs.write_text_at.Statement.{statement}
 use Rattle.writing.proofs.write_text_at.Tie as tie
@@ -38,9 +37,7 @@ enum-known-written-2 c = search needs
 
 -- src/lib.rt:434:68
 add-t18 : tie.Need-add-t18
-add-t18 c =
-    let a = c .before .before .before .before .before .before .before .before .before .before .before .args in
-    omega (arith, text-ends (a .out .now) (a .cursor .0) _ (c .before .before .before .before .before .before .before .before .cursor-in .ensures) _ _ _ (a .raw .now) _ (c .before .before .before .before .before .before .write-text .ensures .0) _ (c .before .before .written2 .given .1) .0)
+add-t18 c = search text-fits
 
 -- src/lib.rt:425:1
 same-length : tie.Need-same-length
@@ -48,11 +45,7 @@ same-length c = search needs
 
 -- src/lib.rt:425:1
 returns : tie.Need-returns
-returns c =
-    let a = c .before .before .before .before .before .before .before .before .before .before .args in (
-      text-at-refused (a .out .now) (a .cursor .0) _ (c .before .before .before .before .before .before .before .cursor-in .ensures) _ _ _ (a .raw .now) _ (c .before .before .before .before .before .write-text .ensures .0) _ _ (c .before .written .given .1),
-      text-behind (a .out .now) (a .cursor .0) _ (c .before .before .before .before .before .before .before .cursor-in .ensures) _ _ _ (a .raw .now) _ (c .before .before .before .before .before .write-text .ensures .0) _ (c .before .before .before .before .before .write-text .ensures .1),
-    )
+returns c = search (text-at-refused, text-behind)
 
 -- src/lib.rt:425:1
 same-length-2 : tie.Need-same-length-2
@@ -60,11 +53,7 @@ same-length-2 c = search needs
 
 -- src/lib.rt:425:1
 returns-2 : tie.Need-returns-2
-returns-2 c =
-    let a = c .before .before .before .before .before .before .before .before .before .before .before .args in (
-      text-at-written (a .out .now) (a .cursor .0) _ (c .before .before .before .before .before .before .before .before .cursor-in .ensures) _ _ _ (a .raw .now) _ (c .before .before .before .before .before .before .write-text .ensures .0) _ (c .before .before .written2 .given .1),
-      text-behind (a .out .now) (a .cursor .0) _ (c .before .before .before .before .before .before .before .before .cursor-in .ensures) _ _ _ (a .raw .now) _ (c .before .before .before .before .before .before .write-text .ensures .0) _ (c .before .before .before .before .before .before .write-text .ensures .1),
-    )
+returns-2 c = search (text-at-written, text-behind)
 
 pub write-text-at-spec : {M : Type 1} → statement M
 write-text-at-spec =

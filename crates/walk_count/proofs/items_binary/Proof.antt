@@ -1,8 +1,8 @@
--- `reader::items_binary` meets its contract: what is left from the start. Assumes nothing.
+-- `walk_count::items_binary` meets its contract. What is left from the start. Assumes nothing.
 use mathlib.Core.Path.{_∙_}
 use borrow.Author.Needs.{needs}
-use Rattle.reader.proofs.items_binary.Statement.{statement}
-use Rattle.reader.proofs.items_binary.Tie as tie
+use Rattle.walk_count.proofs.items_binary.Statement.{statement}
+use Rattle.walk_count.proofs.items_binary.Tie as tie
 
 new-requires : tie.Need-new-requires
 new-requires c κs = search needs

@@ -1,4 +1,4 @@
--- `reader::step_text` meets its contract: a walk of its MIR, by hand. Four calls: `Reader::new`, `resumed`, `next_text`, and of what it hands back `state`. What each answers is the next one's reader.
+-- `reader_step::step_text` meets its contract: a walk of its MIR, by hand. Four calls: `Reader::new`, `resumed`, `next_text`, and of what it hands back `state`. What each answers is the next one's reader.
 -- A `&[u8]` is Copy, so what it owns is had twice: once for s at exit, and once for `new`. So is what the step hands back: once for `state`, and once for what was found. What a state owns is made from its facts.
 -- Assumes nothing.
 use mathlib.Core.Path.{_≡_, refl, ap, _∙_, subst}
@@ -50,34 +50,34 @@ use Rattle.walk_state.proofs.TextItem as I
 use Rattle.walk_state.proofs.TextItem.Laws as I′
 use Rattle.walk_state.proofs.TextStep as R
 use Rattle.walk_state.proofs.TextStep.Laws as R′
 use Rattle.reader.specs.Reading.{opened, resumedAt, textTaken}
 use Rattle.reader.specs.Behind.{text-taken}
 use Rattle.reader.specs.declared.Reader.{Reader}
 use Rattle.reader.specs.declared.TextTaken.{TextTaken}
 use Rattle.reader.proofs.TextTaken as K
 use Rattle.reader.proofs.TextTaken.Laws as K′
 use Rattle.reader.proofs.Reader as T
 use Rattle.reader.proofs.Reader.Laws as T′
 use Rattle.reader.proofs.Reader.new as new
 use Rattle.reader.proofs.Reader.new.Symbol as new-def
 use Rattle.reader.proofs.Reader.new.Symbol.{name as #reader·Reader·new}
 use Rattle.reader.proofs.Reader.new.Met as new-thm
 use Rattle.reader.proofs.Reader.resumed as resumed
 use Rattle.reader.proofs.Reader.resumed.Symbol as resumed-def
 use Rattle.reader.proofs.Reader.resumed.Symbol.{name as #reader·Reader·resumed}
 use Rattle.reader.proofs.Reader.resumed.Met as resumed-thm
 use Rattle.reader.proofs.Reader.state as state
 use Rattle.reader.proofs.Reader.state.Symbol as state-def
 use Rattle.reader.proofs.Reader.state.Symbol.{name as #reader·Reader·state}
 use Rattle.reader.proofs.Reader.state.Met as state-thm
 use Rattle.reader.proofs.Reader.next_text as next
 use Rattle.reader.proofs.Reader.next_text.Symbol as next-def
 use Rattle.reader.proofs.Reader.next_text.Symbol.{name as #reader·Reader·next-text}
 use Rattle.reader.proofs.Reader.next_text.Met as next-thm
-use Rattle.reader.proofs.step_text.Key.{name as #reader·step-text}
-use Rattle.reader.proofs.step_text as step
-use Rattle.reader.proofs.step_text.Statement as stated
-use Rattle.reader.proofs.step_text.Code as code
+use Rattle.reader_step.proofs.step_text.Key.{name as #reader-step·step-text}
+use Rattle.reader_step.proofs.step_text as step
+use Rattle.reader_step.proofs.step_text.Statement as stated
+use Rattle.reader_step.proofs.step_text.Code as code
 
 -- the structs' types, over the signature's lifetimes
 abbrev B : Lfts 1 → RattleType
@@ -300,7 +300,7 @@ pub step-text-spec : {M : Type 1} → stated.statement M
 unfolding code.routine tablesOf
 step-text-spec 𝓤 H 𝓜 𝓖 𝓡 =
     entered 𝓤 H (tripleOf 𝓤 H (𝓖 .A) step.signature (step.spec 𝓤 H (𝓖 .A) (𝓜 .mem) (𝓡 .run)))
-    (tables 𝓤 H 𝓜 𝓡 code.env .C) (tables 𝓤 H 𝓜 𝓡 code.env .Λ) #reader·step-text code.function (code.unfolded 𝓤 H 𝓜 𝓡)
+    (tables 𝓤 H 𝓜 𝓡 code.env .C) (tables 𝓤 H 𝓜 𝓡 code.env .Λ) #reader-step·step-text code.function (code.unfolded 𝓤 H 𝓜 𝓡)
     (step-meets 𝓤 H (𝓖 .A) (givenOf 𝓤 H 𝓜 𝓖) (𝓜 .mem) (𝓡 .run) (tablesOf 𝓤 H 𝓜 (tables 𝓤 H 𝓜 𝓡 code.env))
     (cited 𝓤 H (New 𝓤 H (𝓖 .A) (𝓜 .mem) (𝓡 .run)) 𝓜 𝓡 code.env #reader·Reader·new new-def.routine code.calls-reader·Reader·new (new-thm.met 𝓤 H 𝓜 𝓖 𝓡))
     (cited 𝓤 H (Resumed 𝓤 H (𝓖 .A) (𝓜 .mem) (𝓡 .run)) 𝓜 𝓡 code.env #reader·Reader·resumed resumed-def.routine code.calls-reader·Reader·resumed (resumed-thm.met 𝓤 H 𝓜 𝓖 𝓡))

@@ -1,10 +1,10 @@
 -- 01: "Where an answer is an enum, a definition gives this paper's number and values for every one of its cases": of a counted walk. 0 and
 -- no place where it ended, else the refusal's number and place. Assumes nothing.
 use Prim.Native.Nat.{ℕ}
-use Rattle.reader.specs.declared.TextEnd.{TextEnd}
-use Rattle.reader.specs.declared.TextEnd.the-variants as T
-use Rattle.reader.specs.declared.BinaryEnd.{BinaryEnd}
-use Rattle.reader.specs.declared.BinaryEnd.the-variants as B
+use Rattle.walk_count.specs.declared.TextEnd.{TextEnd}
+use Rattle.walk_count.specs.declared.TextEnd.the-variants as T
+use Rattle.walk_count.specs.declared.BinaryEnd.{BinaryEnd}
+use Rattle.walk_count.specs.declared.BinaryEnd.the-variants as B
 
 unfoldable pub textEndNumber : TextEnd → ℕ
 textEndNumber T.End = 0

@@ -1,4 +1,4 @@
--- A walk counted: the items that its steps yield, and what stops it. Runs the walk's single step. Assumes nothing.
+-- A walk counted: the items that its steps yield, and what the step behind them finds. Runs the walk's single step. Assumes nothing.
 use Prim.Native.Nat.{ℕ, zero, suc, _+_}
 use mathlib.Core.List.{List}
 use Rattle.format.specs.Units.{Domain}
@@ -8,17 +8,13 @@ use Rattle.walk_state.specs.declared.Found.{Found}
 use Rattle.walk_state.specs.declared.Found.the-variants as F
 use Rattle.walk_state.specs.Walking.{stepIn}
 use Rattle.walk_claims.specs.Words.{unitsIn}
-use Rattle.reader.specs.declared.TextEnd.{TextEnd}
-use Rattle.reader.specs.declared.TextEnd.the-variants as T
-use Rattle.reader.specs.declared.TextTally.{TextTally}
-use Rattle.reader.specs.declared.BinaryEnd.{BinaryEnd}
-use Rattle.reader.specs.declared.BinaryEnd.the-variants as B
-use Rattle.reader.specs.declared.BinaryTally.{BinaryTally}
-
-pub record Tally : Type 0 where
-  pub items : ℕ
-  -- what the step behind them finds
-  pub last : Found
+use Rattle.walk_count.specs.declared.Tally.{Tally}
+use Rattle.walk_count.specs.declared.TextEnd.{TextEnd}
+use Rattle.walk_count.specs.declared.TextEnd.the-variants as T
+use Rattle.walk_count.specs.declared.TextTally.{TextTally}
+use Rattle.walk_count.specs.declared.BinaryEnd.{BinaryEnd}
+use Rattle.walk_count.specs.declared.BinaryEnd.the-variants as B
+use Rattle.walk_count.specs.declared.BinaryTally.{BinaryTally}
 
 abbrev pub none : Found → Tally
 none f = record { items = 0; last = f }

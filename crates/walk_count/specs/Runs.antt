@@ -18,7 +18,8 @@ use Rattle.walk_state.specs.Walking.{isFit, stepIn}
 use Rattle.walk_claims.specs.Words.{unitsIn, Yields, Stops}
 use Rattle.walk_claims.specs.Claims.{StreamClaims}
 use Rattle.walk_claims.specs.Proved.{proved}
-use Rattle.reader.specs.Counting.{Tally, none, plus, onItem, runIn}
+use Rattle.walk_count.specs.declared.Tally.{Tally}
+use Rattle.walk_count.specs.Counting.{none, plus, onItem, runIn}
 
 -- an item, or else a refusal or the end
 pub one-of : (f : Found) → Yields f ⊎ Stops f

@@ -1,0 +1,5 @@
+pub mod Counting
+pub mod Numbers
+pub mod Claims
+pub mod Runs
+pub mod Proved
