@@ -1,5 +1,5 @@
 -- The distances of the scan, and what a clean block says of the first stranger. Assumes nothing.
-use mathlib.Core.Path.{_≡_, refl, sym}
+use mathlib.Core.Path.{_≡_, refl}
 use mathlib.Core.Bool.{Bool, true, false}
 use mathlib.Core.List.{List, [], _∷_}
 use mathlib.Core.Logic.{⊎-elim}
@@ -14,7 +14,6 @@ use borrow.Author.Tests.{lt-ltb, le-ltb, le-leb, ne-eqb, leb-true}
 use Rattle.base.specs.Cases.{lt-or-ge}
 use Rattle.base.specs.Table.{both}
 use Rattle.base.specs.Below.{below}
-use Rattle.base.specs.Keys.{Missed, last-arm}
 use Rattle.format.specs.Alphabet.{sextetOf}
 use Rattle.format.specs.Conversion.{firstStranger}
 
@@ -107,22 +106,3 @@ passed (c ∷ t) (suc n) h =
 pub clean-block : (s : List ℕ) (at n : ℕ) → leb n (firstStranger (drop at s)) ≡ true
     → at + firstStranger (drop at s) ≡ (at + n) + firstStranger (drop (at + n) s)
 clean-block s at n e = rw (← drop-drop n at s) (omega (arith, passed (drop at s) n (leb-true _ _ e)))
-
--- ---- a character's value, told case by case
-
-abbrev one : ℕ → List ℕ
-one k = k ∷ []
-
--- the cases, the last one first
-abbrev cases : List (List ℕ)
-cases =
-    one 122 ∷ one 121 ∷ one 120 ∷ one 119 ∷ one 118 ∷ one 117 ∷ one 116 ∷ one 115 ∷ one 114 ∷ one 113 ∷ one 112 ∷ one 111 ∷
-    one 110 ∷ one 109 ∷ one 108 ∷ one 107 ∷ one 106 ∷ one 105 ∷ one 104 ∷ one 103 ∷ one 102 ∷ one 101 ∷ one 100 ∷ one 99 ∷
-    one 98 ∷ one 97 ∷ one 95 ∷ one 90 ∷ one 89 ∷ one 88 ∷ one 87 ∷ one 86 ∷ one 85 ∷ one 84 ∷ one 83 ∷ one 82 ∷ one 81 ∷ one
-    80 ∷ one 79 ∷ one 78 ∷ one 77 ∷ one 76 ∷ one 75 ∷ one 74 ∷ one 73 ∷ one 72 ∷ one 71 ∷ one 70 ∷ one 69 ∷ one 68 ∷ one 67
-    ∷ one 66 ∷ one 65 ∷ one 57 ∷ one 56 ∷ one 55 ∷ one 54 ∷ one 53 ∷ one 52 ∷ one 51 ∷ one 50 ∷ one 49 ∷ one 48 ∷ one 45 ∷
-    []
-
-pub outside : (c : ℕ) → c < 256 → Missed cases c → 64 ≡ sextetOf c
-unfolding sextetOf
-outside c h m = sym (eqb→eq (sextetOf c) 64 (last-arm (λ (x : ℕ). eqb (sextetOf x) 64) cases 256 tt c h m))

@@ -2,10 +2,11 @@
 ghost use mathlib.Core.Path.{_≡_};
 ghost use Prim.Native.Nat.{_+_, _-_, _≤_, min};
 ghost use lib.Dec.{eqb, leb, ltb};
-ghost use lib.ListN.{length, drop};
+ghost use lib.ListN.{length, getD, drop};
 ghost use Rattle.format.specs.Alphabet.{sextetOf, charOf, sextetTable, characterTable};
 ghost use Rattle.format.specs.Conversion.{firstStranger};
 
+// A character is named where a run of the alphabet begins or ends, and where ordinary Base64 has one that is a stranger here.
 const SEXTETS: [u8; 256] = [
     64,
     64,
@@ -50,12 +51,12 @@ const SEXTETS: [u8; 256] = [
     64,
     64,
     64,
+    64, // +
     64,
+    62, // -
     64,
-    62,
-    64,
-    64,
-    52,
+    64, // /
+    52, // 0
     53,
     54,
     55,
@@ -64,15 +65,15 @@ const SEXTETS: [u8; 256] = [
     58,
     59,
     60,
-    61,
+    61, // 9
     64,
     64,
     64,
+    64, // =
     64,
     64,
     64,
-    64,
-    0,
+    0, // A
     1,
     2,
     3,
@@ -97,14 +98,14 @@ const SEXTETS: [u8; 256] = [
     22,
     23,
     24,
-    25,
+    25, // Z
     64,
     64,
     64,
     64,
-    63,
+    63, // _
     64,
-    26,
+    26, // a
     27,
     28,
     29,
@@ -129,7 +130,7 @@ const SEXTETS: [u8; 256] = [
     48,
     49,
     50,
-    51,
+    51, // z
     64,
     64,
     64,
@@ -346,77 +347,20 @@ pub fn characters() -> [u8; 64]
     CHARACTERS
 }
 
-// The value of a character, 64 for one outside the alphabet.
+// The look-up: a character's entry in a table that is lent, which is its value where the table is `sextets`.
+pub fn value(values: &[u8; 256], c: u8) -> u8
+    ensures { λ r. ⌜ r ≡ getD (now (values .entry)) c 0 ⌝ }
+    ensures { λ r. ⌜ (now (values .entry) ≡ sextetTable → r ≡ sextetOf c) ⌝ }
+{
+    values[c as usize]
+}
+
+// The value of one character, 64 for one outside the alphabet.
 pub fn sextet(c: u8) -> u8
     ensures { λ r. ⌜ r ≡ sextetOf c ⌝ }
 {
-    match c {
-        45 => 62,
-        48 => 52,
-        49 => 53,
-        50 => 54,
-        51 => 55,
-        52 => 56,
-        53 => 57,
-        54 => 58,
-        55 => 59,
-        56 => 60,
-        57 => 61,
-        65 => 0,
-        66 => 1,
-        67 => 2,
-        68 => 3,
-        69 => 4,
-        70 => 5,
-        71 => 6,
-        72 => 7,
-        73 => 8,
-        74 => 9,
-        75 => 10,
-        76 => 11,
-        77 => 12,
-        78 => 13,
-        79 => 14,
-        80 => 15,
-        81 => 16,
-        82 => 17,
-        83 => 18,
-        84 => 19,
-        85 => 20,
-        86 => 21,
-        87 => 22,
-        88 => 23,
-        89 => 24,
-        90 => 25,
-        95 => 63,
-        97 => 26,
-        98 => 27,
-        99 => 28,
-        100 => 29,
-        101 => 30,
-        102 => 31,
-        103 => 32,
-        104 => 33,
-        105 => 34,
-        106 => 35,
-        107 => 36,
-        108 => 37,
-        109 => 38,
-        110 => 39,
-        111 => 40,
-        112 => 41,
-        113 => 42,
-        114 => 43,
-        115 => 44,
-        116 => 45,
-        117 => 46,
-        118 => 47,
-        119 => 48,
-        120 => 49,
-        121 => 50,
-        122 => 51,
-        _ => 64,
-    }
+    let values = sextets();
+    value(&values, c)
 }
 
 // The character of a sextet; 0, which is no character of the alphabet, for a number from 64 on.
@@ -469,8 +413,23 @@ fn strangers(s: &[u8], at: usize) -> u8
     bad
 }
 
-// The place of the first character outside the alphabet, or the length where there is none: whole blocks while they are clean,
-// then character by character.
+// The place of the first character outside the alphabet from a place on, or the length, character by character.
+fn stranger_from(s: &[u8], from: usize) -> usize
+    requires { ⌜ from ≤ length (now s) ⌝ }
+    ensures { λ r. ⌜ r ≡ from + firstStranger (drop from (now (s .entry))) ⌝ }
+{
+    let values = sextets();
+    let mut i = from;
+    while i < s.len() {
+        if 63 < value(&values, s[i]) {
+            return i;
+        }
+        i = i + 1;
+    }
+    i
+}
+
+// The same from the start: whole blocks while they are clean, then character by character.
 pub fn first_stranger(s: &[u8]) -> usize
     ensures { λ r. ⌜ r ≡ firstStranger (now (s .entry)) ⌝ }
 {
@@ -484,11 +443,5 @@ pub fn first_stranger(s: &[u8]) -> usize
         }
         i = i + 64;
     }
-    while i < s.len() {
-        if 63 < sextet(s[i]) {
-            return i;
-        }
-        i = i + 1;
-    }
-    i
+    stranger_from(s, i)
 }

@@ -1,7 +1,6 @@
 pub mod Pick
 pub mod Table
 pub mod Below
-pub mod Keys
 pub mod Digits
 pub mod Cases
 pub mod Lists

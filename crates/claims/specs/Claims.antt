@@ -1,10 +1,11 @@
 -- The demands of the mission, over the definitions of format. Statements only, a field a sentence, each below the mission's own
--- words in quotes (01's where they say so). What the words mean is in Words, and in damage's Words. `Claims` is proved in Proved;
+-- words in quotes (01's and 02's where they say so). What the words mean is in Words, and in damage's Words. `Claims` is proved in Proved;
 -- the deck, in format's Deck. Assumes nothing.
 use Prim.Native.Nat.{ℕ, _+_, _*_, _/_, _≤_, _<_}
 use mathlib.Core.Path.{_≡_}
 use mathlib.Core.List.{List, [], _∷_, _++_}
-use lib.ListN.{length, drop}
+use lib.Dec.{eqb, ltb}
+use lib.ListN.{length, getD, drop}
 use Rattle.format.specs.declared.Kind.{Kind}
 use Rattle.format.specs.declared.TextOffset.{TextOffset}
 use Rattle.format.specs.declared.BinaryOffset.{BinaryOffset}
@@ -17,6 +18,8 @@ use Rattle.format.specs.declared.TextFound.the-variants as TF
 use Rattle.format.specs.declared.BinaryFound.the-variants as BF
 use Rattle.format.specs.declared.TextWritten.the-variants as TW
 use Rattle.format.specs.declared.BinaryWritten.the-variants as BW
+use Rattle.format.specs.Alphabet.{stranger, sextetOf, sextetTable}
+use Rattle.format.specs.Characters.{characterWith, howMany}
 use Rattle.format.specs.Units.{Domain, text, binary, textSextets, binarySextets}
 use Rattle.format.specs.Offsets.{textOffset, binaryOffset}
 use Rattle.format.specs.Conversion.{toBinary, toText, textToBinary, binaryLeft, binaryToText, textLeft}
@@ -161,11 +164,28 @@ pub record FramingClaims : Type 0 where
   -- which header has one unit and which two
   pub one-or-two : (a b c d : ℕ) → (opening a b c d ≡ Unknown → ⊥) → headerUnits (opening a b c d) ≡ headerOf a b
 
+-- ---- 02's request b, of the table that the code reads: `alphabet::sextets` promises `sextetTable`, and who looks a character up is lent
+-- that table. The values are places in 01's alphabet, written out in format's Characters
+
+pub record LookupClaims (table : List ℕ) : Type 0 where
+  -- "Use one table of 256 entries, its rule shown over all of them:"
+  pub entries : length table ≡ 256
+  -- "64 give 01's values,": each character of the alphabet its place in it, and no value stands twice
+  pub values : (v : ℕ) → v < 64 → getD table (characterWith v) 0 ≡ v
+  pub once : (v : ℕ) → v < 64 → howMany (eqb v) table ≡ 1
+  pub sixty-four : howMany (λ x. ltb x 64) table ≡ 64
+  -- "the other 192 none.": 64, which is no value, for each byte outside
+  pub others : (c : ℕ) → c < 256 → ((v : ℕ) → v < 64 → characterWith v ≡ c → ⊥) → getD table c 0 ≡ stranger
+  pub as-many : howMany (eqb stranger) table ≡ 192
+  -- "The lookup answers exactly as before, for every byte."
+  pub as-before : (c : ℕ) → c < 256 → getD table c 0 ≡ sextetOf c
+
 -- ---- all of it
 
 pub record Claims : Type 0 where
   pub demand1 : Demand1
   pub demand2 : Demand2
   pub framing : FramingClaims
+  pub lookup : LookupClaims sextetTable
   pub demand3-text : Demand3 text
   pub demand3-binary : Demand3 binary

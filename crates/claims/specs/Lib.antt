@@ -6,6 +6,7 @@ pub mod Framed
 pub mod Judged
 pub mod Claims
 pub mod Header
+pub mod Lookup
 pub mod Demand1
 pub mod Numbers
 pub mod Demand3

@@ -12,6 +12,7 @@ pub mod Values
 pub mod Reading
 pub mod Writing
 pub mod Deck
+pub mod Characters
 pub mod RawSizes
 pub mod Readings
 pub mod Calls

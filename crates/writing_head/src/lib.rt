@@ -45,10 +45,11 @@ fn put_tag(cs: [u8; 12], at: usize, tag: [u8; 11], tags: usize) -> [u8; 12]
     requires { ⌜ (at + tags ≤ 12) × (tags ≤ 11) ⌝ }
     ensures { λ r. ⌜ r ≡ paste cs at (map sextetOf tag) tags ⌝ }
 {
+    let values = alphabet::sextets();
     let mut out = cs;
     let mut i = 0;
     while i < tags {
-        out[at + i] = alphabet::sextet(tag[i]);
+        out[at + i] = alphabet::value(&values, tag[i]);
         i += 1;
     }
     out

@@ -11,6 +11,7 @@ mod demands;
 mod generated;
 mod judges;
 mod limits;
+mod lookup;
 mod papers;
 mod walks;
 mod writes;
