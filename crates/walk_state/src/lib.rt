@@ -258,7 +258,8 @@ impl Walk {
         }
     }
 
-    fn place(self) -> Place
+    // All but the ends.
+    pub fn place(self) -> Place
         ensures { λ r. ⌜ walkAt (self .ends) r ≡ self ⌝ }
     {
         Place {
