@@ -39,7 +39,7 @@ use Rattle.walk_state.specs.Lent.{walkAt, Moves}
 use Rattle.walk_state.proofs.Laws.{steps-into, steps-past}
 use Rattle.walk_state.proofs.Lent.{own-moved}
 use Rattle.walk.specs.declared.Moved.{Moved}
-use Rattle.walk.specs.Stepping.{isAsked, placeOf, foundBy, Steps, partStep, unitsIn, reach, Slotted, Ready, Spans, Fits, Measured, InReach}
+use Rattle.walk.specs.Stepping.{isAsked, placeOf, foundBy, isItem, Steps, partStep, unitsIn, reach, Slotted, Ready, Spans, Fits, Measured, InReach}
 use Rattle.walk.proofs.Fitting.{fit-few, fit-there, fit-stop, fit-ahead}
 
 -- ---- the next state
@@ -76,14 +76,14 @@ module _ (before : List ℕ) (p : Place) where
       → opens ≡ isEntered k → mark ≡ isRuled k → Moves before after q (stepOver (walkAt before p) (p .at + h) (p .at + n) opens mark)
       → Steps before after (record { place = q; found = F.Item (p .at) n (p .depth) k h }) (foundBy (walkAt before p) (Item k h n))
   unfolding foundBy
-  told-item k h n few s eo em m = record { moves = leads (walkAt before p) k h n few s eo em m; found = refl }
+  told-item k h n few s eo em m = record { moves = leads (walkAt before p) k h n few s eo em m; found = refl; kept = λ e. let z : _≡_ {A = ℕ} 1 0 = ap (λ (b : Bool). pick b 1 0) e in absurd (omega arith) }
 
   stays : Moves before before p (walkAt before p)
   stays = record { state = refl; behind = refl }
 
   pub told-refused : (m place : ℕ) → Steps before before (record { place = p; found = F.Refused m (4 * p .at + place) }) (foundBy (walkAt before p) (Unframed m place))
   unfolding foundBy
-  told-refused m place = record { moves = stays; found = refl }
+  told-refused m place = record { moves = stays; found = refl; kept = λ e. refl }
 
 -- ---- what is asked of the next item
 
@@ -202,21 +202,27 @@ module _ (form : Form) (xs : List ℕ) (n : ℕ) (w : Walk) (H : Fits form xs n 
 -- at the stream's end
 pub ends : (form : Form) (xs : List ℕ) (n : ℕ) (s : List ℕ) (p : Place) → Fits form xs n (walkAt s p) → (tail : Bool) → p .at ≡ n → {r : Moved}
     → r ≡ record { place = p; found = pick tail (F.Refused 4 (4 * p .at)) F.End } → Steps s s r (stepFit (domain form .sextets xs) n tail (walkAt s p))
-ends form xs n s p H tail e q = rw q (by-same (record { moves = stays s p; found = refl }) (here form xs n (walkAt s p) H tail e))
+ends form xs n s p H tail e q = rw q (by-same (record { moves = stays s p; found = refl; kept = λ e. refl }) (here form xs n (walkAt s p) H tail e))
 
 -- ---- 1 before 13
+
+item-in : (u : ℕ) (f : Found) → isItem (foundIn u f) ≡ isItem f
+unfolding foundIn
+item-in u (F.Item o n d k h) = refl
+item-in u (F.Refused m p) = refl
+item-in u F.End = refl
 
 module _ (form : Form) (xs : List ℕ) (over : Bool) (n : ℕ) (tail : Bool) (m : Measured form xs over n tail) (s : List ℕ) (p : Place) where
   pub too-long : over ≡ true → {r : Moved} → r ≡ record { place = p; found = F.Refused 1 0 } → Steps s s r (stepIn (domain form) xs (walkAt s p))
   unfolding stepIn
-  too-long o e = rw e (by-same (record { moves = stays s p; found = refl }) (rw (← (m .limit), o)))
+  too-long o e = rw e (by-same (record { moves = stays s p; found = refl; kept = λ e. refl }) (rw (← (m .limit), o)))
 
   module _ (o : over ≡ false) where
     pub unfit : isFit (walkAt s p) n ≡ false → {r : Moved} → r ≡ record { place = p; found = F.Refused 13 0 } → Steps s s r (stepIn (domain form) xs (walkAt s p))
     unfolding stepIn step foundIn
     unfit f e =
         let z : 0 * domain form .unit + 0 ≡ 0 = omega arith in
-        rw e (by-same (record { moves = stays s p; found = refl }) (rw (← (m .limit), o, ← (m .units), f, z)))
+        rw e (by-same (record { moves = stays s p; found = refl; kept = λ e. refl }) (rw (← (m .limit), o, ← (m .units), f, z)))
 
     pub fits : isFit (walkAt s p) n ≡ true → Fits form xs n (walkAt s p)
     fits f = record { few = ltb-false (domain form .limit) (length xs) (sym (m .limit) ∙ o); units = m .units; fit = f }
@@ -225,7 +231,7 @@ module _ (form : Form) (xs : List ℕ) (over : Bool) (n : ℕ) (tail : Bool) (m 
         → f ≡ foundIn (domain form .unit) (r .found) → Steps s after (record { place = r .place; found = f }) (stepIn (domain form) xs (walkAt s p))
     unfolding stepIn step
     stepped fit {r = r} t {f} ef =
-        by-same (record { moves = t .moves; found = ef ∙ ap (foundIn (domain form .unit)) (t .found) })
+        by-same (record { moves = t .moves; found = ef ∙ ap (foundIn (domain form .unit)) (t .found); kept = λ e. t .kept (sym (item-in (domain form .unit) (r .found)) ∙ ap isItem (sym ef) ∙ e) })
         (rw (← (m .limit), o, ← (m .units), fit, ← (m .rest)))
 
 -- ---- by value

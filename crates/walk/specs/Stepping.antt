@@ -2,7 +2,7 @@
 use Prim.Native.Nat.{ℕ, _+_, _-_, _*_, _/_, _%_, _≤_, _<_}
 use mathlib.Core.Path.{_≡_}
 use mathlib.Core.List.{List}
-use mathlib.Core.Bool.{Bool, true}
+use mathlib.Core.Bool.{Bool, true, false}
 use lib.ListN.{length}
 use lib.Dec.{ltb, eqb}
 use Rattle.base.specs.Pick.{pick}
@@ -38,10 +38,16 @@ foundBy w (Item k h n) = record { next = nextOf w k h n; found = F.Item (w .at) 
 unfoldable pub partStep : Walk → List ℕ → Stepped
 partStep w s = foundBy w (nextOwn (isAsked (placeOf w)) s (maxDepth - w .depth))
 
--- a step in lent slots: what it leaves there, where it leads and what it finds
+abbrev pub isItem : Found → Bool
+isItem (F.Item o n d k h) = true
+isItem (F.Refused m p) = false
+isItem F.End = false
+
+-- a step in lent slots: what it leaves there, where it leads and what it finds; with no item they stay as they were
 pub record Steps (before after : List ℕ) (r : Moved) (t : Stepped) : Type 0 where
   pub moves : Moves before after (r .place) (t .next)
   pub found : r .found ≡ t .found
+  pub kept : isItem (r .found) ≡ false → after ≡ before
 
 -- a stream's whole units, and whether elements stand behind them
 abbrev pub unitsIn : Domain → List ℕ → ℕ

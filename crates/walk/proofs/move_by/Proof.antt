@@ -22,19 +22,19 @@ same-length : tie.Need-same-length
 same-length c = search needs
 
 returns-2 : tie.Need-returns-2
-returns-2 c = 
+returns-2 c =
     let p = c .before .before .before .before .before .before .before .pre in
     let f = sym (c .before .before .is-fit .ensures (p .0)) ∙ not-true _ (c .before .if2 .taken) in
     unfit _ _ _ _ _ (p .1) _ _ (c .before .before .before .before .if1 .left) f (c .refused2 .ensures)
 
 move-fit-requires : tie.Need-move-fit-requires
-move-fit-requires c κs = 
+move-fit-requires c κs =
     let s = c .before .before .before .before .before .before .before in
     let f = sym (c .before .before .is-fit .ensures (s .pre .0)) ∙ not-false _ (c .before .if2 .left) in
     (s .pre .0, fits _ _ _ _ _ (s .pre .1) (s .args .slots .now) (s .args .p) (c .before .before .before .before .if1 .left) f)
 
 found-in-requires : tie.Need-found-in-requires
-found-in-requires c κs = 
+found-in-requires c κs =
     let t = c .before .before .before .before .before .before in
     let s = t .before .before .before .before .before in
     let f = sym (t .is-fit .ensures (s .pre .0)) ∙ not-false _ (c .before .before .before .before .before .if2 .left) in
@@ -44,7 +44,7 @@ same-length-2 : tie.Need-same-length-2
 same-length-2 c = search needs
 
 returns-3 : tie.Need-returns-3
-returns-3 c = 
+returns-3 c =
     let t = c .before .before .before .before .before .before .before in
     let p = t .before .before .before .before .before .pre in
     let f = sym (t .is-fit .ensures (p .0)) ∙ not-false _ (c .before .before .before .before .before .before .if2 .left) in

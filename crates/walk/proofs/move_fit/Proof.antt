@@ -17,7 +17,7 @@ next-item-requires : tie.Need-next-item-requires
 next-item-requires c κs = let p = c .before .before .before .before .before .before .pre in spans _ _ _ _ (p .1) (c .before .before .if1 .left) _ (c .stop .ensures (p .0))
 
 yielded-requires : tie.Need-yielded-requires
-yielded-requires c κs = 
+yielded-requires c κs =
     let p = c .before .before .before .before .before .before .before .before .pre in
     let ne = c .before .before .before .before .if1 .left in
     let s = c .before .before .stop .ensures (p .0) in
@@ -27,7 +27,7 @@ same-length : tie.Need-same-length
 same-length c = search needs
 
 returns-2 : tie.Need-returns-2
-returns-2 c = 
+returns-2 c =
     let s = c .before .before .before .before .before in
     let p = s .before .before .before .before .before .before .pre in
     goes-on _ _ _ _ (p .1) (s .before .before .if1 .left) _ (s .stop .ensures (p .0)) _ (c .before .before .before .before .next-item .ensures) _ (c .before .before .yielded .ensures)

@@ -53,7 +53,7 @@ next-binary-requires : tie.Need-next-binary-requires
 next-binary-requires c κs = search needs
 
 returns : tie.Need-returns
-returns c = 
+returns c =
     let b = c .before .before .before .before .before .before .before in
     let q = c .before .before .enum-told .given .1 in
     let p = rw q at (b .pre) in
@@ -61,7 +61,7 @@ returns c =
     rw q (rw (e, c .before .before .before .before .before .is-asked .ensures) at (c .next-text .ensures))
 
 returns-2 : tie.Need-returns-2
-returns-2 c = 
+returns-2 c =
     let b = c .before .before .before .before .before .before .before in
     let q = c .before .before .enum-told2 .given .1 in
     let p = rw q at (b .pre) in

@@ -20,7 +20,7 @@ move-in-requires : tie.Need-move-in-requires
 move-in-requires c κs = search needs
 
 returns : tie.Need-returns
-returns c = 
+returns c =
     let a = c .before .before .before .before .before .before .before .args in
     let l : length (a .w .ends) ≡ maxDepth = search needs in
     by-value (search needs) (c .before .before .move-in .ensures (omega arith)) ∙ ap (stepIn (domain (a .form)) (a .s .now)) (c .before .before .before .place .ensures)

@@ -39,7 +39,7 @@ same-length : tie.Need-same-length
 same-length c = search needs
 
 returns-2 : tie.Need-returns-2
-returns-2 c = 
+returns-2 c =
     let m = c .before .before .before .before .before .before .before in
     let p = m .before .before .before .pre in
     let r = rw (m .item2 .given .1) at (p .3) in
