@@ -31,12 +31,13 @@ use Rattle.format.specs.declared.Opening.the-variants.{Unknown}
 use Rattle.format.specs.declared.Framed.the-variants.{Item, Unframed}
 use Rattle.format.specs.Registry.{opening, headerUnits, extent}
 use Rattle.format.specs.Framing.{digits4, sextet, frame}
+use Rattle.format.specs.Judging.{maxDepth}
 use Rattle.format.specs.Values.{rawStart, rawOf}
 use Rattle.damage.specs.Words.{row, itemAt, headOf, Alike, accepted, withIndex, Damaged, ByItself, Partition}
 use Rattle.claims.specs.Order.{None, Refusal}
 use Rattle.claims.specs.Conditions.{toBinaryRules, toTextRules, reportRules, readTextRules, readBinaryRules, writeRules}
 use Rattle.claims.specs.Conditions.{framing, openingOf, itemKind}
-use Rattle.claims.specs.Words.{WholeText, WholeBinary, SameReport, headerOf, remainderAt}
+use Rattle.claims.specs.Words.{WholeText, WholeBinary, SameReport, headerOf, remainderAt, refusalsTo, reportTo, NoEleven}
 
 -- ---- demand 1: "Take any bytes of any length. Every public entry refuses bad input by number and asks nothing of its caller. Where a call
 -- itself is refused, every output buffer holds what it held before." The walk's step is in walk_claims' Claims, what C sees of the
@@ -180,6 +181,14 @@ pub record LookupClaims (table : List ℕ) : Type 0 where
   -- "The lookup answers exactly as before, for every byte."
   pub as-before : (c : ℕ) → c < 256 → getD table c 0 ≡ sextetOf c
 
+-- ---- 02's request g, of the limit of nesting
+
+pub record DeeperClaims (d : Domain) : Type 0 where
+  -- the limit is one number, of "every report"
+  pub one-limit : (xs : List ℕ) → report d xs ≡ reportTo maxDepth d xs
+  -- "Streams whose report held no 11 keep it byte for byte.": whatever the limit was, and whatever it is raised to
+  pub kept : (l m : ℕ) → l ≤ m → (xs : List ℕ) → NoEleven (refusalsTo l d xs) → reportTo m d xs ≡ reportTo l d xs
+
 -- ---- all of it
 
 pub record Claims : Type 0 where
@@ -189,3 +198,4 @@ pub record Claims : Type 0 where
   pub lookup : LookupClaims sextetTable
   pub demand3-text : Demand3 text
   pub demand3-binary : Demand3 binary
+  pub deeper : (d : Domain) → DeeperClaims d

@@ -14,5 +14,6 @@ pub mod Aligned
 pub mod Ratio
 pub mod Parts
 pub mod Demand2
+pub mod Deeper
 pub mod Proved
 pub mod Room

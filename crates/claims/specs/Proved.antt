@@ -5,6 +5,7 @@ use Rattle.claims.specs.Demand2.{demand2}
 use Rattle.claims.specs.Header.{framing-claims}
 use Rattle.claims.specs.Lookup.{lookup-claims}
 use Rattle.claims.specs.Demand3.{text-demand3, binary-demand3}
+use Rattle.claims.specs.Deeper.{deeper-claims}
 
 pub proved : Claims
 proved = record {
@@ -14,4 +15,5 @@ proved = record {
   lookup = lookup-claims;
   demand3-text = text-demand3;
   demand3-binary = binary-demand3;
+  deeper = deeper-claims;
 }

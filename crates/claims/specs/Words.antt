@@ -1,7 +1,7 @@
--- What demands 2 and 3 speak of. No proofs. Assumes nothing.
+-- What demands 2 and 3, and 02 g, speak of. No proofs. Assumes nothing.
 use Prim.Native.Nat.{ℕ, _*_, _%_, _≤_}
 use mathlib.Core.Path.{_≡_}
-use mathlib.Core.List.{List, [], _∷_}
+use mathlib.Core.List.{List, [], _∷_, _++_}
 use lib.ListN.{length, drop}
 use lib.Dec.{leb, eqb}
 use Rattle.base.specs.Pick.{pick}
@@ -9,8 +9,10 @@ use Rattle.base.specs.Digits.{Below}
 use Rattle.format.specs.declared.Verdict.{Verdict}
 use Rattle.format.specs.declared.Verdict.the-variants.{Accepted, Refused}
 use Rattle.format.specs.Alphabet.{within}
-use Rattle.format.specs.Units.{text, binary, textSextets}
-use Rattle.format.specs.Report.{ItemRow, RefusalRow, RemainderRow, rowsIn, refusalsIn, remainderIn}
+use Rattle.format.specs.Units.{Domain, text, binary, textSextets}
+use Rattle.format.specs.Judging.{judge}
+use Rattle.format.specs.Report.{ItemRow, RefusalRow, RemainderRow, rows, refusals, remainder, rowsIn, refusalsIn, remainderIn}
+use Rattle.format.specs.Report.{placed, frameIn, rowBytes, refusalBytes, remainderBytes, section}
 
 -- ---- the premise
 
@@ -74,3 +76,24 @@ headerOf a b = pick (within 59 61 a) 2 (pick (eqb a 62) (pick (leb 62 b) 2 1) 1)
 unfoldable pub remainderAt : List RemainderRow → List ℕ → List ℕ
 remainderAt [] xs = []
 remainderAt (r ∷ rs) xs = drop (r .offset) xs
+
+-- ---- a limit of nesting
+
+-- the verdict on an item's own bytes, where l groups may be entered
+unfoldable pub judgeTo : ℕ → Domain → List ℕ → Verdict
+judgeTo l d xs = placed (d .unit) (judge l (d .sextets xs))
+
+abbrev pub refusalsTo : ℕ → Domain → List ℕ → List RefusalRow
+refusalsTo l d xs = refusals (frameIn d) (judgeTo l d) xs
+
+-- the report, where l groups may be entered
+unfoldable pub reportTo : ℕ → Domain → List ℕ → List ℕ
+reportTo l d xs =
+    section rowBytes (rows (frameIn d) (judgeTo l d) xs)
+    ++ (section refusalBytes (refusalsTo l d xs)
+    ++ section remainderBytes (remainder (frameIn d) (judgeTo l d) xs))
+
+-- "held no 11": no refusal row has it
+abbrev pub NoEleven : List RefusalRow → Type 0
+NoEleven [] = Unit {0}
+NoEleven (r ∷ rs) = (r .number ≡ 11 → ⊥) × NoEleven rs

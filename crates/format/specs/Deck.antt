@@ -40,10 +40,10 @@ pub record Example : Type 0 where
 abbrev pub example : List ℕ → Expected → Example
 example s e = record { stream = s; gives = e }
 
--- so many groups, each but the last holding the next one alone
-unfoldable pub groups : ℕ → List ℕ
-groups zero = []
-groups (suc n) = 45 ∷ 65 ∷ 65 ∷ charOf n ∷ groups n
+-- so many `-A` groups, each holding the next one alone, and the last one ys
+unfoldable pub around : ℕ → List ℕ → List ℕ
+around zero ys = ys
+around (suc n) ys = 45 ∷ 65 ∷ charOf ((n + length ys / 4) / 64) ∷ charOf ((n + length ys / 4) % 64) ∷ around n ys
 
 -- ---- the deck, with the errors seen shipped
 
@@ -71,8 +71,8 @@ deck =
     example (45 ∷ 65 ∷ 65 ∷ 67 ∷ 77 ∷ 65 ∷ 65 ∷ 66 ∷ []) (unframed 4 0) ∷  -- `-AACMAAB` remainder 4 at 0*
     example (45 ∷ 65 ∷ 65 ∷ 67 ∷ 45 ∷ 95 ∷ 65 ∷ 65 ∷ 65 ∷ 66 ∷ 65 ∷ 65 ∷ []) (refused 7 4) ∷  -- `-AAC-_AAABAA` 7 at 4*
     example (45 ∷ 74 ∷ 65 ∷ 67 ∷ 45 ∷ 95 ∷ 65 ∷ 65 ∷ 65 ∷ 66 ∷ 65 ∷ 65 ∷ []) accepted ∷  -- `-JAC-_AAABAA` accepted*
-    example (groups 16) accepted ∷  -- sixteen nested groups accepted
-    example (groups 17) (refused 11 64) ∷  -- seventeen 11
+    example (around 16 []) accepted ∷  -- sixteen nested groups accepted
+    example (around 17 []) (refused 11 64) ∷  -- seventeen 11
     example (45 ∷ 45 ∷ 65 ∷ 65 ∷ 65 ∷ 66 ∷ 65 ∷ 65 ∷ []) (unframed 4 0) ∷  -- `--AAABAA` heads a large group of 4,096 units
     -- `E8wYuBjhslETYaLZcxMkWrhVbMcA8RS1pKYl7nJ77ntA` is refused 8
     example
@@ -117,7 +117,7 @@ valueBy e (Unframed n p) s = []
 
 -- what the definitions give of a stream; to compute it is to open all of them
 unfoldable pub given : Domain → List ℕ → Expected → Seen
-unfolding groups charOf rows remainder rowsOf remainderOf cut cutF cutBy frameIn judgeIn placed frameRuled frame frameWith ruled
+unfolding around charOf rows remainder rowsOf remainderOf cut cutF cutBy frameIn judgeIn placed frameRuled frame frameWith ruled
     isOurs headed second known fit opening extent fixed fixedAmong codes isType isGroup isOpaque isOverrideable scale
     textSextets sextetOf judge judgeBy judgeKind group ownCheck inTurn contents frame4 frameRuled4 andThen shift unless scan
     behind zeroBits hasLead prepadRight binarySextets sextetsOf bytesOf tripletOf toBinary each rawStart rawOf tagOf bytesIn

@@ -5,7 +5,7 @@ use mathlib.Core.Path.{refl}
 use mathlib.Core.List.{List, [], _∷_}
 use Rattle.format.specs.Units.{text, binary}
 use Rattle.format.specs.Conversion.{toBinary}
-use Rattle.format.specs.Deck.{Example, example, given, Holds}
+use Rattle.format.specs.Deck.{Example, example, around, given, Holds}
 use Rattle.format.specs.Deck.Expected.{accepted, raw, tag, refused, unframed}
 use Rattle.format.specs.Deck.Holds.{end, _&_}
 
@@ -73,10 +73,10 @@ readings =
     example (45 ∷ 45 ∷ 65 ∷ 65 ∷ 65 ∷ 65 ∷ 65 ∷ 66 ∷ 77 ∷ 65 ∷ 65 ∷ 66 ∷ []) accepted ∷  -- `--AAAAABMAAB`: a large group of one unit
     example (45 ∷ 45 ∷ 65 ∷ 66 ∷ 65 ∷ 65 ∷ 65 ∷ 65 ∷ []) (unframed 4 0) ∷  -- `--ABAAAA`: the first of five digits counts
     example (45 ∷ 45 ∷ 99 ∷ 95 ∷ 95 ∷ 95 ∷ 95 ∷ 95 ∷ []) (unframed 4 0) ∷  -- `--c_____`: an extent above 2 to the 32
-    example (45 ∷ 65 ∷ 65 ∷ 81 ∷ 45 ∷ 65 ∷ 65 ∷ 80 ∷ 45 ∷ 65 ∷ 65 ∷ 79 ∷ 45 ∷ 65 ∷ 65 ∷ 78 ∷ 45 ∷ 65 ∷ 65 ∷ 77 ∷ 45 ∷ 65 ∷ 65 ∷ 76 ∷ 45 ∷ 65 ∷ 65 ∷ 75 ∷ 45 ∷ 65 ∷ 65 ∷ 74 ∷ 45 ∷ 65 ∷ 65 ∷ 73 ∷ 45 ∷ 65 ∷ 65 ∷ 72 ∷ 45 ∷ 65 ∷ 65 ∷ 71 ∷ 45 ∷ 65 ∷ 65 ∷ 70 ∷ 45 ∷ 65 ∷ 65 ∷ 69 ∷ 45 ∷ 65 ∷ 65 ∷ 68 ∷ 45 ∷ 65 ∷ 65 ∷ 67 ∷ 45 ∷ 65 ∷ 65 ∷ 66 ∷ 45 ∷ 75 ∷ 65 ∷ 65 ∷ []) (refused 11 64) ∷  -- a seventeenth that is opaque: 11
-    example (45 ∷ 65 ∷ 65 ∷ 82 ∷ 45 ∷ 65 ∷ 65 ∷ 81 ∷ 45 ∷ 65 ∷ 65 ∷ 80 ∷ 45 ∷ 65 ∷ 65 ∷ 79 ∷ 45 ∷ 65 ∷ 65 ∷ 78 ∷ 45 ∷ 65 ∷ 65 ∷ 77 ∷ 45 ∷ 65 ∷ 65 ∷ 76 ∷ 45 ∷ 65 ∷ 65 ∷ 75 ∷ 45 ∷ 65 ∷ 65 ∷ 74 ∷ 45 ∷ 65 ∷ 65 ∷ 73 ∷ 45 ∷ 65 ∷ 65 ∷ 72 ∷ 45 ∷ 65 ∷ 65 ∷ 71 ∷ 45 ∷ 65 ∷ 65 ∷ 70 ∷ 45 ∷ 65 ∷ 65 ∷ 69 ∷ 45 ∷ 65 ∷ 65 ∷ 68 ∷ 45 ∷ 65 ∷ 65 ∷ 67 ∷ 45 ∷ 75 ∷ 65 ∷ 66 ∷ 77 ∷ 65 ∷ 65 ∷ 66 ∷ []) (refused 11 64) ∷  -- and not empty
-    example (45 ∷ 65 ∷ 65 ∷ 81 ∷ 45 ∷ 65 ∷ 65 ∷ 80 ∷ 45 ∷ 65 ∷ 65 ∷ 79 ∷ 45 ∷ 65 ∷ 65 ∷ 78 ∷ 45 ∷ 65 ∷ 65 ∷ 77 ∷ 45 ∷ 65 ∷ 65 ∷ 76 ∷ 45 ∷ 65 ∷ 65 ∷ 75 ∷ 45 ∷ 65 ∷ 65 ∷ 74 ∷ 45 ∷ 65 ∷ 65 ∷ 73 ∷ 45 ∷ 65 ∷ 65 ∷ 72 ∷ 45 ∷ 65 ∷ 65 ∷ 71 ∷ 45 ∷ 65 ∷ 65 ∷ 70 ∷ 45 ∷ 65 ∷ 65 ∷ 69 ∷ 45 ∷ 65 ∷ 65 ∷ 68 ∷ 45 ∷ 65 ∷ 65 ∷ 67 ∷ 45 ∷ 65 ∷ 65 ∷ 66 ∷ 77 ∷ 65 ∷ 65 ∷ 66 ∷ []) accepted ∷  -- a primitive within sixteen
-    example (45 ∷ 65 ∷ 65 ∷ 81 ∷ 45 ∷ 65 ∷ 65 ∷ 80 ∷ 45 ∷ 65 ∷ 65 ∷ 79 ∷ 45 ∷ 65 ∷ 65 ∷ 78 ∷ 45 ∷ 65 ∷ 65 ∷ 77 ∷ 45 ∷ 65 ∷ 65 ∷ 76 ∷ 45 ∷ 65 ∷ 65 ∷ 75 ∷ 45 ∷ 65 ∷ 65 ∷ 74 ∷ 45 ∷ 65 ∷ 65 ∷ 73 ∷ 45 ∷ 65 ∷ 65 ∷ 72 ∷ 45 ∷ 65 ∷ 65 ∷ 71 ∷ 45 ∷ 65 ∷ 65 ∷ 70 ∷ 45 ∷ 65 ∷ 65 ∷ 69 ∷ 45 ∷ 65 ∷ 65 ∷ 68 ∷ 45 ∷ 65 ∷ 65 ∷ 67 ∷ 45 ∷ 65 ∷ 65 ∷ 66 ∷ 45 ∷ 65 ∷ 65 ∷ 66 ∷ []) (refused 4 64) ∷  -- its framing comes first
+    example (around 16 (45 ∷ 75 ∷ 65 ∷ 65 ∷ [])) (refused 11 64) ∷  -- a seventeenth that is opaque: 11
+    example (around 16 (45 ∷ 75 ∷ 65 ∷ 66 ∷ 77 ∷ 65 ∷ 65 ∷ 66 ∷ [])) (refused 11 64) ∷  -- and not empty
+    example (around 16 (77 ∷ 65 ∷ 65 ∷ 66 ∷ [])) accepted ∷  -- a primitive within sixteen
+    example (around 16 (45 ∷ 65 ∷ 65 ∷ 66 ∷ [])) (refused 4 64) ∷  -- its framing comes first
     []
 
 -- in text and in binary
@@ -103,7 +103,7 @@ stranger =
     example (48 ∷ 76 ∷ 65 ∷ 65 ∷ 66 ∷ 33 ∷ 68 ∷ 69 ∷ []) (refused 5 5) ∷  -- `0LAAB!DE`: 5, then 10
     example (56 ∷ 65 ∷ 65 ∷ 66 ∷ 65 ∷ 65 ∷ 65 ∷ 66 ∷ 65 ∷ 33 ∷ 104 ∷ 112 ∷ []) (refused 5 9) ∷  -- `8AABAAABA!hp`: behind a header of two units
     example (45 ∷ 45 ∷ 75 ∷ 65 ∷ 65 ∷ 65 ∷ 65 ∷ 66 ∷ 33 ∷ 65 ∷ 65 ∷ 65 ∷ []) (refused 5 8) ∷  -- `--KAAAAB!AAA`: and in a large opaque group
-    example (45 ∷ 65 ∷ 65 ∷ 82 ∷ 45 ∷ 65 ∷ 65 ∷ 81 ∷ 45 ∷ 65 ∷ 65 ∷ 80 ∷ 45 ∷ 65 ∷ 65 ∷ 79 ∷ 45 ∷ 65 ∷ 65 ∷ 78 ∷ 45 ∷ 65 ∷ 65 ∷ 77 ∷ 45 ∷ 65 ∷ 65 ∷ 76 ∷ 45 ∷ 65 ∷ 65 ∷ 75 ∷ 45 ∷ 65 ∷ 65 ∷ 74 ∷ 45 ∷ 65 ∷ 65 ∷ 73 ∷ 45 ∷ 65 ∷ 65 ∷ 72 ∷ 45 ∷ 65 ∷ 65 ∷ 71 ∷ 45 ∷ 65 ∷ 65 ∷ 70 ∷ 45 ∷ 65 ∷ 65 ∷ 69 ∷ 45 ∷ 65 ∷ 65 ∷ 68 ∷ 45 ∷ 65 ∷ 65 ∷ 67 ∷ 45 ∷ 75 ∷ 65 ∷ 66 ∷ 77 ∷ 33 ∷ 65 ∷ 66 ∷ []) (refused 11 64) ∷  -- a seventeenth group that is opaque: 11, then 5
+    example (around 16 (45 ∷ 75 ∷ 65 ∷ 66 ∷ 77 ∷ 33 ∷ 65 ∷ 66 ∷ [])) (refused 11 64) ∷  -- a seventeenth group that is opaque: 11, then 5
     []
 
 pub stranger-holds : Holds text (λ s. s) stranger
