@@ -4,14 +4,14 @@ use exports_values::STATE;
 use format::BinaryFound;
 use format::BinaryOffset;
 use format::BinaryWritten;
+use format::Form;
 use format::Reported;
 use format::TextFound;
 use format::TextOffset;
 use format::TextWritten;
 use format::ToBinary;
 use format::ToText;
-use walk_state::BinaryItem;
-use walk_state::TextItem;
+use walk_state::Found;
 ghost use mathlib.Core.Path.{_≡_};
 ghost use lib.ListN.{length};
 ghost use Rattle.format.specs.Conversion.{textToBinary, toBinaryNumber, toBinaryValue, binaryLeft, binaryToText, toTextNumber, toTextValue, textLeft};
@@ -245,31 +245,29 @@ pub extern "C" fn cesr_walk_text(
     ensures { λ r. ⌜ now (item .exit) ≡ textYieldLeft (textStep (now (stream .entry)) (walkOf (now (state .entry))) .found) (now (item .entry)) ⌝ }
     ensures { λ r. ⌜ now (state .exit) ≡ textStateLeft (textStep (now (stream .entry)) (walkOf (now (state .entry))) .found) (textStep (now (stream .entry)) (walkOf (now (state .entry))) .next) (now (state .entry)) ⌝ }
 {
-    let numbers = *state;
-    let w = exports_values::walk_of(numbers);
-    let step = walk::step_text(w, stream);
-    let next = step.next;
+    let p = exports_values::place_of(state);
+    let step = walk::move_in(state, p, Form::Text, stream);
+    let next = step.place;
     let found = step.found;
     match found {
-        TextItem::Item {
+        Found::Item {
             offset,
             size,
             depth,
             kind,
             head,
         } => {
-            let row = exports_values::item_of(offset.0, size.0, depth, kind, head);
-            let after = exports_values::state_of(next);
+            let row = exports_values::item_of(offset, size, depth, kind, head);
+            exports_values::put_place(state, next);
             *item = row;
-            *state = after;
             *answer = 0;
             0
         }
-        TextItem::Refused { number, place } => {
-            *answer = place.0;
+        Found::Refused { number, place } => {
+            *answer = place;
             number
         }
-        TextItem::End => {
+        Found::End => {
             *answer = 0;
             255
         }
@@ -289,31 +287,29 @@ pub extern "C" fn cesr_walk_binary(
     ensures { λ r. ⌜ now (item .exit) ≡ binaryYieldLeft (binaryStep (now (stream .entry)) (walkOf (now (state .entry))) .found) (now (item .entry)) ⌝ }
     ensures { λ r. ⌜ now (state .exit) ≡ binaryStateLeft (binaryStep (now (stream .entry)) (walkOf (now (state .entry))) .found) (binaryStep (now (stream .entry)) (walkOf (now (state .entry))) .next) (now (state .entry)) ⌝ }
 {
-    let numbers = *state;
-    let w = exports_values::walk_of(numbers);
-    let step = walk::step_binary(w, stream);
-    let next = step.next;
+    let p = exports_values::place_of(state);
+    let step = walk::move_in(state, p, Form::Binary, stream);
+    let next = step.place;
     let found = step.found;
     match found {
-        BinaryItem::Item {
+        Found::Item {
             offset,
             size,
             depth,
             kind,
             head,
         } => {
-            let row = exports_values::item_of(offset.0, size.0, depth, kind, head);
-            let after = exports_values::state_of(next);
+            let row = exports_values::item_of(offset, size, depth, kind, head);
+            exports_values::put_place(state, next);
             *item = row;
-            *state = after;
             *answer = 0;
             0
         }
-        BinaryItem::Refused { number, place } => {
-            *answer = place.0;
+        Found::Refused { number, place } => {
+            *answer = place;
             number
         }
-        BinaryItem::End => {
+        Found::End => {
             *answer = 0;
             255
         }

@@ -1,11 +1,12 @@
 -- The state that C lends is the walk's: zeros are the start, a state that was written is read back as it was, and so the calls step as the
 -- walk does. Assumes nothing.
-use Prim.Native.Nat.{ℕ, zero, suc}
+use Prim.Native.Nat.{ℕ, zero, suc, _+_}
 use mathlib.Core.Path.{_≡_, refl, sym, ap, _∙_}
-use mathlib.Core.List.{List, [], _∷_}
+use mathlib.Core.List.{List, _++_}
 use mathlib.Core.Bool.{Bool, true, false}
 use native.Mathlib.Omega.{arith}
-use lib.ListN.{length, replicate}
+use lib.ListN.{length, getD, replicate}
+use lib.Seq.{getD-append-add, take-at, take-all}
 use Rattle.format.specs.Units.{Domain, text, binary}
 use Rattle.format.specs.Judging.{maxDepth}
 use Rattle.laws.specs.Domains.{text-reader, binary-reader}
@@ -15,40 +16,32 @@ use Rattle.walk_state.specs.declared.Found.the-variants as F
 use Rattle.walk_state.specs.Walking.{start, stepIn, textItem, textStep, binaryItem, binaryStep}
 use Rattle.walk_claims.specs.Words.{Stops, after}
 use Rattle.walk_claims.specs.Runs.{stays, after-fits}
-use Rattle.exports_values.specs.Lent.{stateSize, walkOf, stateOf, slotsOf, textStateLeft, binaryStateLeft}
+use Rattle.walk_state.specs.Lent.{walkAt}
+use Rattle.exports_values.specs.Lent.{stateSize, placeIn, placeNumbers, walkOf, stateOf, textStateLeft, binaryStateLeft}
 use Rattle.exports_claims.specs.Words.{textLent, binaryLent}
 use Rattle.exports_claims.specs.Claims.{LentClaims}
 
--- sixteen slots, one by one
-back-by : (ends : List ℕ) (depth at : ℕ) (first : Bool) → length ends ≡ 16
-    → walkOf (stateOf (record { ends = ends; depth = depth; at = at; first = first }))
-    ≡ record { ends = ends; depth = depth; at = at; first = first }
-unfolding walkOf stateOf slotsOf
-back-by (a ∷ b ∷ c ∷ d ∷ e ∷ f ∷ g ∷ h ∷ i ∷ j ∷ k ∷ l ∷ m ∷ n ∷ o ∷ p ∷ []) depth at true q = refl
-back-by (a ∷ b ∷ c ∷ d ∷ e ∷ f ∷ g ∷ h ∷ i ∷ j ∷ k ∷ l ∷ m ∷ n ∷ o ∷ p ∷ []) depth at false q = refl
-back-by (a ∷ b ∷ c ∷ d ∷ e ∷ f ∷ g ∷ h ∷ i ∷ j ∷ k ∷ l ∷ m ∷ n ∷ o ∷ p ∷ r ∷ s) depth at first q = absurd (omega arith)
-back-by [] depth at first q = absurd (omega arith)
-back-by (a ∷ []) depth at first q = absurd (omega arith)
-back-by (a ∷ b ∷ []) depth at first q = absurd (omega arith)
-back-by (a ∷ b ∷ c ∷ []) depth at first q = absurd (omega arith)
-back-by (a ∷ b ∷ c ∷ d ∷ []) depth at first q = absurd (omega arith)
-back-by (a ∷ b ∷ c ∷ d ∷ e ∷ []) depth at first q = absurd (omega arith)
-back-by (a ∷ b ∷ c ∷ d ∷ e ∷ f ∷ []) depth at first q = absurd (omega arith)
-back-by (a ∷ b ∷ c ∷ d ∷ e ∷ f ∷ g ∷ []) depth at first q = absurd (omega arith)
-back-by (a ∷ b ∷ c ∷ d ∷ e ∷ f ∷ g ∷ h ∷ []) depth at first q = absurd (omega arith)
-back-by (a ∷ b ∷ c ∷ d ∷ e ∷ f ∷ g ∷ h ∷ i ∷ []) depth at first q = absurd (omega arith)
-back-by (a ∷ b ∷ c ∷ d ∷ e ∷ f ∷ g ∷ h ∷ i ∷ j ∷ []) depth at first q = absurd (omega arith)
-back-by (a ∷ b ∷ c ∷ d ∷ e ∷ f ∷ g ∷ h ∷ i ∷ j ∷ k ∷ []) depth at first q = absurd (omega arith)
-back-by (a ∷ b ∷ c ∷ d ∷ e ∷ f ∷ g ∷ h ∷ i ∷ j ∷ k ∷ l ∷ []) depth at first q = absurd (omega arith)
-back-by (a ∷ b ∷ c ∷ d ∷ e ∷ f ∷ g ∷ h ∷ i ∷ j ∷ k ∷ l ∷ m ∷ []) depth at first q = absurd (omega arith)
-back-by (a ∷ b ∷ c ∷ d ∷ e ∷ f ∷ g ∷ h ∷ i ∷ j ∷ k ∷ l ∷ m ∷ n ∷ []) depth at first q = absurd (omega arith)
-back-by (a ∷ b ∷ c ∷ d ∷ e ∷ f ∷ g ∷ h ∷ i ∷ j ∷ k ∷ l ∷ m ∷ n ∷ o ∷ []) depth at first q = absurd (omega arith)
+-- the numbers behind the slots
+behind : (ends ys : List ℕ) → length ends ≡ maxDepth → (n : ℕ) → getD (ends ++ ys) (maxDepth + n) 0 ≡ getD ys n 0
+behind ends ys l n = rw (← l) (getD-append-add ends ys n 0)
+
+back-by : (ends : List ℕ) (depth at : ℕ) (first : Bool) → length ends ≡ maxDepth
+    → walkAt (ends ++ placeNumbers depth at first) (placeIn (ends ++ placeNumbers depth at first)) ≡ record { ends = ends; depth = depth; at = at; first = first }
+unfolding placeIn
+back-by ends depth at true l =
+    rw (take-at ends (placeNumbers depth at true) maxDepth l, behind ends (placeNumbers depth at true) l 0, behind ends (placeNumbers depth at true) l 1, behind ends (placeNumbers depth at true) l 2)
+back-by ends depth at false l =
+    rw (take-at ends (placeNumbers depth at false) maxDepth l, behind ends (placeNumbers depth at false) l 0, behind ends (placeNumbers depth at false) l 1, behind ends (placeNumbers depth at false) l 2)
 
 back : (w : Walk) → length (w .ends) ≡ maxDepth → walkOf (stateOf w) ≡ w
-back w full = back-by (w .ends) (w .depth) (w .at) (w .first) full
+unfolding walkOf stateOf
+back w full =
+    ap (λ (x : List ℕ). walkAt (x ++ placeNumbers (w .depth) (w .at) (w .first)) (placeIn (x ++ placeNumbers (w .depth) (w .at) (w .first))))
+    (take-all maxDepth (w .ends) (omega arith))
+    ∙ back-by (w .ends) (w .depth) (w .at) (w .first) full
 
 zeros : walkOf (replicate stateSize 0) ≡ start
-unfolding walkOf slotsOf start
+unfolding walkOf placeIn start
 zeros = refl
 
 -- ---- text

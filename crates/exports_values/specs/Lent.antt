@@ -1,20 +1,22 @@
 -- The walk over a state that C lends: numbers, which are the ends of the groups open, as many as may be, the number open, the position
 -- and the first-item mark (0 or 1), in units. Assumes nothing.
 use Prim.Native.Nat.{ℕ, _+_}
-use mathlib.Core.List.{List, [], _∷_, _++_, map}
+use mathlib.Core.Bool.{Bool}
+use mathlib.Core.List.{List, [], _∷_, _++_}
 use lib.ListN.{getD}
 use lib.Dec.{ltb, eqb}
 use Rattle.base.specs.Pick.{pick}
-use Rattle.base.specs.Lists.{upTo}
 use Rattle.format.specs.Alphabet.{charOf}
 use Rattle.format.specs.Judging.{maxDepth}
 use Rattle.format.specs.declared.Kind.{Kind}
 use Rattle.format.specs.declared.Kind.the-variants.{Fixed, Variable, Group, Genus}
 use Rattle.walk_state.specs.declared.Walk.{Walk}
+use Rattle.walk_state.specs.declared.Place.{Place}
 use Rattle.walk_state.specs.declared.TextItem.{TextItem}
 use Rattle.walk_state.specs.declared.TextItem.the-variants as T
 use Rattle.walk_state.specs.declared.BinaryItem.{BinaryItem}
 use Rattle.walk_state.specs.declared.BinaryItem.the-variants as B
+use Rattle.walk_state.specs.Lent.{slotsIn, walkAt}
 
 -- ---- the state as numbers
 
@@ -25,21 +27,22 @@ stateSize = maxDepth + 3
 abbrev pub tooMany : ℕ
 tooMany = maxDepth + 1
 
--- as many of a list as may be open
-unfoldable pub slotsOf : List ℕ → List ℕ
-slotsOf s = map (λ i. getD s i 0) (upTo maxDepth)
-
--- a mark that is neither 0 nor 1 is no state's
-unfoldable pub walkOf : List ℕ → Walk
-walkOf s = record {
-  ends = slotsOf s;
+-- the state but its ends: the three numbers behind them. A mark that is neither 0 nor 1 is no state's
+unfoldable pub placeIn : List ℕ → Place
+placeIn s = record {
   depth = pick (ltb 1 (getD s (maxDepth + 2) 0)) tooMany (getD s maxDepth 0);
   at = getD s (maxDepth + 1) 0;
   first = eqb (getD s (maxDepth + 2) 0) 1;
 }
 
+unfoldable pub walkOf : List ℕ → Walk
+walkOf s = walkAt s (placeIn s)
+
+abbrev pub placeNumbers : ℕ → ℕ → Bool → List ℕ
+placeNumbers depth at first = depth ∷ at ∷ pick first 1 0 ∷ []
+
 unfoldable pub stateOf : Walk → List ℕ
-stateOf w = slotsOf (w .ends) ++ (w .depth ∷ w .at ∷ pick (w .first) 1 0 ∷ [])
+stateOf w = slotsIn (w .ends) ++ placeNumbers (w .depth) (w .at) (w .first)
 
 -- ---- an item's code as three numbers
 

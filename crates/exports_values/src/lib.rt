@@ -3,13 +3,19 @@ use format::Code;
 use format::Kind;
 use format::Primitive;
 use judging::MAX_DEPTH;
+use walk_state::Place;
 use walk_state::Walk;
 ghost use mathlib.Core.Path.{_≡_};
+ghost use mathlib.Core.List.{_++_};
+ghost use Prim.Native.Nat.{_≤_};
 ghost use lib.Dec.{ltb, eqb};
+ghost use lib.ListN.{length};
 ghost use Rattle.base.specs.Pick.{pick};
 ghost use Rattle.format.specs.Alphabet.{charOf};
+ghost use Rattle.format.specs.Judging.{maxDepth};
+ghost use Rattle.walk_state.specs.Lent.{slotsIn};
 ghost use Rattle.exports_values.specs.Answers.{charsOf, letterOf, codeFrom, infoOf};
-ghost use Rattle.exports_values.specs.Lent.{tooMany, walkOf, stateOf, sortOf, signOf, leadOf, itemOf};
+ghost use Rattle.exports_values.specs.Lent.{stateSize, tooMany, placeIn, placeNumbers, walkOf, stateOf, sortOf, signOf, leadOf, itemOf};
 
 // ---- a code and a primitive
 
@@ -80,29 +86,12 @@ fn open_of(depth: usize, mark: usize) -> usize
     if 1 < mark { TOO_MANY } else { depth }
 }
 
-pub fn walk_of(s: [usize; STATE]) -> Walk
-    ensures { λ r. ⌜ r ≡ walkOf s ⌝ }
+// All but the ends.
+pub fn place_of(s: &[usize; STATE]) -> Place
+    ensures { λ r. ⌜ r ≡ placeIn (now (s .entry)) ⌝ }
 {
     let depth = open_of(s[OPEN], s[MARK]);
-    Walk {
-        ends: [
-            s[0],
-            s[1],
-            s[2],
-            s[3],
-            s[4],
-            s[5],
-            s[6],
-            s[7],
-            s[8],
-            s[9],
-            s[10],
-            s[11],
-            s[12],
-            s[13],
-            s[14],
-            s[15],
-        ],
+    Place {
         depth,
         at: s[AT],
         first: s[MARK] == 1,
@@ -115,32 +104,52 @@ fn mark_of(first: bool) -> usize
     if first { 1 } else { 0 }
 }
 
+// Too few numbers stay as they are.
+pub fn put_place(s: &mut [usize], p: Place)
+    ensures { λ _. ⌜ (length (now (s .entry)) ≡ stateSize → now (s .exit) ≡ slotsIn (now (s .entry)) ++ placeNumbers (p .depth) (p .at) (p .first)) ⌝ }
+{
+    if s.len() < STATE {
+        return;
+    }
+    s[OPEN] = p.depth;
+    s[AT] = p.at;
+    s[MARK] = mark_of(p.first);
+}
+
+fn copy_slots(from: &[usize], to: &mut [usize])
+    requires { ⌜ (maxDepth ≤ length (now from)) × (maxDepth ≤ length (now to)) ⌝ }
+    ensures { λ _. ⌜ slotsIn (now (to .exit)) ≡ slotsIn (now (from .entry)) ⌝ }
+{
+    let mut k: usize = 0;
+    while k < MAX_DEPTH {
+        to[k] = from[k];
+        k = k + 1;
+    }
+}
+
+// By value, which copies the ends.
+pub fn walk_of(s: [usize; STATE]) -> Walk
+    ensures { λ r. ⌜ r ≡ walkOf s ⌝ }
+{
+    let mut ends = [0usize; MAX_DEPTH];
+    copy_slots(&s, &mut ends);
+    let p = place_of(&s);
+    Walk {
+        ends,
+        depth: p.depth,
+        at: p.at,
+        first: p.first,
+    }
+}
+
 pub fn state_of(w: Walk) -> [usize; STATE]
     ensures { λ r. ⌜ r ≡ stateOf w ⌝ }
 {
-    let e = w.ends;
-    let mark = mark_of(w.first);
-    [
-        e[0],
-        e[1],
-        e[2],
-        e[3],
-        e[4],
-        e[5],
-        e[6],
-        e[7],
-        e[8],
-        e[9],
-        e[10],
-        e[11],
-        e[12],
-        e[13],
-        e[14],
-        e[15],
-        w.depth,
-        w.at,
-        mark,
-    ]
+    let ends = w.ends;
+    let mut s = [0usize; STATE];
+    copy_slots(&ends, &mut s);
+    put_place(&mut s, w.place());
+    s
 }
 
 // ---- an item

@@ -28,14 +28,18 @@ use Rattle.judging.specs.Own.{toldBy}
 use Rattle.report_next.specs.Next.{ownOf, nextOwn, isEntered, isRuled}
 use Rattle.report_next.proofs.Laws.{own-item, may-enter, next-near}
 use Rattle.walk_state.specs.declared.Walk.{Walk}
+use Rattle.walk_state.specs.declared.Place.{Place}
 use Rattle.walk_state.specs.declared.Found.{Found}
 use Rattle.walk_state.specs.declared.Found.the-variants as F
 use Rattle.walk_state.specs.declared.Stepped.{Stepped}
 use Rattle.walk_state.specs.Walking.{isFit, closed, movedTo, opened, past, nextOf, stopOf, judged, framedBy, frameAt}
 use Rattle.walk_state.specs.Walking.{stepFit, step, foundIn, stepIn}
 use Rattle.walk_state.specs.Moving.{stepOver}
+use Rattle.walk_state.specs.Lent.{walkAt, Moves}
 use Rattle.walk_state.proofs.Laws.{steps-into, steps-past}
-use Rattle.walk.specs.Stepping.{isAsked, foundBy, partStep, unitsIn, reach, Slotted, Ready, Spans, Fits, Measured, InReach}
+use Rattle.walk_state.proofs.Lent.{own-moved}
+use Rattle.walk.specs.declared.Moved.{Moved}
+use Rattle.walk.specs.Stepping.{isAsked, placeOf, foundBy, isItem, Steps, partStep, unitsIn, reach, Slotted, Ready, Spans, Fits, Measured, InReach}
 use Rattle.walk.proofs.Fitting.{fit-few, fit-there, fit-stop, fit-ahead}
 
 -- ---- the next state
@@ -57,25 +61,41 @@ module _ (w : Walk) (k : Kind) (h n : ℕ) where
   unfolding nextOf movedTo
   next-past e = rw (by-kind w k h n, e)
 
-  -- the state's step gives it
-  pub steps : w .depth ≤ maxDepth → Slotted k (w .depth) → (opens mark : Bool) → opens ≡ isEntered k → mark ≡ isRuled k
-      → (r : Walk) → r ≡ stepOver w (w .at + h) (w .at + n) opens mark → r ≡ nextOf w k h n
-  steps few s opens mark eo em r e =
-      e ∙ rw (eo, em)
+  -- the state's step leads there
+  pub leads : w .depth ≤ maxDepth → Slotted k (w .depth) → {before after : List ℕ} {opens mark : Bool} {q : Place} → opens ≡ isEntered k → mark ≡ isRuled k
+      → Moves before after q (stepOver w (w .at + h) (w .at + n) opens mark) → Moves before after q (nextOf w k h n)
+  leads few s {opens = opens} {mark = mark} eo em m =
+      let e : stepOver w (w .at + h) (w .at + n) opens mark ≡ nextOf w k h n = rw (eo, em)
       (⊎-elim (λ i. rw (next-into i, i) (steps-into w h n (isRuled k) (s i))) (λ i. rw (next-past i, i) (steps-past w h n (isRuled k) few))
-      (whether (isEntered k)))
+      (whether (isEntered k))) in
+      record { state = m .state ∙ e; behind = m .behind }
+
+-- what is told of an item, and of its refusal
+module _ (before : List ℕ) (p : Place) where
+  pub told-item : (k : Kind) (h n : ℕ) → p .depth ≤ maxDepth → Slotted k (p .depth) → {after : List ℕ} {opens mark : Bool} {q : Place}
+      → opens ≡ isEntered k → mark ≡ isRuled k → Moves before after q (stepOver (walkAt before p) (p .at + h) (p .at + n) opens mark)
+      → Steps before after (record { place = q; found = F.Item (p .at) n (p .depth) k h }) (foundBy (walkAt before p) (Item k h n))
+  unfolding foundBy
+  told-item k h n few s eo em m = record { moves = leads (walkAt before p) k h n few s eo em m; found = refl; kept = λ e. let z : _≡_ {A = ℕ} 1 0 = ap (λ (b : Bool). pick b 1 0) e in absurd (omega arith) }
+
+  stays : Moves before before p (walkAt before p)
+  stays = record { state = refl; behind = refl }
+
+  pub told-refused : (m place : ℕ) → Steps before before (record { place = p; found = F.Refused m (4 * p .at + place) }) (foundBy (walkAt before p) (Unframed m place))
+  unfolding foundBy
+  told-refused m place = record { moves = stays; found = refl; kept = λ e. refl }
 
 -- ---- what is asked of the next item
 
 -- the next item of a part, or its refusal, is fit to be told
-pub ready : (w : Walk) (s : List ℕ) (f : Framed) → length s ≤ reach → f ≡ nextOwn (isAsked w) s (maxDepth - w .depth) → Ready w f
-ready w s (Unframed m p) b e = omega (arith, next-near (isAsked w) s (maxDepth - w .depth) m p (sym e))
+pub ready : (w : Walk) (s : List ℕ) (f : Framed) → length s ≤ reach → f ≡ nextOwn (isAsked (placeOf w)) s (maxDepth - w .depth) → Ready (placeOf w) f
+ready w s (Unframed m p) b e = omega (arith, next-near (isAsked (placeOf w)) s (maxDepth - w .depth) m p (sym e))
 ready w s (Item k h n) b e =
-    let o = own-item (isAsked w) s (maxDepth - w .depth) k h n (sym e) in
-    let z = item-sizes s k h n (any-item (isAsked w) s k h n (o .framed)) in
+    let o = own-item (isAsked (placeOf w)) s (maxDepth - w .depth) k h n (sym e) in
+    let z = item-sizes s k h n (any-item (isAsked (placeOf w)) s k h n (o .framed)) in
     (z .1, omega (arith, z .2), λ i. omega (arith, may-enter k h (take (4 * n) s) (maxDepth - w .depth) i (o .accepted)))
 
-found-reach : (w : Walk) (f : Framed) → w .at ≤ reach → Ready w f → InReach (foundBy w f .found)
+found-reach : (w : Walk) (f : Framed) → w .at ≤ reach → Ready (placeOf w) f → InReach (foundBy w f .found)
 unfolding foundBy
 found-reach w (Unframed m p) a r = tt
 found-reach w (Item k h n) a r = (a, r .1)
@@ -86,7 +106,7 @@ part-reach w s a b = found-reach w _ a (ready w s _ b refl)
 
 -- ---- a stream's step is that of the part to where the innermost group ends
 
-asked-frame : (w : Walk) (s : List ℕ) → frameAt w s ≡ frameNext (isAsked w) s
+asked-frame : (w : Walk) (s : List ℕ) → frameAt w s ≡ frameNext (isAsked (placeOf w)) s
 unfolding frameAt isAsked
 asked-frame w s = ⊎-elim (λ e. rw e) (λ e. rw e) (whether (eqb (w .depth) 0))
 
@@ -96,12 +116,12 @@ unfolding judged foundBy toldBy
 judged-told w k h n Accepted = refl
 judged-told w k h n (Refused m p) = refl
 
-by-part : (w : Walk) (s : List ℕ) (b : ℕ) (f : Framed) → w .at ≤ b → 4 * b ≤ length s → frameNext (isAsked w) (part s (w .at) b) ≡ f
+by-part : (w : Walk) (s : List ℕ) (b : ℕ) (f : Framed) → w .at ≤ b → 4 * b ≤ length s → frameNext (isAsked (placeOf w)) (part s (w .at) b) ≡ f
     → framedBy s w f ≡ foundBy w (ownOf f (part s (w .at) b) (maxDepth - w .depth))
 unfolding framedBy foundBy ownOf
 by-part w s b (Unframed m p) h long e = refl
 by-part w s b (Item k h′ n) h long e =
-    let z = item-sizes (part s (w .at) b) k h′ n (any-item (isAsked w) (part s (w .at) b) k h′ n e) in
+    let z = item-sizes (part s (w .at) b) k h′ n (any-item (isAsked (placeOf w)) (part s (w .at) b) k h′ n e) in
     let c : 4 * n ≡ n * 4 = omega arith in
     let i : w .at + n ≤ b = omega (arith, z .2, part-length s (w .at) b long) in
     rw (c, part-take s (w .at) n b i) (judged-told w k h′ n _)
@@ -116,7 +136,7 @@ module _ (w : Walk) (s : List ℕ) (n : ℕ) (tail : Bool) (fit : isFit w n ≡ 
   unfolding stepFit partStep nextOwn
   fit-step ne =
       rw (ne-eqb (w .at) n ne, asked-frame w (part s (w .at) (stopOf w n)))
-      (by-part w s (stopOf w n) (frameNext (isAsked w) (part s (w .at) (stopOf w n))) (omega (arith, fit-ahead w n fit ne))
+      (by-part w s (stopOf w n) (frameNext (isAsked (placeOf w)) (part s (w .at) (stopOf w n))) (omega (arith, fit-ahead w n fit ne))
       (omega (arith, fit-stop w n fit)) refl)
 
   at-end : w .at ≡ n → stepFit s n tail w ≡ record { next = w; found = pick tail (F.Refused 4 (4 * w .at)) F.End }
@@ -131,6 +151,10 @@ module _ (w : Walk) (s : List ℕ) (n : ℕ) (tail : Bool) (fit : isFit w n ≡ 
       (whether (eqb (w .at) n))
 
 -- ---- the same in a form
+
+-- a step that is the same
+by-same : {before after : List ℕ} {r : Moved} {t u : Stepped} → Steps before after r t → t ≡ u → Steps before after r u
+by-same s e = rw (← e) s
 
 -- a stream of either form within its limit
 near-units : (form : Form) (xs : List ℕ) → length xs ≤ domain form .limit → 4 * unitsIn (domain form) xs ≤ reach
@@ -151,12 +175,11 @@ module _ (form : Form) (xs : List ℕ) (n : ℕ) (w : Walk) (H : Fits form xs n 
   pub at-near : w .at ≤ reach
   at-near = omega (arith, near, fit-there w n (H .fit))
 
-  pub ends : (tail : Bool) (r : Stepped) → w .at ≡ n → r ≡ record { next = w; found = pick tail (F.Refused 4 (4 * w .at)) F.End }
-      → r ≡ stepFit (domain form .sextets xs) n tail w
-  ends tail r e p = p ∙ sym (at-end w (domain form .sextets xs) n tail (H .fit) whole e)
+  here : (tail : Bool) → w .at ≡ n → record { next = w; found = pick tail (F.Refused 4 (4 * w .at)) F.End } ≡ stepFit (domain form .sextets xs) n tail w
+  here tail e = sym (at-end w (domain form .sextets xs) n tail (H .fit) whole e)
 
   module _ (ne : w .at ≡ n → ⊥) (stop : ℕ) (es : stop ≡ stopOf w n) where
-    pub spans : Spans form xs w stop
+    pub spans : Spans form xs (placeOf w) stop
     spans = record {
       slots = fit-few w n (H .fit);
       order = omega (arith, fit-ahead w n (H .fit) ne);
@@ -164,34 +187,55 @@ module _ (form : Form) (xs : List ℕ) (n : ℕ) (w : Walk) (H : Fits form xs n 
       few = H .few;
     }
 
-    module _ (item : Framed) (ei : item ≡ nextOwn (isAsked w) (part (domain form .sextets xs) (w .at) stop) (maxDepth - w .depth)) where
-      pub goes-ready : Ready w item
+    module _ (item : Framed) (ei : item ≡ nextOwn (isAsked (placeOf w)) (part (domain form .sextets xs) (w .at) stop) (maxDepth - w .depth)) where
+      pub goes-ready : Ready (placeOf w) item
       goes-ready = ready w _ item (rw es (part-few w (domain form .sextets xs) n (H .fit) whole near)) ei
 
-      pub goes-on : (tail : Bool) (r : Stepped) → r ≡ foundBy w item → r ≡ stepFit (domain form .sextets xs) n tail w
+      pub goes-on : (tail : Bool) {before after : List ℕ} {r : Moved} → Steps before after r (foundBy w item)
+          → Steps before after r (stepFit (domain form .sextets xs) n tail w)
       unfolding partStep
-      goes-on tail r e = e ∙ rw (ei, es) (sym (fit-step w (domain form .sextets xs) n tail (H .fit) whole ne))
+      goes-on tail t = by-same t (rw (ei, es) (sym (fit-step w (domain form .sextets xs) n tail (H .fit) whole ne)))
 
-  pub reaches : (tail : Bool) (r : Stepped) → r ≡ stepFit (domain form .sextets xs) n tail w → InReach (r .found)
-  reaches tail r e = rw e (step-reach w (domain form .sextets xs) n tail (H .fit) whole near)
+  pub reaches : (tail : Bool) {before after : List ℕ} {r : Moved} → Steps before after r (stepFit (domain form .sextets xs) n tail w) → InReach (r .found)
+  reaches tail t = rw (t .found) (step-reach w (domain form .sextets xs) n tail (H .fit) whole near)
+
+-- at the stream's end
+pub ends : (form : Form) (xs : List ℕ) (n : ℕ) (s : List ℕ) (p : Place) → Fits form xs n (walkAt s p) → (tail : Bool) → p .at ≡ n → {r : Moved}
+    → r ≡ record { place = p; found = pick tail (F.Refused 4 (4 * p .at)) F.End } → Steps s s r (stepFit (domain form .sextets xs) n tail (walkAt s p))
+ends form xs n s p H tail e q = rw q (by-same (record { moves = stays s p; found = refl; kept = λ e. refl }) (here form xs n (walkAt s p) H tail e))
 
 -- ---- 1 before 13
 
-module _ (form : Form) (xs : List ℕ) (over : Bool) (n : ℕ) (tail : Bool) (m : Measured form xs over n tail) (w : Walk) where
-  pub too-long : over ≡ true → record { next = w; found = F.Refused 1 0 } ≡ stepIn (domain form) xs w
+item-in : (u : ℕ) (f : Found) → isItem (foundIn u f) ≡ isItem f
+unfolding foundIn
+item-in u (F.Item o n d k h) = refl
+item-in u (F.Refused m p) = refl
+item-in u F.End = refl
+
+module _ (form : Form) (xs : List ℕ) (over : Bool) (n : ℕ) (tail : Bool) (m : Measured form xs over n tail) (s : List ℕ) (p : Place) where
+  pub too-long : over ≡ true → {r : Moved} → r ≡ record { place = p; found = F.Refused 1 0 } → Steps s s r (stepIn (domain form) xs (walkAt s p))
   unfolding stepIn
-  too-long o = rw (← (m .limit), o)
+  too-long o e = rw e (by-same (record { moves = stays s p; found = refl; kept = λ e. refl }) (rw (← (m .limit), o)))
 
   module _ (o : over ≡ false) where
-    pub unfit : isFit w n ≡ false → record { next = w; found = F.Refused 13 0 } ≡ stepIn (domain form) xs w
+    pub unfit : isFit (walkAt s p) n ≡ false → {r : Moved} → r ≡ record { place = p; found = F.Refused 13 0 } → Steps s s r (stepIn (domain form) xs (walkAt s p))
     unfolding stepIn step foundIn
-    unfit f = let z : 0 * domain form .unit + 0 ≡ 0 = omega arith in rw (← (m .limit), o, ← (m .units), f, z)
+    unfit f e =
+        let z : 0 * domain form .unit + 0 ≡ 0 = omega arith in
+        rw e (by-same (record { moves = stays s p; found = refl; kept = λ e. refl }) (rw (← (m .limit), o, ← (m .units), f, z)))
 
-    pub fits : isFit w n ≡ true → Fits form xs n w
+    pub fits : isFit (walkAt s p) n ≡ true → Fits form xs n (walkAt s p)
     fits f = record { few = ltb-false (domain form .limit) (length xs) (sym (m .limit) ∙ o); units = m .units; fit = f }
 
-    pub stepped : isFit w n ≡ true → (r : Stepped) → r ≡ stepFit (domain form .sextets xs) n tail w → (f : Found)
-        → f ≡ foundIn (domain form .unit) (r .found) → record { next = r .next; found = f } ≡ stepIn (domain form) xs w
+    pub stepped : isFit (walkAt s p) n ≡ true → {after : List ℕ} {r : Moved} → Steps s after r (stepFit (domain form .sextets xs) n tail (walkAt s p)) → {f : Found}
+        → f ≡ foundIn (domain form .unit) (r .found) → Steps s after (record { place = r .place; found = f }) (stepIn (domain form) xs (walkAt s p))
     unfolding stepIn step
-    stepped fit r er f ef =
-        rw (← (m .limit), o, ← (m .units), fit, ← (m .rest), ← er) (ap (λ (x : Found). record { next = r .next; found = x }) ef)
+    stepped fit {r = r} t {f} ef =
+        by-same (record { moves = t .moves; found = ef ∙ ap (foundIn (domain form .unit)) (t .found); kept = λ e. t .kept (sym (item-in (domain form .unit) (r .found)) ∙ ap isItem (sym ef) ∙ e) })
+        (rw (← (m .limit), o, ← (m .units), fit, ← (m .rest)))
+
+-- ---- by value
+
+pub by-value : {before after : List ℕ} {r : Moved} {t : Stepped} → length after ≡ maxDepth → Steps before after r t
+    → record { next = record { ends = after; depth = r .place .depth; at = r .place .at; first = r .place .first }; found = r .found } ≡ t
+by-value {r = r} l s = rw (← (own-moved l (s .moves)), ← (s .found))

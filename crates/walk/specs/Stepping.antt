@@ -2,7 +2,7 @@
 use Prim.Native.Nat.{ℕ, _+_, _-_, _*_, _/_, _%_, _≤_, _<_}
 use mathlib.Core.Path.{_≡_}
 use mathlib.Core.List.{List}
-use mathlib.Core.Bool.{Bool, true}
+use mathlib.Core.Bool.{Bool, true, false}
 use lib.ListN.{length}
 use lib.Dec.{ltb, eqb}
 use Rattle.base.specs.Pick.{pick}
@@ -14,14 +14,20 @@ use Rattle.format.specs.Units.{Domain, domain, text}
 use Rattle.format.specs.Judging.{maxDepth}
 use Rattle.report_next.specs.Next.{nextOwn, isEntered}
 use Rattle.walk_state.specs.declared.Walk.{Walk}
+use Rattle.walk_state.specs.declared.Place.{Place}
 use Rattle.walk_state.specs.declared.Found.{Found}
 use Rattle.walk_state.specs.declared.Found.the-variants as F
 use Rattle.walk_state.specs.declared.Stepped.{Stepped}
 use Rattle.walk_state.specs.Walking.{isFit, nextOf}
+use Rattle.walk_state.specs.Lent.{Moves}
+use Rattle.walk.specs.declared.Moved.{Moved}
 
 -- 7 is asked at top level, and where the mark is set
-unfoldable pub isAsked : Walk → Bool
-isAsked w = pick (eqb (w .depth) 0) true (w .first)
+unfoldable pub isAsked : Place → Bool
+isAsked p = pick (eqb (p .depth) 0) true (p .first)
+
+abbrev pub placeOf : Walk → Place
+placeOf w = record { depth = w .depth; at = w .at; first = w .first }
 
 -- the next item, framed and judged by its own checks, or its refusal, at which the state stays as it was
 unfoldable pub foundBy : Walk → Framed → Stepped
@@ -30,7 +36,18 @@ foundBy w (Item k h n) = record { next = nextOf w k h n; found = F.Item (w .at) 
 
 -- a step over a part, from the position to where the innermost group ends
 unfoldable pub partStep : Walk → List ℕ → Stepped
-partStep w s = foundBy w (nextOwn (isAsked w) s (maxDepth - w .depth))
+partStep w s = foundBy w (nextOwn (isAsked (placeOf w)) s (maxDepth - w .depth))
+
+abbrev pub isItem : Found → Bool
+isItem (F.Item o n d k h) = true
+isItem (F.Refused m p) = false
+isItem F.End = false
+
+-- a step in lent slots: what it leaves there, where it leads and what it finds; with no item they stay as they were
+pub record Steps (before after : List ℕ) (r : Moved) (t : Stepped) : Type 0 where
+  pub moves : Moves before after (r .place) (t .next)
+  pub found : r .found ≡ t .found
+  pub kept : isItem (r .found) ≡ false → after ≡ before
 
 -- a stream's whole units, and whether elements stand behind them
 abbrev pub unitsIn : Domain → List ℕ → ℕ
@@ -50,14 +67,14 @@ abbrev pub Slotted : Kind → ℕ → Type 0
 Slotted k d = isEntered k ≡ true → d < maxDepth
 
 -- an item, or its refusal, that can be told; of a place it is known that it lies in the item, or in a header
-abbrev pub Ready : Walk → Framed → Type 0
-Ready w (Unframed m p) = p ≤ reach + 8
-Ready w (Item k h n) = (h ≤ n) × (n ≤ reach) × Slotted k (w .depth)
+abbrev pub Ready : Place → Framed → Type 0
+Ready p (Unframed m place) = place ≤ reach + 8
+Ready p (Item k h n) = (h ≤ n) × (n ≤ reach) × Slotted k (p .depth)
 
 -- where the next item is looked for: from the position to stop, in a stream within its limit
-pub record Spans (form : Form) (xs : List ℕ) (w : Walk) (stop : ℕ) : Type 0 where
-  pub slots : w .depth ≤ maxDepth
-  pub order : w .at ≤ stop
+pub record Spans (form : Form) (xs : List ℕ) (p : Place) (stop : ℕ) : Type 0 where
+  pub slots : p .depth ≤ maxDepth
+  pub order : p .at ≤ stop
   pub room : domain form .unit * stop ≤ length xs
   pub few : length xs ≤ domain form .limit
 

@@ -8,12 +8,14 @@ use judging::MAX_DEPTH;
 use walk_state::BinaryItem;
 use walk_state::BinaryStep;
 use walk_state::Found;
+use walk_state::Place;
 use walk_state::Stepped;
 use walk_state::TextItem;
 use walk_state::TextStep;
 use walk_state::Walk;
 ghost use mathlib.Core.Path.{_≡_};
 ghost use Prim.Native.Nat.{_+_, _-_, _*_, _/_, _%_, _≤_};
+ghost use lib.ListN.{length};
 ghost use Rattle.base.specs.Pick.{pick};
 ghost use Rattle.format.specs.Units.{domain};
 ghost use Rattle.format.specs.Judging.{maxDepth};
@@ -21,30 +23,37 @@ ghost use Rattle.laws.specs.Levels.{part};
 ghost use Rattle.report_next.specs.Next.{nextOwn};
 ghost use Rattle.walk_state.specs.declared.Found.the-variants as Found;
 ghost use Rattle.walk_state.specs.Walking.{stepFit, foundIn, stepIn, textItem, textStep, binaryItem, binaryStep};
-ghost use Rattle.walk.specs.Stepping.{isAsked, foundBy, reach, Ready, Spans, Fits, Measured, InReach};
+ghost use Rattle.walk_state.specs.Lent.{walkAt};
+ghost use Rattle.walk.specs.Stepping.{isAsked, foundBy, Steps, reach, Ready, Spans, Fits, Measured, InReach};
 
 // The longest streams: 1.
 const MAX_CHARACTERS: usize = 4194304;
 
 const MAX_BYTES: usize = 3145728;
 
+// Where a step in lent slots leads, and what it finds.
+pub struct Moved {
+    pub place: Place,
+    pub found: Found,
+}
+
 // ---- the next item
 
 // 7 is asked at top level, and where the mark is set.
-fn is_asked(w: Walk) -> bool
-    ensures { λ r. ⌜ r ≡ isAsked w ⌝ }
+fn is_asked(p: Place) -> bool
+    ensures { λ r. ⌜ r ≡ isAsked p ⌝ }
 {
-    if w.depth == 0 { true } else { w.first }
+    if p.depth == 0 { true } else { p.first }
 }
 
 // The next item up to where its group ends, framed and judged by its own checks, or its refusal.
-fn next_item(w: Walk, form: Form, s: &[u8], stop: usize) -> Framed
-    requires { ⌜ Spans form (now s) w stop ⌝ }
-    ensures { λ r. ⌜ r ≡ nextOwn (isAsked w) (part (domain form .sextets (now (s .entry))) (w .at) stop) (maxDepth - w .depth) ⌝ }
+fn next_item(p: Place, form: Form, s: &[u8], stop: usize) -> Framed
+    requires { ⌜ Spans form (now s) p stop ⌝ }
+    ensures { λ r. ⌜ r ≡ nextOwn (isAsked p) (part (domain form .sextets (now (s .entry))) (p .at) stop) (maxDepth - p .depth) ⌝ }
 {
-    let asked = is_asked(w);
-    let levels = MAX_DEPTH - w.depth;
-    let at = w.at;
+    let asked = is_asked(p);
+    let levels = MAX_DEPTH - p.depth;
+    let at = p.at;
     match form {
         Form::Text => {
             let from = 4 * at;
@@ -62,14 +71,14 @@ fn next_item(w: Walk, form: Form, s: &[u8], stop: usize) -> Framed
 // ---- a step
 
 // What is told of the next item, and the state behind it. At a refusal the state stays as it was.
-fn yielded(w: Walk, item: Framed) -> Stepped
-    requires { ⌜ (w .depth ≤ maxDepth) × (w .at ≤ reach) × Ready w item ⌝ }
-    ensures { λ r. ⌜ r ≡ foundBy w item ⌝ }
+fn yielded(slots: &mut [usize], p: Place, item: Framed) -> Moved
+    requires { ⌜ (maxDepth ≤ length (now slots)) × (p .depth ≤ maxDepth) × (p .at ≤ reach) × Ready p item ⌝ }
+    ensures { λ r. ⌜ Steps (now (slots .entry)) (now (slots .exit)) r (foundBy (walkAt (now (slots .entry)) p) item) ⌝ }
 {
-    let at = w.at;
+    let at = p.at;
     match item {
-        Framed::Unframed { number, place } => Stepped {
-            next: w,
+        Framed::Unframed { number, place } => Moved {
+            place: p,
             found: Found::Refused {
                 number,
                 place: 4 * at + place,
@@ -78,10 +87,10 @@ fn yielded(w: Walk, item: Framed) -> Stepped
         Framed::Item { kind, head, size } => {
             let opens = report_next::is_entered(kind);
             let mark = report_next::is_ruled(kind);
-            let next = w.step(at + head, at + size, opens, mark);
-            let depth = w.depth;
-            Stepped {
-                next,
+            let depth = p.depth;
+            let place = walk_state::advance(slots, p, at + head, at + size, opens, mark);
+            Moved {
+                place,
                 found: Found::Item {
                     offset: at,
                     size,
@@ -95,36 +104,38 @@ fn yielded(w: Walk, item: Framed) -> Stepped
 }
 
 // At the end of the whole units, where elements of one more may stand.
-fn ended(w: Walk, tail: bool) -> Stepped
-    requires { ⌜ w .at ≤ reach ⌝ }
-    ensures { λ r. ⌜ r ≡ record { next = w; found = pick tail (Found.Refused 4 (4 * w .at)) Found.End } ⌝ }
+fn ended(p: Place, tail: bool) -> Moved
+    requires { ⌜ p .at ≤ reach ⌝ }
+    ensures { λ r. ⌜ r ≡ record { place = p; found = pick tail (Found.Refused 4 (4 * p .at)) Found.End } ⌝ }
 {
+    let at = p.at;
     if tail {
-        return Stepped {
-            next: w,
+        return Moved {
+            place: p,
             found: Found::Refused {
                 number: 4,
-                place: 4 * w.at,
+                place: 4 * at,
             },
         };
     }
-    Stepped {
-        next: w,
+    Moved {
+        place: p,
         found: Found::End,
     }
 }
 
 // The step of a state that fits a stream of n whole units; tail: elements of one more stand behind them. Offset and size are in units,
 // the place in sextets.
-fn step_fit(w: Walk, form: Form, s: &[u8], n: usize, tail: bool) -> Stepped
-    requires { ⌜ Fits form (now s) n w ⌝ }
-    ensures { λ r. ⌜ r ≡ stepFit (domain form .sextets (now (s .entry))) n tail w ⌝ }
+fn move_fit(slots: &mut [usize], p: Place, form: Form, s: &[u8], n: usize, tail: bool) -> Moved
+    requires { ⌜ (maxDepth ≤ length (now slots)) × Fits form (now s) n (walkAt (now slots) p) ⌝ }
+    ensures { λ r. ⌜ Steps (now (slots .entry)) (now (slots .exit)) r (stepFit (domain form .sextets (now (s .entry))) n tail (walkAt (now (slots .entry)) p)) ⌝ }
 {
-    if w.at == n {
-        return ended(w, tail);
+    if p.at == n {
+        return ended(p, tail);
     }
-    let item = next_item(w, form, s, w.stop(n));
-    yielded(w, item)
+    let stop = walk_state::stop(slots, p, n);
+    let item = next_item(p, form, s, stop);
+    yielded(slots, p, item)
 }
 
 // ---- units and sextets as elements of a form
@@ -178,59 +189,89 @@ fn found_in(form: Form, found: Found) -> Found
 
 // ---- a step over a stream
 
+fn refused(p: Place, number: u8) -> Moved
+    ensures { λ r. ⌜ r ≡ record { place = p; found = Found.Refused number 0 } ⌝ }
+{
+    Moved {
+        place: p,
+        found: Found::Refused { number, place: 0 },
+    }
+}
+
 // over: the stream is longer than its form's limit; n: its whole units; tail: elements stand behind them.
-fn step_by(w: Walk, form: Form, s: &[u8], over: bool, n: usize, tail: bool) -> Stepped
-    requires { ⌜ Measured form (now s) over n tail ⌝ }
-    ensures { λ r. ⌜ r ≡ stepIn (domain form) (now (s .entry)) w ⌝ }
+fn move_by(
+    slots: &mut [usize],
+    p: Place,
+    form: Form,
+    s: &[u8],
+    over: bool,
+    n: usize,
+    tail: bool,
+) -> Moved
+    requires { ⌜ (maxDepth ≤ length (now slots)) × Measured form (now s) over n tail ⌝ }
+    ensures { λ r. ⌜ Steps (now (slots .entry)) (now (slots .exit)) r (stepIn (domain form) (now (s .entry)) (walkAt (now (slots .entry)) p)) ⌝ }
 {
     if over {
-        return Stepped {
-            next: w,
-            found: Found::Refused {
-                number: 1,
-                place: 0,
-            },
-        };
+        return refused(p, 1);
     }
-    if !w.is_fit(n) {
-        return Stepped {
-            next: w,
-            found: Found::Refused {
-                number: 13,
-                place: 0,
-            },
-        };
+    if !walk_state::is_fit(slots, p, n) {
+        return refused(p, 13);
     }
-    let r = step_fit(w, form, s, n, tail);
-    let next = r.next;
-    let found = r.found;
-    Stepped {
-        next,
+    let m = move_fit(slots, p, form, s, n, tail);
+    let place = m.place;
+    let found = m.found;
+    Moved {
+        place,
         found: found_in(form, found),
     }
 }
 
-// The next item at any depth, the first refusal or the end, with the next state. Offset, size and place count the stream's elements.
-pub fn step_in(w: Walk, form: Form, s: &[u8]) -> Stepped
-    ensures { λ r. ⌜ r ≡ stepIn (domain form) (now (s .entry)) w ⌝ }
+// The next item at any depth, the first refusal or the end, the state's ends in lent slots. Offset, size and place count the stream's
+// elements. Too few slots stay as they are.
+pub fn move_in(slots: &mut [usize], p: Place, form: Form, s: &[u8]) -> Moved
+    ensures { λ r. ⌜ (maxDepth ≤ length (now (slots .entry)) → Steps (now (slots .entry)) (now (slots .exit)) r (stepIn (domain form) (now (s .entry)) (walkAt (now (slots .entry)) p))) ⌝ }
 {
+    if slots.len() < MAX_DEPTH {
+        return refused(p, 13);
+    }
     match form {
-        Form::Text => step_by(
-            w,
+        Form::Text => move_by(
+            slots,
+            p,
             form,
             s,
             MAX_CHARACTERS < s.len(),
             s.len() / 4,
             0 < s.len() % 4,
         ),
-        Form::Binary => step_by(
-            w,
+        Form::Binary => move_by(
+            slots,
+            p,
             form,
             s,
             MAX_BYTES < s.len(),
             s.len() / 3,
             0 < s.len() % 3,
         ),
+    }
+}
+
+// The same with the state by value.
+pub fn step_in(w: Walk, form: Form, s: &[u8]) -> Stepped
+    ensures { λ r. ⌜ r ≡ stepIn (domain form) (now (s .entry)) w ⌝ }
+{
+    let mut ends = w.ends;
+    let m = move_in(&mut ends, w.place(), form, s);
+    let p = m.place;
+    let found = m.found;
+    Stepped {
+        next: Walk {
+            ends,
+            depth: p.depth,
+            at: p.at,
+            first: p.first,
+        },
+        found,
     }
 }
 

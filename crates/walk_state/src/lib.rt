@@ -5,15 +5,24 @@ use format::Kind;
 use format::TextOffset;
 use judging::MAX_DEPTH;
 ghost use mathlib.Core.Path.{_≡_};
-ghost use Prim.Native.Nat.{_<_};
+ghost use Prim.Native.Nat.{_<_, _≤_};
+ghost use lib.ListN.{length};
 ghost use Rattle.format.specs.Judging.{maxDepth};
-ghost use Rattle.walk_state.specs.Walking.{start, allBelow, slotFits, isFit, movedTo, stopOf};
+ghost use Rattle.walk_state.specs.Walking.{start, allBelow, slotFits, isFit, stopOf};
 ghost use Rattle.walk_state.specs.Moving.{finished, entered, stepOver};
+ghost use Rattle.walk_state.specs.Lent.{slotsIn, walkAt, Closes, Moves};
 
 // ends: the ends of the open groups, outermost first, unused slots 0; depth: how many are open; at: the position; first: whether
 // the next item is first in an overrideable group.
 pub struct Walk {
     pub ends: [usize; MAX_DEPTH],
+    pub depth: usize,
+    pub at: usize,
+    pub first: bool,
+}
+
+// The state but the ends, which who has them lends: the first MAX_DEPTH numbers of a slice. So a step copies none of them.
+pub struct Place {
     pub depth: usize,
     pub at: usize,
     pub first: bool,
@@ -85,34 +94,156 @@ pub struct BinaryStep {
 
 // ---- 13: whether a state fits a stream of n units
 
-// The slots are lent, so that no turn of the loop copies the state.
-fn slot_fits(ends: &[usize; MAX_DEPTH], depth: usize, n: usize, k: usize) -> bool
-    requires { ⌜ k < maxDepth ⌝ }
-    ensures { λ r. ⌜ r ≡ slotFits (now (ends .entry)) depth n k ⌝ }
+fn slot_fits(slots: &[usize], depth: usize, n: usize, k: usize) -> bool
+    requires { ⌜ (k < maxDepth) × (maxDepth ≤ length (now slots)) ⌝ }
+    ensures { λ r. ⌜ r ≡ slotFits (slotsIn (now (slots .entry))) depth n k ⌝ }
 {
-    let end = ends[k];
+    let end = slots[k];
     if depth <= k {
         return end == 0;
     }
     if k == 0 {
         return end <= n;
     }
-    let outer = ends[k - 1];
+    let outer = slots[k - 1];
     end <= outer
 }
 
-fn slots_fit(ends: &[usize; MAX_DEPTH], depth: usize, n: usize) -> bool
-    ensures { λ r. ⌜ r ≡ allBelow (slotFits (now (ends .entry)) depth n) maxDepth ⌝ }
+fn slots_fit(slots: &[usize], depth: usize, n: usize) -> bool
+    requires { ⌜ maxDepth ≤ length (now slots) ⌝ }
+    ensures { λ r. ⌜ r ≡ allBelow (slotFits (slotsIn (now (slots .entry))) depth n) maxDepth ⌝ }
 {
     let mut k: usize = 0;
     while k < MAX_DEPTH {
-        if !slot_fits(ends, depth, n, k) {
+        if !slot_fits(slots, depth, n, k) {
             return false;
         }
         k = k + 1;
     }
     true
 }
+
+// Whether the state fits a stream of n whole units: else 13. One with too few slots fits none.
+pub fn is_fit(slots: &[usize], p: Place, n: usize) -> bool
+    ensures { λ r. ⌜ (maxDepth ≤ length (now (slots .entry)) → r ≡ isFit (walkAt (now (slots .entry)) p) n) ⌝ }
+{
+    let depth = p.depth;
+    if slots.len() < MAX_DEPTH {
+        return false;
+    }
+    if MAX_DEPTH < depth {
+        return false;
+    }
+    if n < p.at {
+        return false;
+    }
+    if !slots_fit(slots, depth, n) {
+        return false;
+    }
+    if depth == 0 {
+        return !p.first;
+    }
+    let inner = slots[depth - 1];
+    p.at < inner
+}
+
+// Where the innermost group ends, or the stream of n units; 0 with more open than there are slots.
+pub fn stop(slots: &[usize], p: Place, n: usize) -> usize
+    ensures { λ r. ⌜ (maxDepth ≤ length (now (slots .entry)) → r ≡ stopOf (walkAt (now (slots .entry)) p) n) ⌝ }
+{
+    let depth = p.depth;
+    if depth == 0 {
+        return n;
+    }
+    if MAX_DEPTH < depth {
+        return 0;
+    }
+    if slots.len() < MAX_DEPTH {
+        return 0;
+    }
+    slots[depth - 1]
+}
+
+// ---- the next state, in lent slots
+
+// Groups whose end is reached, innermost first; how many are open then.
+fn close(slots: &mut [usize], depth: usize, at: usize) -> usize
+    requires { ⌜ (depth ≤ maxDepth) × (maxDepth ≤ length (now slots)) ⌝ }
+    ensures { λ r. ⌜ Closes (now (slots .entry)) (now (slots .exit)) depth at r ⌝ }
+{
+    let mut still = depth;
+    while 0 < still {
+        let top = still - 1;
+        if slots[top] != at {
+            return still;
+        }
+        slots[top] = 0;
+        still = top;
+    }
+    still
+}
+
+// With more open than there are slots all stays as it is.
+fn finish(slots: &mut [usize], p: Place) -> Place
+    requires { ⌜ maxDepth ≤ length (now slots) ⌝ }
+    ensures { λ r. ⌜ Moves (now (slots .entry)) (now (slots .exit)) r (finished (walkAt (now (slots .entry)) p)) ⌝ }
+{
+    if MAX_DEPTH < p.depth {
+        return p;
+    }
+    let depth = close(slots, p.depth, p.at);
+    Place {
+        depth,
+        at: p.at,
+        first: p.first,
+    }
+}
+
+// Into a group with contents from at to end; mark: 7 is asked of its first item, if it has one. With no slot left all stays as it is.
+fn enter(slots: &mut [usize], p: Place, at: usize, end: usize, mark: bool) -> Place
+    requires { ⌜ maxDepth ≤ length (now slots) ⌝ }
+    ensures { λ r. ⌜ Moves (now (slots .entry)) (now (slots .exit)) r (entered (walkAt (now (slots .entry)) p) at end mark) ⌝ }
+{
+    let depth = p.depth;
+    if MAX_DEPTH <= depth {
+        return p;
+    }
+    slots[depth] = end;
+    Place {
+        depth: depth + 1,
+        at,
+        first: if at < end { mark } else { false },
+    }
+}
+
+// A step over an item with contents from at to end: into them if they are items, as Walk::open_group, else past them. Groups whose end
+// is reached close. Too few slots stay as they are.
+pub fn advance(
+    slots: &mut [usize],
+    p: Place,
+    at: usize,
+    end: usize,
+    opens: bool,
+    mark: bool,
+) -> Place
+    ensures { λ r. ⌜ (maxDepth ≤ length (now (slots .entry)) → Moves (now (slots .entry)) (now (slots .exit)) r (stepOver (walkAt (now (slots .entry)) p) at end opens mark)) ⌝ }
+{
+    if slots.len() < MAX_DEPTH {
+        return p;
+    }
+    if opens {
+        let inside = enter(slots, p, at, end, mark);
+        return finish(slots, inside);
+    }
+    let past = Place {
+        depth: p.depth,
+        at: end,
+        first: false,
+    };
+    finish(slots, past)
+}
+
+// ---- the state by value
 
 impl Walk {
     // None open, at the stream's start.
@@ -127,44 +258,29 @@ impl Walk {
         }
     }
 
-    // Whether the state fits a stream of n whole units: else 13.
-    pub fn is_fit(self, n: usize) -> bool
-        ensures { λ r. ⌜ r ≡ isFit self n ⌝ }
+    // All but the ends.
+    pub fn place(self) -> Place
+        ensures { λ r. ⌜ walkAt (self .ends) r ≡ self ⌝ }
     {
-        let depth = self.depth;
-        if MAX_DEPTH < depth {
-            return false;
+        Place {
+            depth: self.depth,
+            at: self.at,
+            first: self.first,
         }
-        if n < self.at {
-            return false;
-        }
-        if !slots_fit(&self.ends, depth, n) {
-            return false;
-        }
-        if depth == 0 {
-            return !self.first;
-        }
-        let inner = self.ends[depth - 1];
-        self.at < inner
     }
 
     // Groups whose end is reached, innermost first. A state with more open than there are slots stays as it is.
     pub fn close_finished(self) -> Walk
         ensures { λ r. ⌜ r ≡ finished self ⌝ }
     {
-        if MAX_DEPTH < self.depth {
-            return self;
+        let mut ends = self.ends;
+        let p = finish(&mut ends, self.place());
+        Walk {
+            ends,
+            depth: p.depth,
+            at: p.at,
+            first: p.first,
         }
-        let mut w = self;
-        while 0 < w.depth {
-            let top = w.depth - 1;
-            if w.ends[top] != w.at {
-                return w;
-            }
-            w.ends[top] = 0;
-            w.depth = top;
-        }
-        w
     }
 
     // Into a group with contents from at to end; mark: 7 is asked of its first item, if it has one. A state with no slot left
@@ -172,50 +288,27 @@ impl Walk {
     pub fn open_group(self, at: usize, end: usize, mark: bool) -> Walk
         ensures { λ r. ⌜ r ≡ entered self at end mark ⌝ }
     {
-        let depth = self.depth;
-        if MAX_DEPTH <= depth {
-            return self;
+        let mut ends = self.ends;
+        let p = enter(&mut ends, self.place(), at, end, mark);
+        Walk {
+            ends,
+            depth: p.depth,
+            at: p.at,
+            first: p.first,
         }
-        let mut w = self;
-        w.ends[depth] = end;
-        w.depth = depth + 1;
-        w.at = at;
-        w.first = if at < end { mark } else { false };
-        w
     }
 
-    // Past an item that is not entered.
-    fn moved_to(self, at: usize) -> Walk
-        ensures { λ r. ⌜ r ≡ movedTo self at ⌝ }
-    {
-        let mut w = self;
-        w.at = at;
-        w.first = false;
-        w
-    }
-
-    // Where the innermost group ends, or the stream of n units; 0 in a state with more open than there are slots.
-    pub fn stop(self, n: usize) -> usize
-        ensures { λ r. ⌜ r ≡ stopOf self n ⌝ }
-    {
-        let depth = self.depth;
-        if depth == 0 {
-            return n;
-        }
-        if MAX_DEPTH < depth {
-            return 0;
-        }
-        self.ends[depth - 1]
-    }
-
-    // A step over an item with contents from at to end: into them if they are items, as open_group, else past them. Groups whose end
-    // is reached close.
+    // A step over an item with contents from at to end: into them if they are items, else past them. Groups whose end is reached close.
     pub fn step(self, at: usize, end: usize, opens: bool, mark: bool) -> Walk
         ensures { λ r. ⌜ r ≡ stepOver self at end opens mark ⌝ }
     {
-        if opens {
-            return self.open_group(at, end, mark).close_finished();
+        let mut ends = self.ends;
+        let p = advance(&mut ends, self.place(), at, end, opens, mark);
+        Walk {
+            ends,
+            depth: p.depth,
+            at: p.at,
+            first: p.first,
         }
-        self.moved_to(end).close_finished()
     }
 }

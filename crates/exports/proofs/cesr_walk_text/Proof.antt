@@ -1,14 +1,14 @@
 -- `cesr_walk_text` meets its contract. Assumes nothing.
-use Rattle.exports_values.specs.Lent.{textStepNumber, textStepValue, textYieldLeft, textStateLeft}
+use Rattle.exports.proofs.Walks.{text-yields, text-refuses, text-ends}
 use borrow.Author.Needs.{needs}
 use Rattle.exports.proofs.cesr_walk_text.Statement.{statement}
 use Rattle.exports.proofs.cesr_walk_text.Tie as tie
 
-walk-of-requires : tie.Need-walk-of-requires
-walk-of-requires c κs = search needs
+place-of-requires : tie.Need-place-of-requires
+place-of-requires c κs = search needs
 
-step-text-requires : tie.Need-step-text-requires
-step-text-requires c κs = search needs
+move-in-requires : tie.Need-move-in-requires
+move-in-requires c κs = search needs
 
 enum-known-found : tie.Need-enum-known-found
 enum-known-found c = search needs
@@ -16,8 +16,8 @@ enum-known-found c = search needs
 item-of-requires : tie.Need-item-of-requires
 item-of-requires c κs = search needs
 
-state-of-requires : tie.Need-state-of-requires
-state-of-requires c κs = search needs
+put-place-requires : tie.Need-put-place-requires
+put-place-requires c κs = search needs
 
 enum-known-found-2 : tie.Need-enum-known-found-2
 enum-known-found-2 c = search needs
@@ -26,35 +26,33 @@ enum-told : tie.Need-enum-told
 enum-told c = search needs
 
 returns : tie.Need-returns
-unfolding textStepNumber textStepValue textYieldLeft textStateLeft
 returns c =
-    let t = c .before .before .before .before .before .before .step-text in
-    let g = c .before .before .before .found .given .1 in
-    rw (← (c .before .before .before .before .before .before .before .walk-of .ensures), ← (t .ensures)) (rw g, (rw g, (rw g (c .before .item-of .ensures), rw g (c .state-of .ensures))))
+    let w = c .before .before .before .before .before .before .before in
+    let a = w .before .before .before .before .before .args in
+    text-yields (a .stream .now) (a .state .now) (w .before .before .place-of .ensures) (w .move-in .ensures (search needs)) (c .before .before .before .before .found .given .1) (a .item .now) (c .before .before .item-of .ensures)
+    (c .put-place .ensures (search needs))
 
 returns-2 : tie.Need-returns-2
-unfolding textStepNumber textStepValue textYieldLeft textStateLeft
 returns-2 c =
-    let t = c .before .before .before .before .step-text in
-    let g = c .before .found2 .given .1 in
-    rw (← (c .before .before .before .before .before .walk-of .ensures), ← (t .ensures)) (rw g, (rw g, (rw g, rw g)))
+    let w = c .before .before .before .before in
+    let a = w .before .before .before .before .before .args in
+    text-refuses (a .stream .now) (a .state .now) (w .before .before .place-of .ensures) (w .move-in .ensures (search needs)) (c .before .found2 .given .1) (a .item .now)
 
 returns-3 : tie.Need-returns-3
-unfolding textStepNumber textStepValue textYieldLeft textStateLeft
 returns-3 c =
-    let t = c .before .before .before .step-text in
-    let g = c .enum-told .given .1 in
-    rw (← (c .before .before .before .before .walk-of .ensures), ← (t .ensures)) (rw g, (rw g, (rw g, rw g)))
+    let w = c .before .before .before in
+    let a = w .before .before .before .before .before .args in
+    text-ends (a .stream .now) (a .state .now) (w .before .before .place-of .ensures) (w .move-in .ensures (search needs)) (c .enum-told .given .1) (a .item .now)
 
 pub cesr-walk-text-spec : {M : Type 1} → statement M
 cesr-walk-text-spec =
     tie.close
     (tie.spec
-    walk-of-requires
-    step-text-requires
+    place-of-requires
+    move-in-requires
     enum-known-found
     item-of-requires
-    state-of-requires
+    put-place-requires
     enum-known-found-2
     enum-told
     returns

@@ -1,83 +1,44 @@
 -- `state_of` meets its contract. Assumes nothing.
-use Rattle.exports_values.specs.Lent.{stateOf, slotsOf}
+use mathlib.Core.Path.{_≡_, _∙_}
+use native.Mathlib.Omega.{arith}
+use lib.ListN.{length}
+use Rattle.format.specs.Judging.{maxDepth}
+use Rattle.exports_values.proofs.Numbers.{state-of-parts}
 use borrow.Author.Needs.{needs}
 use Rattle.exports_values.proofs.state_of.Statement.{statement}
 use Rattle.exports_values.proofs.state_of.Tie as tie
 
-mark-of-requires : tie.Need-mark-of-requires
-mark-of-requires c κs = search needs
+slice-aggregate-copy-slots : tie.Need-slice-aggregate-copy-slots
+slice-aggregate-copy-slots c = search needs
 
-array-read-t6 : tie.Need-array-read-t6
-array-read-t6 c = search needs
+slice-aggregate-copy-slots-2 : tie.Need-slice-aggregate-copy-slots-2
+slice-aggregate-copy-slots-2 c = search needs
 
-array-read-t9 : tie.Need-array-read-t9
-array-read-t9 c = search needs
+copy-slots-requires : tie.Need-copy-slots-requires
+copy-slots-requires c κs = let l : length (c .before .before .before .args .w .ends) ≡ maxDepth = search needs in (omega arith, search needs)
 
-array-read-t12 : tie.Need-array-read-t12
-array-read-t12 c = search needs
+slice-aggregate-put-place : tie.Need-slice-aggregate-put-place
+slice-aggregate-put-place c = search needs
 
-array-read-t15 : tie.Need-array-read-t15
-array-read-t15 c = search needs
+place-requires : tie.Need-place-requires
+place-requires c κs = search needs
 
-array-read-t18 : tie.Need-array-read-t18
-array-read-t18 c = search needs
-
-array-read-t21 : tie.Need-array-read-t21
-array-read-t21 c = search needs
-
-array-read-t24 : tie.Need-array-read-t24
-array-read-t24 c = search needs
-
-array-read-t27 : tie.Need-array-read-t27
-array-read-t27 c = search needs
-
-array-read-t30 : tie.Need-array-read-t30
-array-read-t30 c = search needs
-
-array-read-t33 : tie.Need-array-read-t33
-array-read-t33 c = search needs
-
-array-read-t36 : tie.Need-array-read-t36
-array-read-t36 c = search needs
-
-array-read-t39 : tie.Need-array-read-t39
-array-read-t39 c = search needs
-
-array-read-t42 : tie.Need-array-read-t42
-array-read-t42 c = search needs
-
-array-read-t45 : tie.Need-array-read-t45
-array-read-t45 c = search needs
-
-array-read-t48 : tie.Need-array-read-t48
-array-read-t48 c = search needs
-
-array-read-t51 : tie.Need-array-read-t51
-array-read-t51 c = search needs
+put-place-requires : tie.Need-put-place-requires
+put-place-requires c κs = search needs
 
 returns : tie.Need-returns
-unfolding stateOf slotsOf
-returns c = rw (c .mark-of .ensures)
+returns c =
+    c .before .put-place .ensures (search needs)
+    ∙ state-of-parts (c .before .before .before .before .before .before .before .before .before .args .w) (c .before .before .before .before .before .copy-slots .last .1 .0) (c .before .before .place .result) (c .before .before .before .before .before .copy-slots .ensures) (c .before .before .place .ensures)
 
 pub state-of-spec : {M : Type 1} → statement M
 state-of-spec =
     tie.close
     (tie.spec
-    mark-of-requires
-    array-read-t6
-    array-read-t9
-    array-read-t12
-    array-read-t15
-    array-read-t18
-    array-read-t21
-    array-read-t24
-    array-read-t27
-    array-read-t30
-    array-read-t33
-    array-read-t36
-    array-read-t39
-    array-read-t42
-    array-read-t45
-    array-read-t48
-    array-read-t51
+    slice-aggregate-copy-slots
+    slice-aggregate-copy-slots-2
+    copy-slots-requires
+    slice-aggregate-put-place
+    place-requires
+    put-place-requires
     returns)

@@ -57,7 +57,7 @@ returns c =
     let b = c .before .before .before .before .before .before .before in
     let q = c .before .before .enum-told .given .1 in
     let p = rw q at (b .pre) in
-    let e = text-part (b .args .s .now) (b .args .w .at) (b .args .stop) (p .order) in
+    let e = text-part (b .args .s .now) (b .args .p .at) (b .args .stop) (p .order) in
     rw q (rw (e, c .before .before .before .before .before .is-asked .ensures) at (c .next-text .ensures))
 
 returns-2 : tie.Need-returns-2
@@ -65,7 +65,7 @@ returns-2 c =
     let b = c .before .before .before .before .before .before .before in
     let q = c .before .before .enum-told2 .given .1 in
     let p = rw q at (b .pre) in
-    let e = binary-part (b .args .s .now) (b .args .w .at) (b .args .stop) (p .order) (p .room) in
+    let e = binary-part (b .args .s .now) (b .args .p .at) (b .args .stop) (p .order) (p .room) in
     rw q (rw (e, c .before .before .before .before .before .is-asked .ensures) at (c .next-binary .ensures))
 
 pub next-item-spec : {M : Type 1} → statement M

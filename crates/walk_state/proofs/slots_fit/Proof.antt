@@ -6,16 +6,17 @@ use native.Mathlib.Omega.{arith}
 use borrow.Author.Tests.{not-true, not-false}
 use Rattle.format.specs.Judging.{maxDepth}
 use Rattle.walk_state.specs.Walking.{allBelow, slotFits}
+use Rattle.walk_state.specs.Lent.{slotsIn}
 use Rattle.walk_state.proofs.Laws.{all-none, all-more, all-spoilt}
 use borrow.Author.Needs.{needs}
 use Rattle.walk_state.proofs.slots_fit.Statement.{statement}
 use Rattle.walk_state.proofs.slots_fit.Tie as tie
 
 abbrev Inv-loop : tie.InvT-loop
-Inv-loop ends depth n k₀ k = (k ≤ maxDepth) × (allBelow (slotFits ends depth n) k ≡ true)
+Inv-loop slots depth n k₀ k = (k ≤ maxDepth) × (allBelow (slotFits (slotsIn slots) depth n) k ≡ true)
 
 abbrev μ-loop : tie.MeasureT-loop
-μ-loop ends depth n k₀ k = maxDepth - k
+μ-loop slots depth n k₀ k = maxDepth - k
 
 loop-holds : tie.Need-loop-holds Inv-loop μ-loop
 loop-holds c = (search needs, all-none _)

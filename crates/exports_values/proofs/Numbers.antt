@@ -1,0 +1,44 @@
+-- The state's numbers, stored and copied. Assumes nothing.
+use mathlib.Core.Path.{_≡_, refl, ap, sym, _∙_}
+use mathlib.Core.List.{List, [], _∷_, _++_, append-nil}
+use Prim.Native.Nat.{ℕ, suc, _+_, _<_, _≤_}
+use native.Mathlib.Numerals.{add-one}
+use native.Mathlib.Omega.{arith}
+use lib.ListN.{length, getD, set, take, drop, drop-of-length-le}
+use lib.Seq.{take-suc, take-suc-set, take-all}
+use Rattle.base.specs.Stores.{store3}
+use Rattle.format.specs.Judging.{maxDepth}
+use Rattle.walk_state.specs.declared.Walk.{Walk}
+use Rattle.walk_state.specs.declared.Place.{Place}
+use Rattle.walk_state.specs.Lent.{slotsIn, walkAt}
+use Rattle.exports_values.specs.Lent.{stateSize, placeIn, placeNumbers, walkOf, stateOf}
+
+-- three numbers behind the ends
+pub numbers-put : (s : List ℕ) → length s ≡ stateSize → (depth at mark : ℕ)
+    → set (set (set s maxDepth depth) (maxDepth + 1) at) (maxDepth + 2) mark ≡ slotsIn s ++ (depth ∷ at ∷ mark ∷ [])
+numbers-put s l depth at mark =
+    let n : drop (maxDepth + 3) s ≡ [] = drop-of-length-le s {i = maxDepth + 3} (omega arith) in
+    store3 s (depth ∷ at ∷ mark ∷ []) maxDepth refl (omega arith) ∙ ap (λ (x : List ℕ). slotsIn s ++ (depth ∷ at ∷ mark ∷ []) ++ x) n
+    ∙ append-nil (slotsIn s ++ (depth ∷ at ∷ mark ∷ []))
+
+-- ends one by one
+pub copied-more : (from to : List ℕ) (k : ℕ) → k < length from → k < length to → take k to ≡ take k from
+    → take (k + 1) (set to k (getD from k 0)) ≡ take (k + 1) from
+copied-more from to k p q e = rw (add-one k, take-suc-set to k (getD from k 0) q, take-suc from k 0 p, e)
+
+pub copied-all : (from to : List ℕ) (k : ℕ) → k ≡ maxDepth → take k to ≡ take k from → slotsIn to ≡ slotsIn from
+copied-all from to k e h = rw e at h
+
+-- by value
+pub walk-of-parts : (s ends : List ℕ) (p : Place) → length ends ≡ maxDepth → slotsIn ends ≡ slotsIn s → p ≡ placeIn s
+    → record { ends = ends; depth = p .depth; at = p .at; first = p .first } ≡ walkOf s
+unfolding walkOf
+walk-of-parts s ends p l e f =
+    rw f (ap (λ (x : List ℕ). record { ends = x; depth = placeIn s .depth; at = placeIn s .at; first = placeIn s .first })
+    (sym (take-all maxDepth ends (omega arith)) ∙ e))
+
+pub state-of-parts : (w : Walk) (s : List ℕ) (p : Place) → slotsIn s ≡ slotsIn (w .ends) → walkAt (w .ends) p ≡ w
+    → slotsIn s ++ placeNumbers (p .depth) (p .at) (p .first) ≡ stateOf w
+unfolding stateOf
+state-of-parts w s p e f =
+    rw e (ap (λ (v : Walk). slotsIn (w .ends) ++ placeNumbers (v .depth) (v .at) (v .first)) f)

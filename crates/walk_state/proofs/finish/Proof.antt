@@ -1,0 +1,20 @@
+-- `walk_state::finish` meets its contract. Assumes nothing.
+use Rattle.walk_state.proofs.Lent.{finish-none, finish-some}
+use borrow.Author.Needs.{needs}
+use Rattle.walk_state.proofs.finish.Statement.{statement}
+use Rattle.walk_state.proofs.finish.Tie as tie
+
+returns : tie.Need-returns
+returns c = finish-none _ _ (search needs)
+
+close-requires : tie.Need-close-requires
+close-requires c κs = search needs
+
+same-length : tie.Need-same-length
+same-length c = search needs
+
+returns-2 : tie.Need-returns-2
+returns-2 c = let a = c .before .before .before .before .before .before .before .args in finish-some (a .slots .now) (a .p) (search needs) (c .before .before .close .ensures)
+
+pub finish-spec : {M : Type 1} → statement M
+finish-spec = tie.close (tie.spec returns close-requires same-length returns-2)
