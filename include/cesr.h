@@ -31,7 +31,7 @@ enum cesr_number {
     CESR_NOT_ZERO = 8,            /* pad bit or lead byte not zero */
     CESR_LEAD_WITHOUT_VALUE = 9,  /* selector 5, 6, 8, 9 with n = 0 */
     CESR_PREPAD = 10,             /* tag prepad not _ */
-    CESR_TOO_DEEP = 11,           /* group standing within 16 groups already */
+    CESR_TOO_DEEP = 11,           /* group standing within 64 groups already */
     CESR_UNFIT_LENGTH = 12,       /* writer: raw length or tag length unfit for the code */
     CESR_UNFIT_STATE = 13,        /* walk state unfit for the stream */
     CESR_NOT_A_PRIMITIVE = 14,    /* primitive asked for, group or genus/version found */
@@ -87,7 +87,7 @@ uint8_t cesr_write_binary(uint8_t chars, uint8_t letter, const uint8_t tag[11], 
                           uint8_t *out, size_t out_len, size_t *answer);
 
 /* At most so many groups are open. */
-#define CESR_MAX_DEPTH 16
+#define CESR_MAX_DEPTH 64
 
 /* The walk's state, CESR_STATE numbers: the ends of the open groups, outermost first, unused slots 0; the number open; the position;
  * whether the next item is first in an overrideable group (0 or 1; any other value is 13). Ends and position count units, in T and in

@@ -218,9 +218,11 @@ static void no_step(const char *text, const size_t *before, uint8_t number, size
 static void walking(void) {
     size_t state[CESR_STATE] = {0};
     step("-AABMAABMAAB", state, 0, 8, 0, 7, 'A');
-    check(state[0] == 2 && state[16] == 1 && state[17] == 1 && state[18] == 1, "one open, the mark set", "-AAB");
+    check(state[0] == 2 && state[CESR_STATE_OPEN] == 1, "one open", "-AAB");
+    check(state[CESR_STATE_POSITION] == 1 && state[CESR_STATE_FIRST] == 1, "in it, the mark set", "-AAB");
     step("-AABMAABMAAB", state, 4, 4, 1, 1, 'M');
-    check(all(state, 17, 0) && state[17] == 2 && state[18] == 0, "closed again", "-AAB");
+    check(all(state, CESR_STATE_POSITION, 0) && state[CESR_STATE_POSITION] == 2, "closed again", "-AAB");
+    check(state[CESR_STATE_FIRST] == 0, "the mark cleared", "-AAB");
     step("-AABMAABMAAB", state, 8, 4, 0, 1, 'M');
     no_step("-AABMAABMAAB", state, CESR_END, 0);
     memset(state, 0, sizeof state);
@@ -228,16 +230,44 @@ static void walking(void) {
     step("-AAC-_AAABAA", state, 0, 12, 0, 7, 'A');
     no_step("-AAC-_AAABAA", state, 7, 4);
     memset(state, 0, sizeof state);
-    state[18] = 1;
+    state[CESR_STATE_FIRST] = 1;
     no_step("MAAB", state, 13, 0);
-    state[18] = 2;
+    state[CESR_STATE_FIRST] = 2;
     no_step("MAAB", state, 13, 0);
-    state[18] = 0;
-    state[16] = 17;
+    state[CESR_STATE_FIRST] = 0;
+    state[CESR_STATE_OPEN] = CESR_MAX_DEPTH + 1;
     no_step("MAAB", state, 13, 0);
-    state[16] = 0;
-    state[17] = 2;
+    state[CESR_STATE_OPEN] = 0;
+    state[CESR_STATE_POSITION] = 2;
     no_step("MAAB", state, 13, 0);
+}
+
+/* So many `-J` groups, each holding the next one alone. */
+static void nest(char *text, size_t groups) {
+    static const char digits[] = "ABCDEFGHIJKLMNOPQRSTUVWXYZabcdefghijklmnopqrstuvwxyz0123456789-_";
+    for (size_t inner = groups; inner-- > 0; text += 4) {
+        const char header[4] = {'-', 'J', digits[inner / 64], digits[inner % 64]};
+        memcpy(text, header, 4);
+    }
+    *text = 0;
+}
+
+/* 64 groups are walked into, a 65th is 11; and so in the report. */
+static void depths(void) {
+    char text[4 * (CESR_MAX_DEPTH + 1) + 1];
+    size_t state[CESR_STATE] = {0};
+    nest(text, CESR_MAX_DEPTH + 1);
+    for (size_t depth = 0; depth < CESR_MAX_DEPTH; depth++)
+        step(text, state, 4 * depth, strlen(text) - 4 * depth, depth, 7, 'J');
+    check(state[CESR_STATE_OPEN] == CESR_MAX_DEPTH, "all slots in use", text);
+    no_step(text, state, CESR_TOO_DEEP, 4 * CESR_MAX_DEPTH);
+    uint8_t out[44];
+    size_t answer = 99;
+    check(cesr_report_text(bytes(text), strlen(text), out, 44, &answer) == 0 && answer == 30, "one refusal", text);
+    check(out[12] == CESR_TOO_DEEP, "11", text);
+    nest(text, CESR_MAX_DEPTH);
+    check(cesr_report_text(bytes(text), strlen(text), out, 44, &answer) == 0 && answer == 21, "no refusal", text);
+    check(out[12] == 0, "accepted", text);
 }
 
 static void binary_walk(void) {
@@ -257,6 +287,7 @@ int main(void) {
     writing();
     walking();
     binary_walk();
+    depths();
     printf("%d checks, %d failed\n", checks, failures);
     return failures != 0;
 }

@@ -31,7 +31,6 @@ use Rattle.format.specs.declared.Opening.the-variants.{Unknown}
 use Rattle.format.specs.declared.Framed.the-variants.{Item, Unframed}
 use Rattle.format.specs.Registry.{opening, headerUnits, extent}
 use Rattle.format.specs.Framing.{digits4, sextet, frame}
-use Rattle.format.specs.Judging.{maxDepth}
 use Rattle.format.specs.Values.{rawStart, rawOf}
 use Rattle.damage.specs.Words.{row, itemAt, headOf, Alike, accepted, withIndex, Damaged, ByItself, Partition}
 use Rattle.claims.specs.Order.{None, Refusal}
@@ -184,9 +183,11 @@ pub record LookupClaims (table : List ℕ) : Type 0 where
 -- ---- 02's request g, of the limit of nesting
 
 pub record DeeperClaims (d : Domain) : Type 0 where
-  -- the limit is one number, of "every report"
-  pub one-limit : (xs : List ℕ) → report d xs ≡ reportTo maxDepth d xs
-  -- "Streams whose report held no 11 keep it byte for byte.": whatever the limit was, and whatever it is raised to
+  -- "Raise the limit from 16 to 64 in .. every report"
+  pub sixty-four-deep : (xs : List ℕ) → report d xs ≡ reportTo 64 d xs
+  -- "Streams whose report held no 11 keep it byte for byte.": what it was under 16
+  pub from-sixteen : (xs : List ℕ) → NoEleven (refusalsTo 16 d xs) → report d xs ≡ reportTo 16 d xs
+  -- the same for any limit, and any that it is raised to
   pub kept : (l m : ℕ) → l ≤ m → (xs : List ℕ) → NoEleven (refusalsTo l d xs) → reportTo m d xs ≡ reportTo l d xs
 
 -- ---- all of it

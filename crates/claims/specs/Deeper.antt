@@ -114,4 +114,8 @@ module _ (d : Domain) (l m : ℕ) (le : l ≤ m) where
 
 pub deeper-claims : (d : Domain) → DeeperClaims d
 unfolding report reportTo judgeIn judgeTo
-deeper-claims d = record { one-limit = λ xs. refl; kept = λ l m le xs h. report-kept d l m (omega arith) xs h }
+deeper-claims d = record {
+  sixty-four-deep = λ xs. refl;
+  from-sixteen = λ xs h. report-kept d 16 64 (omega arith) xs h;
+  kept = λ l m le xs h. report-kept d l m (omega arith) xs h;
+}

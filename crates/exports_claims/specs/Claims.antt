@@ -68,7 +68,7 @@ pub record KeepClaims : Type 0 where
 -- ---- the walk over a state that C lends
 
 pub record LentClaims : Type 0 where
-  -- a C caller's start: nineteen zeros
+  -- a C caller's start: zeros alone
   pub zeros : walkOf (replicate stateSize 0) ≡ start
   -- a state that a call wrote is read back as it was by the next
   pub back : (w : Walk) → length (w .ends) ≡ maxDepth → walkOf (stateOf w) ≡ w

@@ -71,8 +71,9 @@ deck =
     example (45 ∷ 65 ∷ 65 ∷ 67 ∷ 77 ∷ 65 ∷ 65 ∷ 66 ∷ []) (unframed 4 0) ∷  -- `-AACMAAB` remainder 4 at 0*
     example (45 ∷ 65 ∷ 65 ∷ 67 ∷ 45 ∷ 95 ∷ 65 ∷ 65 ∷ 65 ∷ 66 ∷ 65 ∷ 65 ∷ []) (refused 7 4) ∷  -- `-AAC-_AAABAA` 7 at 4*
     example (45 ∷ 74 ∷ 65 ∷ 67 ∷ 45 ∷ 95 ∷ 65 ∷ 65 ∷ 65 ∷ 66 ∷ 65 ∷ 65 ∷ []) accepted ∷  -- `-JAC-_AAABAA` accepted*
-    example (around 16 []) accepted ∷  -- sixteen nested groups accepted
-    example (around 17 []) (refused 11 64) ∷  -- seventeen 11
+    example (around 40 []) accepted ∷  -- 02 g: "nests 40 groups"
+    example (around 64 []) accepted ∷  -- "64 accepted,
+    example (around 65 []) (refused 11 256) ∷  -- 65 refused 11"
     example (45 ∷ 45 ∷ 65 ∷ 65 ∷ 65 ∷ 66 ∷ 65 ∷ 65 ∷ []) (unframed 4 0) ∷  -- `--AAABAA` heads a large group of 4,096 units
     -- `E8wYuBjhslETYaLZcxMkWrhVbMcA8RS1pKYl7nJ77ntA` is refused 8
     example
@@ -155,9 +156,9 @@ pub deck-holds : Holds text (λ s. s) deck × Holds binary toBinary deck
 unfolding given deck
 deck-holds = (
   refl & refl & refl & refl & refl & refl & refl & refl & refl & refl & refl & refl & refl & refl & refl & refl & refl &
-      refl & refl & refl & refl & refl & refl & refl & refl & refl & end,
+      refl & refl & refl & refl & refl & refl & refl & refl & refl & refl & end,
   refl & refl & refl & refl & refl & refl & refl & refl & refl & refl & refl & refl & refl & refl & refl & refl & refl &
-      refl & refl & refl & refl & refl & refl & refl & refl & refl & end,
+      refl & refl & refl & refl & refl & refl & refl & refl & refl & refl & end,
 )
 
 -- the order, in text: some of its characters are outside the alphabet

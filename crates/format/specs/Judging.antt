@@ -112,6 +112,6 @@ group (suc l) letter h ys =
 unfoldable pub judge : ℕ → List ℕ → Verdict
 judge l s = judgeBy (frame s) s (group l)
 
--- 11: "group standing within 16 groups already"
+-- 11: 01's "group standing within 16 groups already", with 02 g: "Raise the limit from 16 to 64"
 abbrev pub maxDepth : ℕ
-maxDepth = 16
+maxDepth = 64

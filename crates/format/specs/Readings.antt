@@ -73,10 +73,10 @@ readings =
     example (45 ∷ 45 ∷ 65 ∷ 65 ∷ 65 ∷ 65 ∷ 65 ∷ 66 ∷ 77 ∷ 65 ∷ 65 ∷ 66 ∷ []) accepted ∷  -- `--AAAAABMAAB`: a large group of one unit
     example (45 ∷ 45 ∷ 65 ∷ 66 ∷ 65 ∷ 65 ∷ 65 ∷ 65 ∷ []) (unframed 4 0) ∷  -- `--ABAAAA`: the first of five digits counts
     example (45 ∷ 45 ∷ 99 ∷ 95 ∷ 95 ∷ 95 ∷ 95 ∷ 95 ∷ []) (unframed 4 0) ∷  -- `--c_____`: an extent above 2 to the 32
-    example (around 16 (45 ∷ 75 ∷ 65 ∷ 65 ∷ [])) (refused 11 64) ∷  -- a seventeenth that is opaque: 11
-    example (around 16 (45 ∷ 75 ∷ 65 ∷ 66 ∷ 77 ∷ 65 ∷ 65 ∷ 66 ∷ [])) (refused 11 64) ∷  -- and not empty
-    example (around 16 (77 ∷ 65 ∷ 65 ∷ 66 ∷ [])) accepted ∷  -- a primitive within sixteen
-    example (around 16 (45 ∷ 65 ∷ 65 ∷ 66 ∷ [])) (refused 4 64) ∷  -- its framing comes first
+    example (around 64 (45 ∷ 75 ∷ 65 ∷ 65 ∷ [])) (refused 11 256) ∷  -- a sixty-fifth that is opaque: 11
+    example (around 64 (45 ∷ 75 ∷ 65 ∷ 66 ∷ 77 ∷ 65 ∷ 65 ∷ 66 ∷ [])) (refused 11 256) ∷  -- and not empty
+    example (around 64 (77 ∷ 65 ∷ 65 ∷ 66 ∷ [])) accepted ∷  -- a primitive within 64
+    example (around 64 (45 ∷ 65 ∷ 65 ∷ 66 ∷ [])) (refused 4 256) ∷  -- its framing comes first
     []
 
 -- in text and in binary
@@ -103,7 +103,7 @@ stranger =
     example (48 ∷ 76 ∷ 65 ∷ 65 ∷ 66 ∷ 33 ∷ 68 ∷ 69 ∷ []) (refused 5 5) ∷  -- `0LAAB!DE`: 5, then 10
     example (56 ∷ 65 ∷ 65 ∷ 66 ∷ 65 ∷ 65 ∷ 65 ∷ 66 ∷ 65 ∷ 33 ∷ 104 ∷ 112 ∷ []) (refused 5 9) ∷  -- `8AABAAABA!hp`: behind a header of two units
     example (45 ∷ 45 ∷ 75 ∷ 65 ∷ 65 ∷ 65 ∷ 65 ∷ 66 ∷ 33 ∷ 65 ∷ 65 ∷ 65 ∷ []) (refused 5 8) ∷  -- `--KAAAAB!AAA`: and in a large opaque group
-    example (around 16 (45 ∷ 75 ∷ 65 ∷ 66 ∷ 77 ∷ 33 ∷ 65 ∷ 66 ∷ [])) (refused 11 64) ∷  -- a seventeenth group that is opaque: 11, then 5
+    example (around 64 (45 ∷ 75 ∷ 65 ∷ 66 ∷ 77 ∷ 33 ∷ 65 ∷ 66 ∷ [])) (refused 11 256) ∷  -- a sixty-fifth group that is opaque: 11, then 5
     []
 
 pub stranger-holds : Holds text (λ s. s) stranger

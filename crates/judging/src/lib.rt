@@ -14,8 +14,8 @@ ghost use Rattle.format.specs.Judging.{andThen, behind, hasLead, zeroBits, prep
 ghost use Rattle.framing.specs.Heads.{unitOf, headOf};
 ghost use Rattle.judging.specs.Own.{fixedChecks, variableChecks, groupOwn, ownBy, toldBy};
 
-// How many groups may be open, one in the other: 01's sixteen.
-pub const MAX_DEPTH: usize = 16;
+// How many groups may be open, one in the other: 64 by 02 g.
+pub const MAX_DEPTH: usize = 64;
 
 fn wide(x: u8) -> u32
     ensures { λ r. ⌜ (r ≡ x) × (r < 256) ⌝ }

@@ -23,9 +23,9 @@ use Rattle.walk_claims.specs.Words.{foundOf, firstRefusal, Last, SameSte
 -- ---- of the test on a state
 
 pub record ThirteenClaims : Type 0 where
-  -- "13 is given exactly when: more than 16 open, an unused slot not 0, the position not before the innermost end, or past the
-  -- stream, an inner end past its outer, the outermost past the stream, or the first-item mark set with none open": the test of
-  -- a stream of n units passes exactly where none of these holds
+  -- "13 is given exactly when: more than 16 open" (64 by 02 g: "the conditions of 13 follow the new size"), "an unused slot not 0, the
+  -- position not before the innermost end, or past the stream, an inner end past its outer, the outermost past the stream, or the
+  -- first-item mark set with none open": the test of a stream of n units passes exactly where none of these holds
   pub only-fit : (w : Walk) (n : ℕ) → isFit w n ≡ true → Fit w n
   pub every-fit : (w : Walk) (n : ℕ) → Fit w n → isFit w n ≡ true
 

@@ -19,9 +19,9 @@ use Rattle.walk_state.specs.Walking.{stepFit, step, foundIn, stepIn}
 infixr 5 _&_
 -- ---- a step and what is expected of it
 
--- sixteen slots: the ends that are given, then zeros
+-- 64 slots: the ends that are given, then zeros
 abbrev pub state : List ℕ → ℕ → ℕ → Bool → Walk
-state ends depth at first = record { ends = ends ++ replicate (16 - length ends) 0; depth = depth; at = at; first = first }
+state ends depth at first = record { ends = ends ++ replicate (64 - length ends) 0; depth = depth; at = at; first = first }
 
 pub data Expected : Type 0 where
   yields : ℕ → ℕ → ℕ → Kind → ℕ → Walk → Expected  -- offset, size, depth, kind, header's units, the next state
@@ -60,13 +60,13 @@ steps =
     asked text (45 ∷ 65 ∷ 65 ∷ 66 ∷ 77 ∷ 81 ∷ 65 ∷ 65 ∷ []) start (yields 0 8 0 (Group 0) 1 (state (2 ∷ []) 1 1 true)) ∷  -- `-AABMQAA`: of a group only 11 and, if opaque, 5 is judged
     asked text (45 ∷ 65 ∷ 65 ∷ 66 ∷ 77 ∷ 81 ∷ 65 ∷ 65 ∷ []) (state (2 ∷ []) 1 1 true) (refuses 8 4) ∷  -- then 8, with the place in the stream
     asked text (45 ∷ 75 ∷ 65 ∷ 66 ∷ 77 ∷ 33 ∷ 65 ∷ 66 ∷ []) start (refuses 5 5) ∷  -- `-KABM!AB`: opaque, 5
-    asked text (45 ∷ 75 ∷ 65 ∷ 66 ∷ 77 ∷ 33 ∷ 65 ∷ 66 ∷ []) (state (2 ∷ 2 ∷ 2 ∷ 2 ∷ 2 ∷ 2 ∷ 2 ∷ 2 ∷ 2 ∷ 2 ∷ 2 ∷ 2 ∷ 2 ∷ 2 ∷ 2 ∷ []) 15 0 false) (refuses 5 5) ∷  -- within fifteen groups
-    asked text (45 ∷ 75 ∷ 65 ∷ 66 ∷ 77 ∷ 33 ∷ 65 ∷ 66 ∷ []) (state (2 ∷ 2 ∷ 2 ∷ 2 ∷ 2 ∷ 2 ∷ 2 ∷ 2 ∷ 2 ∷ 2 ∷ 2 ∷ 2 ∷ 2 ∷ 2 ∷ 2 ∷ 2 ∷ []) 16 0 false) (refuses 11 0) ∷  -- within sixteen: 11, then 5
-    asked text (45 ∷ 75 ∷ 65 ∷ 66 ∷ 77 ∷ 65 ∷ 65 ∷ 66 ∷ []) (state (1 ∷ 1 ∷ 1 ∷ 1 ∷ 1 ∷ 1 ∷ 1 ∷ 1 ∷ 1 ∷ 1 ∷ 1 ∷ 1 ∷ 1 ∷ 1 ∷ 1 ∷ 1 ∷ []) 16 0 false) (refuses 4 0) ∷  -- 4, which is framing, then 11
+    asked text (45 ∷ 75 ∷ 65 ∷ 66 ∷ 77 ∷ 33 ∷ 65 ∷ 66 ∷ []) (state (replicate 63 2) 63 0 false) (refuses 5 5) ∷  -- within 63 groups
+    asked text (45 ∷ 75 ∷ 65 ∷ 66 ∷ 77 ∷ 33 ∷ 65 ∷ 66 ∷ []) (state (replicate 64 2) 64 0 false) (refuses 11 0) ∷  -- within 64: 11, then 5
+    asked text (45 ∷ 75 ∷ 65 ∷ 66 ∷ 77 ∷ 65 ∷ 65 ∷ 66 ∷ []) (state (replicate 64 1) 64 0 false) (refuses 4 0) ∷  -- 4, which is framing, then 11
     asked text (77 ∷ 65 ∷ 65 ∷ 66 ∷ 77 ∷ 65 ∷ []) (state [] 0 1 false) (refuses 4 4) ∷  -- `MAABMA`: a unit that is not whole
     asked text (77 ∷ 65 ∷ 65 ∷ 66 ∷ 48 ∷ 72 ∷ 69 ∷ 65 ∷ 65 ∷ 33 ∷ 65 ∷ 65 ∷ []) (state [] 0 1 false) (refuses 5 9) ∷  -- 5 behind the header, then 8
     asked text (77 ∷ 65 ∷ 65 ∷ 66 ∷ []) (state (1 ∷ []) 1 0 false) (yields 0 4 1 (Fixed (oneLetter 12 4 0 0)) 1 (state [] 0 1 false)) ∷
-    asked text (77 ∷ 65 ∷ 65 ∷ 66 ∷ 77 ∷ 65 ∷ 65 ∷ 66 ∷ []) (state (2 ∷ 2 ∷ 2 ∷ 2 ∷ 2 ∷ 2 ∷ 2 ∷ 2 ∷ 2 ∷ 2 ∷ 2 ∷ 2 ∷ 2 ∷ 2 ∷ 2 ∷ 2 ∷ []) 17 0 false) (refuses 13 0) ∷  -- 13: more than 16 open
+    asked text (77 ∷ 65 ∷ 65 ∷ 66 ∷ 77 ∷ 65 ∷ 65 ∷ 66 ∷ []) (state (replicate 64 2) 65 0 false) (refuses 13 0) ∷  -- 13: more than 64 open
     asked text (77 ∷ 65 ∷ 65 ∷ 66 ∷ 77 ∷ 65 ∷ 65 ∷ 66 ∷ []) (state (2 ∷ 2 ∷ []) 1 0 false) (refuses 13 0) ∷  -- an unused slot not 0
     asked text (77 ∷ 65 ∷ 65 ∷ 66 ∷ 77 ∷ 65 ∷ 65 ∷ 66 ∷ []) (state (1 ∷ []) 1 1 false) (refuses 13 0) ∷  -- the position not before the innermost end
     asked text (77 ∷ 65 ∷ 65 ∷ 66 ∷ 77 ∷ 65 ∷ 65 ∷ 66 ∷ []) (state [] 0 3 false) (refuses 13 0) ∷  -- or past the stream

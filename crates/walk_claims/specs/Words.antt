@@ -35,7 +35,7 @@ use Rattle.walk_state.specs.Walking.{start, stopOf, stepIn}
 
 -- a state fit for a stream of n whole units: none of 01's conditions for 13
 pub record Fit (w : Walk) (n : ℕ) : Type 0 where
-  -- "more than 16 open"
+  -- "more than 16 open", 64 by 02 g
   pub few : w .depth ≤ maxDepth
   -- "an unused slot not 0"
   pub unused : (i : ℕ) → w .depth ≤ i → i < maxDepth → getD (w .ends) i 0 ≡ 0

@@ -25,7 +25,7 @@ pub record CountClaims (d : Domain) (xs : List ℕ) : Type 0 where
   -- an item takes a unit at least
   pub bound : restIn d xs start .items ≤ unitsIn d xs
 
--- ---- counted from any state of sixteen slots, whoever made it: the code's states have as many
+-- ---- counted from any state of as many slots as may be open, whoever made it: the code's states have as many
 
 pub record RestClaims (d : Domain) (xs : List ℕ) : Type 0 where
   -- no count stops at an item, so that what Counting's textEnd and binaryEnd have for one is never given

@@ -45,7 +45,7 @@ unfoldable pub slotFits : List ℕ → ℕ → ℕ → ℕ → Bool
 slotFits ends depth n k =
     pick (ltb k depth) (leb (getD ends k 0) (pick (eqb k 0) n (getD ends (k - 1) 0))) (eqb (getD ends k 0) 0)
 
--- no more than sixteen open; the position not past the stream; the slots; with none open no first-item mark, else the position
+-- no more than 64 open; the position not past the stream; the slots; with none open no first-item mark, else the position
 -- before the innermost end
 unfoldable pub isFit : Walk → ℕ → Bool
 isFit w n =

@@ -41,7 +41,7 @@ fn on_01s_deck_and_the_decisions() {
 #[test]
 fn on_nested_groups_of_every_letter() {
     for letter in GROUPS {
-        for depth in 0..19 {
+        for depth in (0..4).chain(15..19).chain(39..42).chain(60..70) {
             for core in ["", "MAAB", "-_AAABAA", "-_AAACAA", "-KAA", "-AAA", "MQAA"] {
                 let core = vec![Item::Primitive(core.into())];
                 assert_alike_in_both(&stream(&nested(&[*letter], depth, core)), "nested");

@@ -36,7 +36,7 @@ impl Number {
     pub const LEAD_WITHOUT_VALUE: Number = Number(9);
     /// Tag prepad not `_`.
     pub const PREPAD: Number = Number(10);
-    /// Group standing within 16 groups already.
+    /// Group standing within 64 groups already.
     pub const TOO_DEEP: Number = Number(11);
     /// Writer: raw length or tag length unfit for the code.
     pub const UNFIT_LENGTH: Number = Number(12);
@@ -81,7 +81,7 @@ impl Number {
             8 => "pad bit or lead byte not zero",
             9 => "selector 5, 6, 8, 9 with n = 0",
             10 => "tag prepad not `_`",
-            11 => "group standing within 16 groups already",
+            11 => "group standing within 64 groups already",
             12 => "writer: raw length or tag length unfit for the code",
             13 => "walk state unfit for the stream",
             14 => "primitive asked for, group or genus/version found",

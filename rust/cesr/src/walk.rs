@@ -3,15 +3,21 @@
 use crate::{read, Code, Form, Head, Number, Refusal};
 use proved::STATE;
 
-/// The walk's state between two steps: the ends of the open groups, sixteen at
+/// The walk's state between two steps: the ends of the open groups, 64 at
 /// most, outermost first, unused ones 0; the number open; the position; whether the
 /// next item is first in an overrideable group, 0 or 1. Ends and position
 /// count units, so the same stream has the same states in both forms.
 ///
 /// The default is the start of every stream. A state that is unfit for its
 /// stream is refused 13 by the next step.
-#[derive(Clone, Copy, Debug, Default, PartialEq, Eq, Hash)]
+#[derive(Clone, Copy, Debug, PartialEq, Eq, Hash)]
 pub struct State(proved::State);
+
+impl Default for State {
+    fn default() -> State {
+        State([0; STATE])
+    }
+}
 
 impl State {
     /// A state by its numbers.

@@ -12,6 +12,10 @@ use std::io::{self, Write};
 /// Bytes of a raw value on a line.
 const RAW: usize = 32;
 
+/// Levels of a group that are shown by blanks; below them an item's line says
+/// how deep it stands.
+const INDENTED: usize = 16;
+
 pub fn run(task: &Show, out: &mut dyn Write) -> io::Result<Standing> {
     let name = task.source.name();
     let input = match input::read(&task.source, task.form, &mut Progress::told()) {
@@ -105,7 +109,7 @@ fn inside(out: &mut dyn Write, input: &Input, step: &Step) -> io::Result<Result<
         writeln!(out, "version  {characters}")?;
     }
     for inner in Walk::new(input.form, item).skip(1).map_while(Result::ok) {
-        let indent = "  ".repeat(inner.depth.saturating_sub(1));
+        let indent = indented(inner.depth);
         let offset = step.offset.saturating_add(inner.offset);
         let size = measured(input.form, inner.size);
         let name = inner.head.name().unwrap_or_default();
@@ -123,6 +127,13 @@ fn inside(out: &mut dyn Write, input: &Input, step: &Step) -> io::Result<Result<
         writeln!(out, "inside   {said}")?;
     }
     Ok(by_itself(input, item, &report, step.offset))
+}
+
+fn indented(depth: usize) -> String {
+    match depth {
+        0..=INDENTED => "  ".repeat(depth.saturating_sub(1)),
+        _ => format!("{}{depth} deep: ", "  ".repeat(INDENTED)),
+    }
 }
 
 /// What the report of the item's own bytes says; places counted on from its

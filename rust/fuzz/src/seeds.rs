@@ -43,7 +43,7 @@ fn texts() -> Vec<Vec<u8>> {
     let mut texts: Vec<_> = papers.iter().map(|text| text.as_bytes().to_vec()).collect();
     let mut random = Random::new(1);
     texts.extend((0..CODES).map(|index| stream(&[one_code(&mut random, index)])));
-    for deep in [2, 15, 16, 17] {
+    for deep in [2, 16, 40, 63, 64, 65] {
         let core = vec![Item::Primitive(b"MAAB".to_vec())];
         texts.push(stream(&nested(b"AJ", deep, core)));
     }

@@ -10,8 +10,9 @@ use crate::frame::{frame, require_genus_version, Frame};
 use crate::refusal::{Refusal, LEAD_WITHOUT_VALUE, NOT_ZERO, PREPAD, TOO_DEEP};
 use crate::registry::Code;
 
-/// A group may stand within this many groups less one.
-pub const MOST_GROUPS: usize = 16;
+/// A group may stand within this many groups less one. 02 g: "Raise the limit
+/// from 16 to 64".
+pub const MOST_GROUPS: usize = 64;
 
 /// Judges a framed item that stands within `depth` groups. A genus/version
 /// has no judging of its own (D13).
@@ -206,31 +207,28 @@ mod tests {
         assert_eq!(text("-AAD-KAA-_AAABAA"), Ok(()));
     }
 
-    /// `groups` nested small `-J` groups, each holding the next.
-    fn nested(groups: usize) -> String {
-        let header = |inner: usize| format!("-JA{}", (b'A' + inner as u8) as char);
-        (0..groups).rev().map(header).collect()
+    /// `groups` nested small `-J` headers around `units` units that are still
+    /// to come.
+    fn nested(groups: u8, units: u8) -> String {
+        let digit = |value| crate::alphabet::character(value) as char;
+        let header = |inner: u8| format!("-J{}{}", digit(inner / 64), digit(inner % 64));
+        (units..units + groups).rev().map(header).collect()
     }
 
     #[test]
-    fn sixteen_groups_but_not_seventeen() {
-        assert_eq!(text(&nested(16)), Ok(()));
-        assert_eq!(text(&nested(17)), Err((11, 64)));
+    fn sixty_four_groups_but_not_sixty_five() {
+        assert_eq!(text(&nested(40, 0)), Ok(()));
+        assert_eq!(text(&nested(64, 0)), Ok(()));
+        assert_eq!(text(&nested(65, 0)), Err((11, 256)));
     }
 
     #[test]
     fn eleven_for_opaque_groups_too_but_behind_framing() {
-        // D20: the 17th group is an opaque one with a bad character, and
+        // D20: the 65th group is an opaque one with a bad character, and
         // then one that passes its group.
-        let opaque = format!("{}-KAB!!!!", deepened(2));
-        assert_eq!(text(&opaque), Err((11, 64)));
-        let passing = format!("{}-KAB", deepened(1));
-        assert_eq!(text(&passing), Err((4, 64)));
-    }
-
-    /// Sixteen nested `-J` headers around `units` units that are still to come.
-    fn deepened(units: u8) -> String {
-        let header = |inner: u8| format!("-JA{}", (b'A' + inner) as char);
-        (units..units + 16).rev().map(header).collect()
+        let opaque = format!("{}-KAB!!!!", nested(64, 2));
+        assert_eq!(text(&opaque), Err((11, 256)));
+        let passing = format!("{}-KAB", nested(64, 1));
+        assert_eq!(text(&passing), Err((4, 256)));
     }
 }

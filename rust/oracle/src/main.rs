@@ -20,7 +20,7 @@ usage, with FORM = text or binary; the stream comes from standard input:
   oracle walk FORM                    one line an item: OFFSET SIZE DEPTH CODE
   oracle step FORM OPEN POSITION FIRST [END ...]
                                       one step from a given state, FIRST 0 or 1,
-                                      up to 16 slots (the rest 0); two lines:
+                                      up to 64 slots (the rest 0); two lines:
                                       what is found (as in walk, or `end`), and
                                       the next state in the same order
 without a stream:
@@ -217,7 +217,7 @@ fn run_step(form: Form, words: &[&[u8]]) -> Answer {
     };
     let mut state = Walk::start();
     if ends.len() > state.ends.len() || *first > 1 {
-        return Err(Failure::Usage("at most 16 ends, and FIRST 0 or 1"));
+        return Err(Failure::Usage("at most 64 ends, and FIRST 0 or 1"));
     }
     state.ends[..ends.len()].copy_from_slice(ends);
     (state.open, state.position, state.first) = (*open, *position, *first == 1);

@@ -33,7 +33,7 @@ pub const NOT_ZERO: u8 = 8;
 pub const LEAD_WITHOUT_VALUE: u8 = 9;
 /// Tag prepad not `_`.
 pub const PREPAD: u8 = 10;
-/// Group standing within 16 groups already.
+/// Group standing within 64 groups already.
 pub const TOO_DEEP: u8 = 11;
 /// Writer: raw length or tag length unfit for the code.
 pub const UNFIT_LENGTH: u8 = 12;

@@ -7,7 +7,7 @@ use crate::refusal::{Refusal, UNFIT_STATE};
 use crate::registry::Code;
 
 /// The walk's state, a value. All numbers are in the stream's own measure.
-#[derive(Clone, Copy, Debug, Default, PartialEq, Eq)]
+#[derive(Clone, Copy, Debug, PartialEq, Eq)]
 pub struct Walk {
     /// Ends of the open groups, outermost first; unused slots are 0.
     pub ends: [usize; MOST_GROUPS],
@@ -56,7 +56,12 @@ pub fn step(state: Walk, stream: &[u8], form: Form) -> (Walk, Found) {
 impl Walk {
     /// The state at a stream's start.
     pub fn start() -> Walk {
-        Walk::default()
+        Walk {
+            ends: [0; MOST_GROUPS],
+            open: 0,
+            position: 0,
+            first: false,
+        }
     }
 
     /// The next item, framed and judged; nothing at the end.
@@ -244,10 +249,10 @@ mod tests {
     #[test]
     fn every_condition_of_thirteen() {
         let stream = "MAABMAABMAAB";
-        let mut many = state(&[12; 16], 0, false);
-        many.open = 17;
+        let mut many = state(&[12; 64], 0, false);
+        many.open = 65;
         let mut slot = state(&[12], 0, false);
-        slot.ends[15] = 1;
+        slot.ends[63] = 1;
         let unfit = [
             many,
             slot,
@@ -290,11 +295,11 @@ mod tests {
     }
 
     #[test]
-    fn sixteen_open_and_a_seventeenth_group() {
-        let deep = state(&[4; 16], 0, false);
+    fn sixty_four_open_and_one_more_group() {
+        let deep = state(&[4; 64], 0, false);
         let (behind, found) = after(deep, "MAAB");
         assert_eq!(behind, state(&[], 4, false));
-        assert!(matches!(found, Found::Item { depth: 16, .. }));
+        assert!(matches!(found, Found::Item { depth: 64, .. }));
         assert_eq!(refused(deep, "-AAA"), (11, 0));
         assert_eq!(refused(deep, "-KAA"), (11, 0));
         // D20: framing comes before 11.

@@ -4,7 +4,7 @@
 mod common;
 
 use common::papers::{DIGESTS_OF_001, NUMBER, POST_PADDED_OF_001, SAD_PATHS, SHORTS_OF_002};
-use common::{binary, bytes_of_report, hex, reads, rows, rows_of};
+use common::{binary, bytes_of_report, hex, nested, reads, rows, rows_of};
 use oracle::convert::to_binary;
 use oracle::form::Form;
 use oracle::primitive::{read_text, write, Named, Tag};
@@ -140,21 +140,17 @@ fn deck_raw_values_and_tags() {
     reads("0J_A", "0J", "A", "");
 }
 
-/// `groups` nested small groups of one letter, each holding just the next.
-fn nested(letter: char, groups: u8) -> String {
-    let header = |inner: u8| format!("-{letter}A{}", (b'A' + inner) as char);
-    (0..groups).rev().map(header).collect()
-}
-
+/// 02 g: "Cases become 64 accepted, 65 refused 11"; its format nests 40.
 #[test]
-fn deck_sixteen_nested_groups_accepted_seventeen_11() {
+fn deck_64_nested_groups_accepted_65_refused_11() {
     for letter in ['A', 'J', 'Z', 'a'] {
-        rows(&nested(letter, 16), &[(0, 64, 0)], &[], None);
-        rows(&nested(letter, 17), &[(0, 68, 11)], &[(0, 11, 64)], None);
-        let sixteen = binary(&nested(letter, 16));
-        rows_of(&sixteen, Form::Binary, &[(0, 48, 0)], &[], None);
-        let more = binary(&nested(letter, 17));
-        rows_of(&more, Form::Binary, &[(0, 51, 11)], &[(0, 11, 48)], None);
+        rows(&nested(letter, 40), &[(0, 160, 0)], &[], None);
+        rows(&nested(letter, 64), &[(0, 256, 0)], &[], None);
+        rows(&nested(letter, 65), &[(0, 260, 11)], &[(0, 11, 256)], None);
+        let accepted = binary(&nested(letter, 64));
+        rows_of(&accepted, Form::Binary, &[(0, 192, 0)], &[], None);
+        let more = binary(&nested(letter, 65));
+        rows_of(&more, Form::Binary, &[(0, 195, 11)], &[(0, 11, 192)], None);
     }
 }
 
@@ -584,12 +580,12 @@ fn walk_stops_where_the_report_goes_on() {
 }
 
 #[test]
-fn walk_into_sixteen_groups() {
-    let (items, last) = walked(&nested('A', 16));
-    assert_eq!((items.len(), items[15].2, last), (16, 15, Found::End));
-    let (items, last) = walked(&nested('A', 17));
-    let (number, place) = (11, 64);
-    assert_eq!((items.len(), last), (16, Found::Refused { number, place }));
+fn walk_into_64_groups() {
+    let (items, last) = walked(&nested('A', 64));
+    assert_eq!((items.len(), items[63].2, last), (64, 63, Found::End));
+    let (items, last) = walked(&nested('A', 65));
+    let (number, place) = (11, 256);
+    assert_eq!((items.len(), last), (64, Found::Refused { number, place }));
 }
 
 #[test]

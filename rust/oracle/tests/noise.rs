@@ -2,10 +2,11 @@
 
 mod common;
 
-use common::binary;
+use common::{around, binary, nested};
 use oracle::convert::{to_binary, to_text};
 use oracle::form::Form;
 use oracle::frame::frame_top_level;
+use oracle::judge::{judge, MOST_GROUPS};
 use oracle::primitive::{read_binary, read_text, write, Named, Primitive, Tag};
 use oracle::registry::{Code, FIXED, VARIABLE};
 use oracle::report::{report, write_report, Report};
@@ -50,10 +51,7 @@ impl Noise {
         let mut stream = String::new();
         for _ in 0..pieces {
             if self.below(40) == 0 {
-                // Fifteen to seventeen groups, each holding just the next.
-                let groups = 15 + self.below(3) as u8;
-                let header = |inner: u8| format!("-JA{}", (b'A' + inner) as char);
-                stream += &(0..groups).rev().map(header).collect::<String>();
+                stream += &nested('J', 63 + self.below(3));
             } else if self.below(3) == 0 {
                 let letter = b"ABCJKLZ"[self.below(7)] as char;
                 let count = (b'A' + self.below(7) as u8) as char;
@@ -217,6 +215,31 @@ fn the_noise_meets_every_number() {
     }
 }
 
+/// 02 g: "Streams whose report held no 11 keep it". Within so many groups that
+/// only 16 more may be open, an item that isn't 11 is judged as it is alone.
+#[test]
+fn what_is_not_11_under_a_lower_limit_is_the_same() {
+    let mut noise = Noise(0x0640_0016);
+    let (mut kept, mut deeper) = ([0; 2], 0);
+    for _ in 0..8000 {
+        let (groups, pieces) = (1 + noise.below(30), noise.below(4));
+        let stream = around('J', groups, &noise.likely(pieces));
+        let Ok(framed) = frame_top_level(stream.as_bytes(), Form::Text, 0) else {
+            continue;
+        };
+        let under = |around| judge(stream.as_bytes(), Form::Text, &framed, around);
+        match under(MOST_GROUPS - 16) {
+            Err(refusal) if refusal.number == 11 => deeper += 1,
+            verdict => {
+                assert_eq!(under(0), verdict, "{stream}");
+                kept[usize::from(verdict.is_err())] += 1;
+            }
+        }
+    }
+    let met = kept.into_iter().chain([deeper]).all(|times| times > 1000);
+    assert!(met, "{kept:?} {deeper}");
+}
+
 /// Text measures as binary ones: four characters are three bytes. Odd places
 /// are none of an item's, and 5, which has them, is not in binary.
 fn in_bytes(report: &Report) -> Report {
@@ -344,12 +367,12 @@ fn damage_behind_a_header_stays_in_its_item() {
 
 #[test]
 fn long_streams_take_linear_time() {
-    // The limit in the smallest items, and in sixteen groups around them.
+    // The limit in the smallest items, and in 64 groups around them.
     let flat = "1AAK".repeat(1 << 20);
     let found = report(flat.as_bytes(), Form::Text).unwrap();
     assert_eq!((found.items.len(), found.refusals.len()), (1 << 20, 0));
-    let mut stream = "1AAK".repeat((1 << 20) - 32);
-    for _ in 0..16 {
+    let mut stream = "1AAK".repeat((1 << 20) - 128);
+    for _ in 0..64 {
         let units = stream.len() / 4;
         let digits = [18, 12, 6, 0].map(|shift| {
             let value = (units >> shift) as u8 & 63;

@@ -109,7 +109,7 @@ fn writes() {
 fn walks_and_steps() {
     answered(&["walk", "text"], b"-AABMAAB", b"0 8 0 -A\n4 4 1 M\n");
     refused(&["walk", "text"], b"-AAB0AAAMAAB", "0 8 0 -A\n", "4 4");
-    let zeros = " 0".repeat(15);
+    let zeros = " 0".repeat(63);
     let inside = format!("0 8 0 -A\n1 4 1 8{zeros}\n");
     answered(
         &["step", "text", "0", "0", "0"],
@@ -119,7 +119,7 @@ fn walks_and_steps() {
     let end = format!("end\n0 4 0 0{zeros}\n");
     answered(&["step", "text", "0", "4", "0"], b"MAAB", end.as_bytes());
     refused(&["step", "text", "0", "0", "1"], b"MAAB", "", "13 0");
-    refused(&["step", "text", "17", "0", "0"], b"MAAB", "", "13 0");
+    refused(&["step", "text", "65", "0", "0"], b"MAAB", "", "13 0");
 }
 
 #[test]

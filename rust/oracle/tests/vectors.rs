@@ -5,6 +5,7 @@
 
 mod common;
 
+use common::nested;
 use common::papers::{DIGESTS_OF_001, NUMBER, POST_PADDED_OF_001, SAD_PATHS, SHORTS_OF_002};
 use oracle::convert;
 use oracle::judge::MOST_GROUPS;
@@ -346,16 +347,6 @@ const REPORTED: [u8; 39] = [
     0, 0, 4, 0, 0, 0, 0,
 ];
 
-/// Groups within groups, the innermost empty.
-fn nested(groups: usize, letter: char) -> Vec<u8> {
-    let digits = b"ABCDEFGHIJKLMNOPQ";
-    let headers = (0..groups).rev().flat_map(|inner| {
-        let digit = digits[inner] as char;
-        format!("-{letter}A{digit}").into_bytes()
-    });
-    headers.collect()
-}
-
 fn in_binary(text: &[u8]) -> Option<Vec<u8>> {
     let mut out = vec![0; text.len() / 4 * 3];
     convert::to_binary(text, &mut out).ok()?;
@@ -380,9 +371,9 @@ fn reports(records: &mut Vec<Record>) {
     for room in [54, 53, 52] {
         report_both(records, room, BROKEN);
     }
-    for groups in [15, 16, 17] {
+    for groups in [15, 16, 17, 40, 63, 64, 65] {
         for letter in ['A', 'J', 'c'] {
-            report_both(records, 36, &nested(groups, letter));
+            report_both(records, 36, nested(letter, groups).as_bytes());
         }
     }
     remainders(records);
@@ -583,7 +574,8 @@ fn examples(records: &mut Vec<Record>) {
     }
 }
 
-/// Every step over a text and its binary, to the end or a refusal.
+/// Every step over a text and its binary, to the end or a refusal; of more than
+/// twenty steps some.
 fn walk_both(records: &mut Vec<Record>, from: [u8; STATE], text: &[u8]) {
     let binary = in_binary(text);
     for (call, stream, unit) in [
@@ -593,14 +585,19 @@ fn walk_both(records: &mut Vec<Record>, from: [u8; STATE], text: &[u8]) {
         let Some(stream) = stream else { continue };
         let form = if unit == 4 { Form::Text } else { Form::Binary };
         let mut numbers = from.to_vec();
+        let mut steps = Vec::new();
         loop {
-            records.push(Record::new(call, 0, &[&numbers, stream].concat()));
+            steps.push(Record::new(call, 0, &[&numbers, stream].concat()));
             let (next, found) = step(state_of(&numbers, unit), stream, form);
             if !matches!(found, Found::Item { .. }) {
                 break;
             }
             numbers = numbers_of(&next, unit).iter().map(|n| *n as u8).collect();
         }
+        let all = steps.len();
+        let told = |at: usize| all <= 20 || at < 3 || at.is_multiple_of(16) || all <= at + 3;
+        let some = steps.into_iter().enumerate().filter(|(at, _)| told(*at));
+        records.extend(some.map(|(_, step)| step));
     }
 }
 
@@ -613,8 +610,8 @@ fn state(ends: &[u8], at: u8, first: u8) -> [u8; STATE] {
 }
 
 fn walks(records: &mut Vec<Record>) {
-    walk_both(records, [0; STATE], &nested(MOST_GROUPS, 'A'));
-    walk_both(records, [0; STATE], &nested(MOST_GROUPS + 1, 'J'));
+    walk_both(records, [0; STATE], nested('A', MOST_GROUPS).as_bytes());
+    walk_both(records, [0; STATE], nested('J', MOST_GROUPS + 1).as_bytes());
     for text in [
         &b""[..],
         b"-AAB-AAAMAAB",

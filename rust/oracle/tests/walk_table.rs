@@ -38,8 +38,13 @@ impl Term {
         }
     }
 
-    /// `1 ∷ 2 ∷ []`
+    /// `1 ∷ 2 ∷ []`, or `replicate 64 2`
     fn list(&self) -> Vec<usize> {
+        if let [Term::Word(name), times, value] = self.terms() {
+            if name == "replicate" {
+                return vec![value.number(); times.number()];
+            }
+        }
         let words = self.terms().iter().map(Term::word);
         words
             .filter(|w| !matches!(*w, "∷" | "[]"))

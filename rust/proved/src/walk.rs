@@ -3,7 +3,7 @@
 use crate::{declared, Refusal};
 
 /// At most so many groups are open.
-pub const MAX_DEPTH: usize = 16;
+pub const MAX_DEPTH: usize = 64;
 
 /// Where a state has the number open, the position and the first-item mark, and
 /// how many numbers it has.

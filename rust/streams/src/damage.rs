@@ -4,6 +4,7 @@
 #![allow(clippy::ptr_arg)]
 
 use crate::form::Form;
+use crate::generate::MOST_GROUPS;
 use crate::item::group_header;
 use crate::random::Random;
 use crate::table::{GROUPS, HEADS};
@@ -197,7 +198,7 @@ fn wrap(random: &mut Random, form: Form, stream: &mut Vec<u8>) {
         random.below(left + 2)
     };
     let times = if random.once_in(4) {
-        10 + random.below(9)
+        MOST_GROUPS - 6 + random.below(9)
     } else {
         1
     };

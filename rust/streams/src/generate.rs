@@ -8,7 +8,7 @@ use crate::table::{
 };
 
 /// Groups that may stand within each other.
-pub const MOST_GROUPS: usize = 16;
+pub const MOST_GROUPS: usize = 64;
 
 /// An accepted item of a fixed code with any value.
 pub fn fixed(random: &mut Random, (code, full, kind): Fixed) -> Item {
@@ -180,7 +180,8 @@ pub fn any_deck(random: &mut Random, most: usize) -> Vec<Item> {
     let mut items = Vec::new();
     for _ in 0..random.below(most + 1) {
         if random.once_in(12) {
-            let depth = random.below(MOST_GROUPS + 1);
+            let few = random.below(MOST_GROUPS / 3);
+            let depth = *random.pick(&[few, few, 40, MOST_GROUPS - 1, MOST_GROUPS]);
             let letter = *random.pick(b"ACDJZac");
             let core = vec![any_primitive(random)];
             items.extend(nested(&[letter, b'J'], depth, core));
@@ -189,6 +190,33 @@ pub fn any_deck(random: &mut Random, most: usize) -> Vec<Item> {
         }
     }
     items
+}
+
+/// Groups one in another, a few less or more than may stand so. Some have
+/// items beside the next group; the innermost holds what it may, or nothing.
+pub fn deep(random: &mut Random) -> Item {
+    let depth = MOST_GROUPS - 4 + random.below(11);
+    let mut body = match random.below(4) {
+        0 => Vec::new(),
+        1 => vec![group(random, b'K', false, Vec::new())],
+        _ => vec![any_primitive(random)],
+    };
+    for _ in 1..depth {
+        let inner = around(random, body);
+        body = vec![inner];
+        if random.once_in(20) {
+            body.insert(random.below(2), any_primitive(random));
+        }
+    }
+    around(random, body)
+}
+
+fn around(random: &mut Random, body: Vec<Item>) -> Item {
+    Item::Group {
+        letter: *random.pick(b"ABCDJZac"),
+        large: random.once_in(20),
+        body,
+    }
 }
 
 #[cfg(test)]
@@ -237,6 +265,21 @@ mod tests {
             assert_eq!(text.len(), row.1);
             assert!(text.starts_with(row.0.as_bytes()));
         }
+    }
+
+    #[test]
+    fn deep_ones_stand_on_both_sides_of_the_limit() {
+        fn depth(item: &Item) -> usize {
+            match item {
+                Item::Group { body, .. } => 1 + body.iter().map(depth).max().unwrap_or(0),
+                _ => 0,
+            }
+        }
+        let mut random = Random::new(5);
+        let mut seen: Vec<_> = (0..1000).map(|_| depth(&deep(&mut random))).collect();
+        seen.sort();
+        seen.dedup();
+        assert!(seen.iter().copied().eq(60..=70), "{seen:?}");
     }
 
     #[test]

@@ -15,6 +15,20 @@ pub fn hex(digits: &str) -> Vec<u8> {
     pairs.map(|pair| (pair[0] * 16 + pair[1]) as u8).collect()
 }
 
+/// `groups` nested small groups of one letter, each holding just the next.
+pub fn nested(letter: char, groups: usize) -> String {
+    around(letter, groups, "")
+}
+
+/// The same around `body`, which is whole units.
+pub fn around(letter: char, groups: usize, body: &str) -> String {
+    let digit = |value: usize| oracle::alphabet::character(value as u8) as char;
+    let header = |inner: usize| format!("-{letter}{}{}", digit(inner / 64), digit(inner % 64));
+    let units = body.len() / 4;
+    let headers = (units..units + groups).rev().map(header);
+    headers.collect::<String>() + body
+}
+
 /// The report's bytes, with just the room that is asked.
 pub fn bytes_of_report(stream: &[u8], form: Form) -> Vec<u8> {
     let room = report(stream, form).unwrap().room();

@@ -5,7 +5,7 @@ use std::panic::{catch_unwind, resume_unwind, AssertUnwindSafe};
 use std::sync::atomic::{AtomicU64, Ordering};
 use streams::damage::{cross, damage};
 use streams::form::FORMS;
-use streams::generate::{any_deck, every_code, one_code, CODES};
+use streams::generate::{any_deck, deep, every_code, one_code, CODES};
 use streams::item::stream;
 use streams::noise::noise;
 use streams::{Form, Random};
@@ -39,7 +39,8 @@ fn generated(random: &mut Random, form: Form, kind: u64) -> (Vec<u8>, bool) {
             let (one, other) = (deck(random, form), deck(random, form));
             cross(random, form, &one, &other)
         }
-        11 | 12 => noise(random, form, 200),
+        11 => noise(random, form, 200),
+        12 => form.of_text(&stream(&[deep(random)])),
         _ => neighbours(random, form),
     };
     let whole = matches!(kind, 0..=2 | 13);

@@ -8,11 +8,11 @@ use streams::generate::{any_deck, nested};
 use streams::item::{stream, Item};
 use streams::{papers, Form, Random};
 
-/// All of them, and groups up to twenty deep.
+/// All of them, and groups that are a few, 40 and up to 67 deep.
 fn texts() -> Vec<Vec<u8>> {
     let papers = [papers::DECK, papers::POINTS, papers::EXAMPLES].concat();
     let mut texts: Vec<_> = papers.iter().map(|text| text.as_bytes().to_vec()).collect();
-    for deep in 0..=20 {
+    for deep in (0..=10).chain([16, 17, 40]).chain(63..=67) {
         for letters in [&b"A"[..], b"J", b"AJCK", b"Z"] {
             texts.push(stream(&nested(letters, deep, number())));
         }
@@ -122,15 +122,15 @@ fn reports_of_01() {
     assert_eq!((&out[..39], &out[39..]), (&told[..], &[0xAA; 21][..]));
 }
 
-/// Sixteen nested groups accepted, seventeen 11.
+/// 02 g: 64 nested groups accepted, 65 refused 11; its format nests 40.
 #[test]
-fn depths_of_01() {
+fn depths_of_02_g() {
     for letter in b"AJZ" {
         let verdict = |deep| {
             let text = stream(&nested(&[*letter], deep, number()));
             demands::rows(&text, Form::Text).items[0][2]
         };
-        assert_eq!((verdict(16), verdict(17)), (0, 11));
+        assert_eq!([40, 64, 65].map(verdict), [0, 0, 11]);
     }
 }
 
