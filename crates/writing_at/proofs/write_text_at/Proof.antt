@@ -1,11 +1,11 @@
-use Rattle.writing.proofs.Cursors.{text-fits, text-behind, text-at-refused, text-at-written}
+use Rattle.writing_at.proofs.Cursors.{text-fits, text-behind, text-at-refused, text-at-written}
 use borrow.Author.Needs.{needs}
-use Rattle.writing.proofs.write_text_at.Statement.{statement}
-use Rattle.writing.proofs.write_text_at.Tie as tie
-use Rattle.writing.proofs.write_text_at.Reads as reads
-use Rattle.writing.proofs.write_text_at.Lts as lts
-use Rattle.writing.proofs.cursor_in.Reads as cursor-in-reads
+use Rattle.writing_at.proofs.write_text_at.Statement.{statement}
+use Rattle.writing_at.proofs.write_text_at.Tie as tie
+use Rattle.writing_at.proofs.write_text_at.Reads as reads
+use Rattle.writing_at.proofs.write_text_at.Lts as lts
+use Rattle.writing_at.proofs.cursor_in.Reads as cursor-in-reads
 use Rattle.writing.proofs.write_text.Reads as write-text-reads
 
 -- src/lib.rt:430:9
 cursor-in-requires : tie.Need-cursor-in-requires

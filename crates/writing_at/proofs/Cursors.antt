@@ -21,7 +21,7 @@ use Rattle.format.specs.Writing.{Writing}
 use Rattle.format.specs.Writing.{textOutcome, binaryOutcome, writeText, writeBinary, textItemLeft, binaryItemLeft}
 use Rattle.format.specs.Writing.Writing.{refused, written}
 use Rattle.judging.proofs.Laws.{to-end}
-use Rattle.writing.specs.Cursor.{textFrom, binaryFrom, writeTextAt, writeBinaryAt, textLeftAt, binaryLeftAt}
+use Rattle.writing_at.specs.Cursor.{textFrom, binaryFrom, writeTextAt, writeBinaryAt, textLeftAt, binaryLeftAt}
 use Rattle.writing_plan.proofs.Plans.{Held, held}
 
 -- ---- what is written is there, and within the room

@@ -1,11 +1,11 @@
-use Rattle.writing.proofs.Cursors.{binary-fits, binary-behind, binary-at-refused, binary-at-written}
+use Rattle.writing_at.proofs.Cursors.{binary-fits, binary-behind, binary-at-refused, binary-at-written}
 use borrow.Author.Needs.{needs}
-use Rattle.writing.proofs.write_binary_at.Statement.{statement}
-use Rattle.writing.proofs.write_binary_at.Tie as tie
-use Rattle.writing.proofs.write_binary_at.Reads as reads
-use Rattle.writing.proofs.write_binary_at.Lts as lts
-use Rattle.writing.proofs.cursor_in.Reads as cursor-in-reads
+use Rattle.writing_at.proofs.write_binary_at.Statement.{statement}
+use Rattle.writing_at.proofs.write_binary_at.Tie as tie
+use Rattle.writing_at.proofs.write_binary_at.Reads as reads
+use Rattle.writing_at.proofs.write_binary_at.Lts as lts
+use Rattle.writing_at.proofs.cursor_in.Reads as cursor-in-reads
 use Rattle.writing.proofs.write_binary.Reads as write-binary-reads
 
 -- src/lib.rt:416:9
 cursor-in-requires : tie.Need-cursor-in-requires
