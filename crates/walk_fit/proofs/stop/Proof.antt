@@ -6,12 +6,12 @@ use lib.ListN.{List·getD-eq-default}
 use lib.Seq.{length-take-le}
 use borrow.Author.Tests.{eq-eqb, ne-eqb}
 use Rattle.format.specs.Judging.{maxDepth}
 use Rattle.walk_state.specs.Walking.{stopOf}
 use Rattle.walk_state.specs.Lent.{slotsIn}
 use Rattle.walk_state.proofs.Lent.{slot-at}
 use borrow.Author.Needs.{needs}
-use Rattle.walk_state.proofs.stop.Statement.{statement}
-use Rattle.walk_state.proofs.stop.Tie as tie
+use Rattle.walk_fit.proofs.stop.Statement.{statement}
+use Rattle.walk_fit.proofs.stop.Tie as tie
 
 returns : tie.Need-returns
 unfolding stopOf

@@ -1,10 +1,10 @@
 -- `walk_state::is_fit` meets its contract. The tests of 13 in the order of isFit. Assumes nothing.
 use native.Mathlib.Omega.{arith}
 use borrow.Author.Tests.{not-true, not-false}
-use Rattle.walk_state.proofs.Lent.{fit-many, fit-past, fit-slots, fit-top, fit-inner}
+use Rattle.walk_fit.proofs.Laws.{fit-many, fit-past, fit-slots, fit-top, fit-inner}
 use borrow.Author.Needs.{needs}
-use Rattle.walk_state.proofs.is_fit.Statement.{statement}
-use Rattle.walk_state.proofs.is_fit.Tie as tie
+use Rattle.walk_fit.proofs.is_fit.Statement.{statement}
+use Rattle.walk_fit.proofs.is_fit.Tie as tie
 
 returns : tie.Need-returns
 returns c = λ l. absurd (omega arith)

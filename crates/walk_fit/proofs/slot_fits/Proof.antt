@@ -2,11 +2,11 @@
 use Prim.Native.Nat.{_-_}
 use native.Mathlib.Omega.{arith}
 use borrow.Author.Tests.{lt-ltb, le-ltb, eq-eqb, ne-eqb}
 use Rattle.walk_state.specs.Walking.{slotFits}
 use Rattle.walk_state.proofs.Lent.{slot-at}
 use borrow.Author.Needs.{needs}
-use Rattle.walk_state.proofs.slot_fits.Statement.{statement}
-use Rattle.walk_state.proofs.slot_fits.Tie as tie
+use Rattle.walk_fit.proofs.slot_fits.Statement.{statement}
+use Rattle.walk_fit.proofs.slot_fits.Tie as tie
 
 mul-end : tie.Need-mul-end
 mul-end c = search needs

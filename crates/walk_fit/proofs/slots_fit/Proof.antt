@@ -5,12 +5,12 @@ use Prim.Native.Nat.{_≤_, _-_}
 use native.Mathlib.Omega.{arith}
 use borrow.Author.Tests.{not-true, not-false}
 use Rattle.format.specs.Judging.{maxDepth}
 use Rattle.walk_state.specs.Walking.{allBelow, slotFits}
 use Rattle.walk_state.specs.Lent.{slotsIn}
-use Rattle.walk_state.proofs.Laws.{all-none, all-more, all-spoilt}
+use Rattle.walk_fit.proofs.Laws.{all-none, all-more, all-spoilt}
 use borrow.Author.Needs.{needs}
-use Rattle.walk_state.proofs.slots_fit.Statement.{statement}
-use Rattle.walk_state.proofs.slots_fit.Tie as tie
+use Rattle.walk_fit.proofs.slots_fit.Statement.{statement}
+use Rattle.walk_fit.proofs.slots_fit.Tie as tie
 
 abbrev Inv-loop : tie.InvT-loop
 Inv-loop slots depth n k₀ k = (k ≤ maxDepth) × (allBelow (slotFits (slotsIn slots) depth n) k ≡ true)
