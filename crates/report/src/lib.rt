@@ -185,7 +185,7 @@ fn report(form: Form, s: &[u8], out: &mut [u8]) -> Reported
     let known = report_first::known(form, s, 0, 0);
     report_by(
         form,
-        report_item::unit(form),
+        report_units::unit(form),
         &values,
         &classes,
         &rows,

@@ -27,9 +27,11 @@ use Rattle.laws.specs.Levels.{part, any-item, item-sizes, level, level-end, Tak
 use Rattle.runs.specs.Plain.{plainTable, plainAt, groupAt, letterAt, nested}
 use Rattle.runs.specs.Levels.{Clear, clear-less, plain-taken, plain-level, group-taken, Nested, nested-level}
 use Rattle.report_next.specs.Next.{isEntered, isRuled}
-use Rattle.report_item.specs.Items.{Inside, Fits, Finds, Takes}
+use Rattle.report_found.specs.Finds.{Inside, Fits, Finds}
+use Rattle.report_item.specs.Items.{Takes}
 use native.Mathlib.Nat.{pos-of-ne-zero}
-use Rattle.report_item.proofs.Laws.{wide, in-units, judged-good, Left, left-start, left-end, left-more, taken-found, taken-entered, inner-levels}
+use Rattle.report_found.proofs.Laws.{wide, in-units, inner-levels}
+use Rattle.report_item.proofs.Laws.{judged-good, Left, left-start, left-end, left-more, taken-found, taken-entered}
 use Rattle.report_first.specs.First.{Lent}
 use Rattle.report_fast.specs.Fast.{Reach, Ready, Good, Accepts, Take, Passes}
 

@@ -76,7 +76,7 @@ fn other(
     requires { ⌜ Reach form (now s) at stop × (at < stop) ⌝ }
     ensures { λ r. ⌜ Take form (now (values .entry)) (now (classes .entry)) (now (rows .entry)) (now (s .entry)) levels first at stop r ⌝ }
 {
-    match report_item::found(form, s, levels, first, at, stop) {
+    match report_found::found(form, s, levels, first, at, stop) {
         Framed::Unframed {
             number: _,
             place: _,
@@ -178,7 +178,7 @@ pub fn accepted(
 ) -> usize
     ensures { λ r. ⌜ (r ≤ length (now (s .entry)) / domain form .unit - at) × (length (now (s .entry)) ≤ domain form .limit → Lent (now (values .entry)) (now (classes .entry)) (now (rows .entry)) → Clear (domain form .sextets (now (s .entry))) at clean → Accepts (domain form) (now (s .entry)) at r) ⌝ }
 {
-    let end = report_first::least(clean, report_item::units(form, s.len()));
+    let end = report_first::least(clean, report_units::units(form, s.len()));
     if end <= at {
         return 0;
     }
@@ -199,7 +199,7 @@ pub fn group_accepted(
 ) -> bool
     ensures { λ r. ⌜ (length (now (s .entry)) ≤ domain form .limit → Lent (now (values .entry)) (now (classes .entry)) (now (rows .entry)) → Clear (domain form .sextets (now (s .entry))) at clean → groupAt (domain form .sextets (now (s .entry))) at ≡ size → r ≡ true → Good (domain form) (now (s .entry)) at size) ⌝ }
 {
-    let end = report_first::least(clean, report_item::units(form, s.len()));
+    let end = report_first::least(clean, report_units::units(form, s.len()));
     if end <= at {
         return false;
     }

@@ -53,7 +53,7 @@ pub fn group_size(
     if clean <= at {
         return 0;
     }
-    let all = report_item::units(form, s.len());
+    let all = report_units::units(form, s.len());
     if all <= at {
         return 0;
     }
@@ -92,7 +92,7 @@ pub fn size(
 ) -> usize
     ensures { λ r. ⌜ (r ≤ length (now (s .entry)) / domain form .unit - at) × (Lent (now (values .entry)) (now (classes .entry)) (now (rows .entry)) → Clear (domain form .sextets (now (s .entry))) at clean → r ≡ sizeAt (domain form) (now (s .entry)) at) ⌝ }
 {
-    let all = report_item::units(form, s.len());
+    let all = report_units::units(form, s.len());
     let m = told(form, values, classes, rows, s, clean, at);
     if 0 < m {
         if at < all {
@@ -177,7 +177,7 @@ fn run_units(form: Form, s: &[u8], whole: bool, at: usize, size: usize, end: usi
     requires { ⌜ Span form (now s) at size end ⌝ }
     ensures { λ r. ⌜ Run (likeIn form (now (s .entry)) whole at size) size end (at + size) r ⌝ }
 {
-    let u = report_item::unit(form);
+    let u = report_units::unit(form);
     run(form, s, whole, u * at, u * size, u * end)
 }
 
@@ -185,7 +185,7 @@ fn run_units(form: Form, s: &[u8], whole: bool, at: usize, size: usize, end: usi
 fn followers(form: Form, s: &[u8], whole: bool, clean: usize, at: usize, size: usize) -> usize
     ensures { λ r. ⌜ Followers form (now (s .entry)) whole clean at size r ⌝ }
 {
-    let end = report_first::least(clean, report_item::units(form, s.len()));
+    let end = report_first::least(clean, report_units::units(form, s.len()));
     if size == 0 {
         return 0;
     }
@@ -228,7 +228,7 @@ pub fn of_letter(
 ) -> usize
     ensures { λ r. ⌜ (r * size ≤ length (now (s .entry)) / domain form .unit - (at + size)) × (Lent (now (values .entry)) (now (classes .entry)) (now (rows .entry)) → Clear (domain form .sextets (now (s .entry))) at clean → 0 < size → Run (sizeAt (domain form) (now (s .entry))) size (length (now (s .entry)) / domain form .unit) (at + size) r) ⌝ }
 {
-    if report_item::units(form, s.len()) <= at {
+    if report_units::units(form, s.len()) <= at {
         return 0;
     }
     let a = letter(form, values, s, at);

@@ -25,8 +25,9 @@ use Rattle.laws.specs.Levels.{Taken}
 use Rattle.runs.specs.Plain.{plainTable, plainAt}
 use Rattle.runs.specs.Levels.{Clear, clear-less, plain-taken}
 use Rattle.runs.specs.Runs.{Run}
-use Rattle.report_item.specs.Items.{Inside, Judges}
-use Rattle.report_item.proofs.Laws.{wide}
+use Rattle.report_found.specs.Finds.{Inside}
+use Rattle.report_item.specs.Items.{Judges}
+use Rattle.report_found.proofs.Laws.{wide}
 use Rattle.report_first.specs.First.{Lent}
 use Rattle.report_fast.specs.Fast.{Good}
 use Rattle.report_fast.proofs.Laws.{taken-good}

@@ -202,12 +202,12 @@ pub fn put_turn(
     if n < k {
         return Turn::Rest { number: 0 };
     }
-    if report_item::units(form, s.len()) < a {
+    if report_units::units(form, s.len()) < a {
         return Turn::Rest { number: 0 };
     }
     put_here(
         form,
-        report_item::unit(form),
+        report_units::unit(form),
         values,
         classes,
         rows,

@@ -1,6 +1,6 @@
 use borrow.Author.Needs.{needs}
-use Rattle.report_item.proofs.units.Statement.{statement}
-use Rattle.report_item.proofs.units.Tie as tie
+use Rattle.report_units.proofs.units.Statement.{statement}
+use Rattle.report_units.proofs.units.Tie as tie
 
 enum-told : tie.Need-enum-told
 enum-told c = search needs

@@ -1,7 +1,7 @@
-use Rattle.report_item.proofs.Laws.{at-fits, stop-fits, text-end, binary-end, text-near, binary-near, text-found, binary-found}
+use Rattle.report_found.proofs.Laws.{at-fits, stop-fits, text-end, binary-end, text-near, binary-near, text-found, binary-found}
 use borrow.Author.Needs.{needs}
-use Rattle.report_item.proofs.next.Statement.{statement}
-use Rattle.report_item.proofs.next.Tie as tie
+use Rattle.report_found.proofs.next.Statement.{statement}
+use Rattle.report_found.proofs.next.Tie as tie
 
 enum-told : tie.Need-enum-told
 enum-told c = search needs

@@ -1,8 +1,8 @@
 use native.Mathlib.Omega.{arith}
-use Rattle.report_item.proofs.Laws.{moved-item, moved-on}
+use Rattle.report_found.proofs.Laws.{moved-item, moved-on}
 use borrow.Author.Needs.{needs}
-use Rattle.report_item.proofs.moved.Statement.{statement}
-use Rattle.report_item.proofs.moved.Tie as tie
+use Rattle.report_found.proofs.moved.Statement.{statement}
+use Rattle.report_found.proofs.moved.Tie as tie
 
 enum-told : tie.Need-enum-told
 enum-told c = search needs
