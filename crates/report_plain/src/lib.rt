@@ -87,7 +87,7 @@ fn put_within(
         return 0;
     }
     let from = u * (at + size);
-    report_rows::put_alike(form, values, s, x, limit, u * size, from, u * end, out, row)
+    report_alike::put_alike(form, values, s, x, limit, u * size, from, u * end, out, row)
 }
 
 // The rows, at a place of the buffer, of the plain primitives with the letter and size of the item at a unit that follow it and are

@@ -34,7 +34,7 @@ use Rattle.report_fast.proofs.Laws.{taken-good}
 use Rattle.report_sizes.specs.Sizes.{sizeOf, sizeAt}
 use Rattle.report_sizes.proofs.Laws.{size-fits}
 use Rattle.report_rows.specs.Stores.{put, put-fits, rowWith, runOf, concat-long, row-long, refusal-long}
-use Rattle.report_rows.specs.Alike.{in-elements}
+use Rattle.report_alike.specs.Alike.{in-elements}
 use Rattle.report_filling.specs.Filling.{refusal-few, turn, filled-room, filled-more, filled-good, filled-few, filled-run}
 use Rattle.report_turn.specs.declared.Turn.{Turn}
 use Rattle.report_turn.specs.declared.Turn.the-variants.{Stored, Rest}

@@ -1,10 +1,10 @@
 use borrow.Author.Needs.{needs}
-use Rattle.report_rows.specs.Alike.{alike-text, alike-binary, not-alike}
-use Rattle.report_rows.proofs.is_alike.Statement.{statement}
-use Rattle.report_rows.proofs.is_alike.Tie as tie
-use Rattle.report_rows.proofs.is_alike.Reads as reads
-use Rattle.report_rows.proofs.is_alike.Lts as lts
-use Rattle.report_rows.proofs.value.Reads as value-reads
+use Rattle.report_alike.specs.Alike.{alike-text, alike-binary, not-alike}
+use Rattle.report_alike.proofs.is_alike.Statement.{statement}
+use Rattle.report_alike.proofs.is_alike.Tie as tie
+use Rattle.report_alike.proofs.is_alike.Reads as reads
+use Rattle.report_alike.proofs.is_alike.Lts as lts
+use Rattle.report_alike.proofs.value.Reads as value-reads
 
 shared-slice-read-if1 : tie.Need-shared-slice-read-if1
 shared-slice-read-if1 c = search needs

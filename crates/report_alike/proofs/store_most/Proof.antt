@@ -1,8 +1,8 @@
 use native.Mathlib.Omega.{arith}
 use borrow.Author.Needs.{needs}
-use Rattle.report_rows.specs.Alike.{alike-less, small-product, roomy-most}
-use Rattle.report_rows.proofs.store_most.Statement.{statement}
-use Rattle.report_rows.proofs.store_most.Tie as tie
+use Rattle.report_alike.specs.Alike.{alike-less, small-product, roomy-most}
+use Rattle.report_alike.proofs.store_most.Statement.{statement}
+use Rattle.report_alike.proofs.store_most.Tie as tie
 
 sub-least : tie.Need-sub-least
 sub-least c = search needs

@@ -1,8 +1,8 @@
 use Rattle.report_rows.specs.Stores.{run-start}
-use Rattle.report_rows.specs.Alike.{alike-none}
+use Rattle.report_alike.specs.Alike.{alike-none}
 use borrow.Author.Needs.{needs}
-use Rattle.report_rows.proofs.put_alike.Statement.{statement}
-use Rattle.report_rows.proofs.put_alike.Tie as tie
+use Rattle.report_alike.proofs.put_alike.Statement.{statement}
+use Rattle.report_alike.proofs.put_alike.Tie as tie
 
 returns : tie.Need-returns
 returns c = (alike-none _ _ _ _ _ _ _ _, run-start _ _ _ _)

@@ -1,9 +1,9 @@
 use Prim.Native.Nat.{_-_}
 use native.Mathlib.Omega.{arith}
 use borrow.Author.Needs.{needs}
-use Rattle.report_rows.specs.Alike.{Stored, stored-start, stored-long, stored-room, stored-fits, stored-more, stored-left, left-long}
-use Rattle.report_rows.proofs.store_alike.Statement.{statement}
-use Rattle.report_rows.proofs.store_alike.Tie as tie
+use Rattle.report_alike.specs.Alike.{Stored, stored-start, stored-long, stored-room, stored-fits, stored-more, stored-left, left-long}
+use Rattle.report_alike.proofs.store_alike.Statement.{statement}
+use Rattle.report_alike.proofs.store_alike.Tie as tie
 
 abbrev Inv-loop : tie.InvT-loop
 Inv-loop form values s x limit size from end out₀ at p₀ r₀ out p r = Stored form values s x limit size from end out₀ at out p r

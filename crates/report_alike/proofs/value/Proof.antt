@@ -2,8 +2,8 @@ use Prim.Native.Nat.{ℕ}
 use mathlib.Core.Path.{ap, _∙_}
 use lib.ListN.{getD}
 use borrow.Author.Needs.{needs}
-use Rattle.report_rows.proofs.value.Statement.{statement}
-use Rattle.report_rows.proofs.value.Tie as tie
+use Rattle.report_alike.proofs.value.Statement.{statement}
+use Rattle.report_alike.proofs.value.Tie as tie
 
 shared-slice-read-wide : tie.Need-shared-slice-read-wide
 shared-slice-read-wide c = search needs
