@@ -97,7 +97,7 @@ fn put_group(
     requires { ⌜ Placed form u (now s) n a i k × (size ≤ length (now s) / domain form .unit - a) ⌝ }
     ensures { λ r. ⌜ (Lent (now (values .entry)) (now (classes .entry)) (now (rows .entry)) → Clear (domain form .sextets (now (s .entry))) a clean → groupAt (domain form .sextets (now (s .entry))) a ≡ size → Turned form u (now (s .entry)) n a i k (now (out .entry)) r (now (out .exit))) ⌝ }
 {
-    if report_fast::group_accepted(form, values, classes, rows, s, clean, a, size) {
+    if report_group::group_accepted(form, values, classes, rows, s, clean, a, size) {
         report_rows::put_row(out, 4 + 9 * i, u * a, u * size, 0);
         return Turn::Stored {
             units: size,

@@ -2,10 +2,10 @@ use Prim.Native.Nat.{ℕ}
 use mathlib.Core.Path.{_≡_}
 use native.Mathlib.Omega.{arith}
 use native.Mathlib.Nat.{pos-of-ne-zero}
-use Rattle.report_fast.proofs.Laws.{group-reach, group-good}
+use Rattle.report_group.proofs.Laws.{group-reach, group-good}
 use borrow.Author.Needs.{needs}
-use Rattle.report_fast.proofs.group_accepted.Statement.{statement}
-use Rattle.report_fast.proofs.group_accepted.Tie as tie
+use Rattle.report_group.proofs.group_accepted.Statement.{statement}
+use Rattle.report_group.proofs.group_accepted.Tie as tie
 
 units-requires : tie.Need-units-requires
 units-requires c κs = search needs
