@@ -26,9 +26,10 @@ use Rattle.report_first.specs.First.{Lent}
 use Rattle.report_rows.specs.Stores.{put, put-fits, row-long, be4-long}
 use Rattle.report_filling.specs.Filling.{reportOf, filled-start, filled-few, filled-counts, stop-rows, end-rows, stop-all, end-all}
 use Rattle.report_count.specs.Counts.{Total}
-use Rattle.report_turn.specs.declared.Turn.{Turn}
-use Rattle.report_turn.specs.declared.Turn.the-variants.{Stored, Rest}
-use Rattle.report_turn.specs.Turns.{Fill, Filling, After, Turned, Turns}
+use Rattle.report_general.specs.declared.Turn.{Turn}
+use Rattle.report_general.specs.declared.Turn.the-variants.{Stored, Rest}
+use Rattle.report_general.specs.Turns.{Fill, Filling, After, Turned}
+use Rattle.report_turn.specs.Turns.{Turns}
 use Rattle.report.specs.Turns.{Read, Counted, Begun, Ends, Ended, Fits, Last, Written, Answered}
 use Rattle.report.specs.declared.End.{End}
 use Rattle.report.specs.declared.End.the-variants.{Whole}

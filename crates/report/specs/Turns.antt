@@ -10,7 +10,7 @@ use Rattle.format.specs.Units.{domain}
 use Rattle.format.specs.Report.{rowsIn, be4, report, reportAnswer, reportLeft}
 use Rattle.runs.specs.Levels.{Clear}
 use Rattle.report_first.specs.First.{Lent}
-use Rattle.report_turn.specs.Turns.{Fill}
+use Rattle.report_general.specs.Turns.{Fill}
 use Rattle.report.specs.declared.End.{End}
 use Rattle.report.specs.declared.End.the-variants.{Whole, Rest}
 

@@ -4,7 +4,7 @@
 // is a unit in front of which, from the present one on, all characters are known.
 use format::Form;
 use format::Reported;
-use report_turn::Turn;
+use report_general::Turn;
 ghost use mathlib.Core.Path.{_≡_};
 ghost use mathlib.Core.List.{[], _∷_, _++_};
 ghost use Prim.Native.Nat.{_+_, _*_, _≤_};

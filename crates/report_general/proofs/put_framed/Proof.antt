@@ -1,7 +1,7 @@
-use Rattle.report_turn.proofs.Laws.{placed-fits, sized-fits, judged-turn}
+use Rattle.report_general.proofs.Laws.{placed-fits, sized-fits, judged-turn}
 use borrow.Author.Needs.{needs}
-use Rattle.report_turn.proofs.put_framed.Statement.{statement}
-use Rattle.report_turn.proofs.put_framed.Tie as tie
+use Rattle.report_general.proofs.put_framed.Statement.{statement}
+use Rattle.report_general.proofs.put_framed.Tie as tie
 
 verdict-requires : tie.Need-verdict-requires
 verdict-requires c κs = search needs

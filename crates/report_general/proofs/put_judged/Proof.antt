@@ -1,8 +1,8 @@
 use mathlib.Core.Path.{sym, _∙_}
-use Rattle.report_turn.proofs.Laws.{framed-size, rest-turn}
+use Rattle.report_general.proofs.Laws.{framed-size, rest-turn}
 use borrow.Author.Needs.{needs}
-use Rattle.report_turn.proofs.put_judged.Statement.{statement}
-use Rattle.report_turn.proofs.put_judged.Tie as tie
+use Rattle.report_general.proofs.put_judged.Statement.{statement}
+use Rattle.report_general.proofs.put_judged.Tie as tie
 
 framed-requires : tie.Need-framed-requires
 framed-requires c κs = search needs
