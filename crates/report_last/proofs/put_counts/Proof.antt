@@ -1,7 +1,7 @@
-use Rattle.report.proofs.Laws.{put-counts}
+use Rattle.report_last.proofs.Laws.{counts-put}
 use borrow.Author.Needs.{needs}
-use Rattle.report.proofs.finish.Statement.{statement}
-use Rattle.report.proofs.finish.Tie as tie
+use Rattle.report_last.proofs.put_counts.Statement.{statement}
+use Rattle.report_last.proofs.put_counts.Tie as tie
 
 mul-put-number : tie.Need-mul-put-number
 mul-put-number c = search needs
@@ -43,10 +43,10 @@ same-length : tie.Need-same-length
 same-length c = search needs
 
 returns : tie.Need-returns
-returns c = search put-counts
+returns c = search counts-put
 
-pub finish-spec : {M : Type 1} → statement M
-finish-spec =
+pub put-counts-spec : {M : Type 1} → statement M
+put-counts-spec =
     tie.close
     (tie.spec
     mul-put-number
