@@ -15,7 +15,7 @@ use Rattle.base.specs.Cases.{lt-or-ge}
 use Rattle.format.specs.declared.Form.{Form}
 use Rattle.format.specs.declared.Form.the-variants.{Text, Binary}
 use Rattle.format.specs.Report.{be4, rowBytes, concat}
-use Rattle.report_rows.specs.Stores.{put, put-fits, runOf, run-start, run-more, next-place}
+use Rattle.report_rows.specs.Stores.{put, put-fits, sets-append, runOf, run-start, run-more, next-place}
 
 -- by the first element, and in a text by the value of the second
 unfoldable pub isAlike : Form → List ℕ → List ℕ → ℕ → ℕ → ℕ → Bool
@@ -92,11 +92,14 @@ next-fits from size end at room r p R s e h = ⊎-elim (λ l. omega (arith, R .f
     past : R .most ≤ r → ⊥
     past g = omega (arith, R .all, mul-le-mul-right size g)
 
--- a row that has room is stored
-pub row-stored : (out : List ℕ) (at p size : ℕ) {after : List ℕ} → at + 9 ≤ length out → after ≡ put out at (be4 p ++ (be4 size ++ (0 ∷ [])))
-    → after ≡ sets out at (be4 p ++ (be4 size ++ (0 ∷ [])))
+-- a row that has room is stored, first its offset
+pub row-stored : (out : List ℕ) (at o n : ℕ) {one two : List ℕ} → at + 9 ≤ length out → one ≡ put out at (be4 o)
+    → two ≡ put one (at + 4) (be4 n ++ (0 ∷ [])) → two ≡ sets out at (be4 o ++ (be4 n ++ (0 ∷ [])))
 unfolding be4
-row-stored out at p size h e = e ∙ put-fits out at _ h
+row-stored out at o n h e f =
+    let x = e ∙ put-fits out at (be4 o) (omega arith) in
+    let l : length (sets out at (be4 o)) ≡ length out = length-sets out at (be4 o) in
+    f ∙ rw x (put-fits (sets out at (be4 o)) (at + 4) (be4 n ++ (0 ∷ [])) (omega arith)) ∙ sets-append out at (be4 o) (be4 n ++ (0 ∷ []))
 
 -- ---- the loop that stores their rows
 

@@ -2,6 +2,7 @@
 // as far as there is room. Positions count elements, which spares a multiplication a turn.
 use format::Form;
 ghost use mathlib.Core.Path.{_≡_};
+ghost use mathlib.Core.Bool.{true};
 ghost use mathlib.Core.List.{[], _∷_, _++_};
 ghost use Prim.Native.Nat.{_+_, _*_, _≤_, _<_};
 ghost use Rattle.base.specs.Pick.{pick};
@@ -39,6 +40,16 @@ fn is_alike(form: Form, values: &[u8; 256], s: &[u8], x: u8, limit: usize, at: u
     }
 }
 
+// The row of an accepted item. It is stored in two parts, each where it has room, so that the compiler joins the bytes of the offset to
+// one.
+fn store_row(out: &mut [u8], at: usize, offset: usize, size: usize)
+    requires { ⌜ at + 9 ≤ length (now out) ⌝ }
+    ensures { λ _. ⌜ now (out .exit) ≡ sets (now (out .entry)) at (be4 offset ++ (be4 size ++ (0 ∷ []))) ⌝ }
+{
+    report_rows::put_number(out, at, offset);
+    report_rows::put_told(out, at + 4, size, 0);
+}
+
 // The row of the item at an element, if it begins so.
 fn store_if(
     form: Form,
@@ -55,7 +66,7 @@ fn store_if(
     ensures { λ r. ⌜ (r ≡ isAlike form (now (values .entry)) (now (s .entry)) x limit p) × (now (out .exit) ≡ pick r (sets (now (out .entry)) at (be4 p ++ (be4 size ++ (0 ∷ [])))) (now (out .entry))) ⌝ }
 {
     if is_alike(form, values, s, x, limit, p) {
-        report_rows::put_row(out, at, p, size, 0);
+        store_row(out, at, p, size);
         return true;
     }
     false
@@ -116,6 +127,28 @@ fn store_most(
     store_alike(form, values, s, x, limit, size, from, from + room, out, at)
 }
 
+// Whether items of so many elements may stand between two elements of a stream, and their rows in a buffer from a byte on.
+fn is_run(size: usize, from: usize, end: usize, len: usize, room: usize, at: usize) -> bool
+    ensures { λ r. ⌜ (r ≡ true → (1 < size) × (size ≤ 4194304) × (from ≤ end) × (end ≤ len) × (at ≤ room)) ⌝ }
+{
+    if size < 2 {
+        return false;
+    }
+    if 4194304 < size {
+        return false;
+    }
+    if len < end {
+        return false;
+    }
+    if end < from {
+        return false;
+    }
+    if room < at {
+        return false;
+    }
+    true
+}
+
 // The rows of items of so many elements from an element on, as far as they begin alike, end in front of another element and have room:
 // how many they are.
 pub fn put_alike(
@@ -132,20 +165,8 @@ pub fn put_alike(
 ) -> usize
     ensures { λ r. ⌜ Alike form (now (values .entry)) (now (s .entry)) x limit size from end r × (now (out .exit) ≡ sets (now (out .entry)) at (concat rowBytes (runOf from size r))) ⌝ }
 {
-    if size < 2 {
-        return 0;
+    if is_run(size, from, end, s.len(), out.len(), at) {
+        return store_most(form, values, s, x, limit, size, from, end, out, at);
     }
-    if 4194304 < size {
-        return 0;
-    }
-    if s.len() < end {
-        return 0;
-    }
-    if end < from {
-        return 0;
-    }
-    if out.len() < at {
-        return 0;
-    }
-    store_most(form, values, s, x, limit, size, from, end, out, at)
+    0
 }

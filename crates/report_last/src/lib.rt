@@ -35,7 +35,7 @@ fn put_rest(out: &mut [u8], n: usize, k: usize, offset: usize, number: u8) -> us
     ensures { λ r. ⌜ (r ≡ 17 + 9 * n + 9 * k) × (now (out .exit) ≡ put (put (put (now (out .entry)) (4 + 9 * n) (be4 k)) (8 + 9 * n + 9 * k) (be4 1)) (12 + 9 * n + 9 * k) (be4 offset ++ (number ∷ []))) ⌝ }
 {
     let at = put_counts(out, n, k, 1);
-    report_rows::put_remainder(out, at, offset, number);
+    report_rows::put_told(out, at, offset, number);
     at + 5
 }
 

@@ -89,7 +89,8 @@ fn put_refusal(out: &mut [u8], at: usize, index: usize, number: u8, place: usize
     }
 }
 
-pub fn put_remainder(out: &mut [u8], at: usize, offset: usize, number: u8)
+// A number and a refusal's number behind it: the remainder, or the end of a row.
+pub fn put_told(out: &mut [u8], at: usize, offset: usize, number: u8)
     ensures { λ _. ⌜ now (out .exit) ≡ put (now (out .entry)) at (be4 offset ++ (number ∷ [])) ⌝ }
 {
     if has_room(out.len(), at, 5) {

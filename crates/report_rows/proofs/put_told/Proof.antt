@@ -3,8 +3,8 @@ use denote.Ref.{now}
 use Rattle.format.specs.Report.{be4}
 use Rattle.report_rows.specs.Stores.{test-fits, test-put, test-left}
 use borrow.Author.Needs.{needs}
-use Rattle.report_rows.proofs.put_remainder.Statement.{statement}
-use Rattle.report_rows.proofs.put_remainder.Tie as tie
+use Rattle.report_rows.proofs.put_told.Statement.{statement}
+use Rattle.report_rows.proofs.put_told.Tie as tie
 
 has-room-requires : tie.Need-has-room-requires
 has-room-requires c κs = search needs
@@ -23,6 +23,6 @@ returns-2 : tie.Need-returns-2
 unfolding be4
 returns-2 c = test-left (now (c .before .before .before .args .out)) (c .before .before .before .args .at) 5 _ (c .before .has-room .ensures) _ refl (c .if1 .left)
 
-pub put-remainder-spec : {M : Type 1} → statement M
-put-remainder-spec =
+pub put-told-spec : {M : Type 1} → statement M
+put-told-spec =
     tie.close (tie.spec has-room-requires store-told-requires same-length returns returns-2)
