@@ -1,11 +1,10 @@
 use Prim.Native.Nat.{_+_, _-_}
 use native.Mathlib.Omega.{arith}
-use Rattle.report_sizes.specs.Sizes.{likeBy}
-use Rattle.report_sizes.proofs.Laws.{Reached, reached-start, reached-more}
-use Rattle.report_sizes.proofs.Alike.{some, like-more}
+use Rattle.report_followers.specs.Followers.{likeBy}
+use Rattle.report_followers.proofs.Laws.{Reached, reached-start, reached-more, some, like-more}
 use borrow.Author.Needs.{needs}
-use Rattle.report_sizes.proofs.run.Statement.{statement}
-use Rattle.report_sizes.proofs.run.Tie as tie
+use Rattle.report_followers.proofs.run.Statement.{statement}
+use Rattle.report_followers.proofs.run.Tie as tie
 
 abbrev Inv-loop : tie.InvT-loop
 Inv-loop form s whole at size end p₀ r₀ p r = Reached (likeBy form s whole at size) size end (at + size) r p

@@ -1,8 +1,8 @@
 use native.Mathlib.Omega.{arith}
-use Rattle.report_sizes.proofs.Alike.{unit-text, unit-binary, unit-other, four, three}
+use Rattle.report_followers.proofs.Laws.{unit-text, unit-binary, unit-other, four, three}
 use borrow.Author.Needs.{needs}
-use Rattle.report_sizes.proofs.same_unit.Statement.{statement}
-use Rattle.report_sizes.proofs.same_unit.Tie as tie
+use Rattle.report_followers.proofs.same_unit.Statement.{statement}
+use Rattle.report_followers.proofs.same_unit.Tie as tie
 
 enum-told : tie.Need-enum-told
 enum-told c = search needs

@@ -1,7 +1,7 @@
-use Rattle.report_sizes.proofs.Alike.{no-followers, spans, followed}
+use Rattle.report_followers.proofs.Laws.{no-followers, spans, followed}
 use borrow.Author.Needs.{needs}
-use Rattle.report_sizes.proofs.followers.Statement.{statement}
-use Rattle.report_sizes.proofs.followers.Tie as tie
+use Rattle.report_followers.proofs.followers.Statement.{statement}
+use Rattle.report_followers.proofs.followers.Tie as tie
 
 units-requires : tie.Need-units-requires
 units-requires c κs = search needs

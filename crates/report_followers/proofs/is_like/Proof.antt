@@ -1,8 +1,8 @@
 use native.Mathlib.Omega.{arith}
-use Rattle.report_sizes.proofs.Alike.{some, by-unit, by-element}
+use Rattle.report_followers.proofs.Laws.{some, by-unit, by-element}
 use borrow.Author.Needs.{needs}
-use Rattle.report_sizes.proofs.is_like.Statement.{statement}
-use Rattle.report_sizes.proofs.is_like.Tie as tie
+use Rattle.report_followers.proofs.is_like.Statement.{statement}
+use Rattle.report_followers.proofs.is_like.Tie as tie
 
 same-unit-requires : tie.Need-same-unit-requires
 same-unit-requires c κs = search needs

@@ -1,7 +1,7 @@
-use Rattle.report_sizes.proofs.Alike.{same-both, same-first}
+use Rattle.report_followers.proofs.Laws.{same-both, same-first}
 use borrow.Author.Needs.{needs}
-use Rattle.report_sizes.proofs.same_two.Statement.{statement}
-use Rattle.report_sizes.proofs.same_two.Tie as tie
+use Rattle.report_followers.proofs.same_two.Statement.{statement}
+use Rattle.report_followers.proofs.same_two.Tie as tie
 
 same-requires : tie.Need-same-requires
 same-requires c κs = search needs

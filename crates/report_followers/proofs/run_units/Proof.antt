@@ -1,7 +1,7 @@
-use Rattle.report_sizes.proofs.Alike.{at-fits, size-fits, stop-fits, elements, units-run}
+use Rattle.report_followers.proofs.Laws.{at-fits, size-fits, stop-fits, elements, units-run}
 use borrow.Author.Needs.{needs}
-use Rattle.report_sizes.proofs.run_units.Statement.{statement}
-use Rattle.report_sizes.proofs.run_units.Tie as tie
+use Rattle.report_followers.proofs.run_units.Statement.{statement}
+use Rattle.report_followers.proofs.run_units.Tie as tie
 
 unit-requires : tie.Need-unit-requires
 unit-requires c κs = search needs
