@@ -15,4 +15,5 @@ pub mod Deck
 pub mod Characters
 pub mod RawSizes
 pub mod Readings
+pub mod Large
 pub mod Calls
