@@ -41,7 +41,7 @@ pub const UNFIT_LENGTH: u8 = 12;
 pub const UNFIT_STATE: u8 = 13;
 /// Primitive asked for, group or genus/version found.
 pub const NOT_A_PRIMITIVE: u8 = 14;
-/// 02 h: large code whose size fits the small one.
+/// 02 h: large variable code or large group whose size fits the small code.
 pub const NOT_SHORT: u8 = 18;
 
 #[cfg(test)]
