@@ -55,11 +55,13 @@ fn group_headers(form: Form, stream: &[u8]) -> Vec<usize> {
     offsets.filter(is_group).collect()
 }
 
-/// Offsets of units that look like a small variable's header: `4` is 56.
-fn variable_headers(form: Form, stream: &[u8]) -> Vec<usize> {
+/// Those and the ones that look like a small variable's: `4` is 56.
+fn counted_headers(form: Form, stream: &[u8]) -> Vec<usize> {
     let offsets = (0..stream.len()).step_by(form.unit());
     let is_variable = |offset: &usize| matches!(form.bits(stream, *offset) >> 18, 56..=58);
-    offsets.filter(is_variable).collect()
+    let mut headers = group_headers(form, stream);
+    headers.extend(offsets.filter(is_variable));
+    headers
 }
 
 fn insert(stream: &mut Vec<u8>, offset: usize, part: &[u8]) {
@@ -163,9 +165,9 @@ fn another_head(random: &mut Random, form: Form, stream: &mut Vec<u8>) {
     }
 }
 
-/// A group's count by a little more or less, or to anything.
+/// A group's or variable's count by a little more or less, or to anything.
 fn another_count(random: &mut Random, form: Form, stream: &mut Vec<u8>) {
-    let headers = group_headers(form, stream);
+    let headers = counted_headers(form, stream);
     if headers.is_empty() {
         return;
     }
@@ -183,13 +185,12 @@ fn another_count(random: &mut Random, form: Form, stream: &mut Vec<u8>) {
 /// A small group's or variable's header as the large one of the same count;
 /// groups that reach over it count the unit that it is longer by.
 fn large_code(random: &mut Random, form: Form, stream: &mut Vec<u8>) {
-    let mut headers = group_headers(form, stream);
-    let groups = headers.clone();
-    headers.extend(variable_headers(form, stream));
+    let headers = counted_headers(form, stream);
     if headers.is_empty() {
         return;
     }
     let offset = *random.pick(&headers);
+    let groups = group_headers(form, stream);
     for header in groups.into_iter().filter(|group| *group < offset) {
         let bits = form.bits(stream, header);
         let reaches = header + (1 + (bits & 0xFFF) as usize) * form.unit() > offset;
