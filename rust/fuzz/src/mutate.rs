@@ -1,11 +1,12 @@
 //! Changes of an input that know what a stream is: half of them are the ways
 //! of damage of `streams`, or an accepted item put in; the others libFuzzer's.
 
-use crate::input::{Call, Front};
+use crate::input::{Call, Front, LONG};
 use crate::seeds::writes;
 use proved::MAX_DEPTH;
 use streams::damage::damage;
-use streams::generate::{any_item, TOP};
+use streams::form::characters;
+use streams::generate::{any_item, large_code, LARGE_CODES, TOP};
 use streams::item::stream;
 use streams::{Form, Random};
 
@@ -54,6 +55,7 @@ fn changed(random: &mut Random, input: &mut [u8], size: usize) -> Option<usize> 
         }
         Call::WalkFrom => drop(front.state()),
         Call::Read => drop(front.number()),
+        _ if random.once_in(100) => return long_stream(random, form, input),
         _ => {}
     }
     let mut made = front.0.to_vec();
@@ -116,6 +118,18 @@ fn another_write(random: &mut Random, form: Form, input: &mut [u8]) -> Option<us
         }
     }
     replaced(input, 2, &made[2..])
+}
+
+/// A long stream of an item with a large code, around the least that it
+/// counts, or what it is short of that.
+fn long_stream(random: &mut Random, form: Form, input: &mut [u8]) -> Option<usize> {
+    let index = random.below(LARGE_CODES);
+    let item = stream(&[large_code(random, index, 1)]);
+    let units = characters(4093 + random.below(6) as u32);
+    let unit = *random.pick(&[*b"1AAK", *b"AAAA", *b"AQAA"]);
+    let text = [&item[..4], &units, &unit].concat();
+    *input.get_mut(1)? = LONG;
+    replaced(input, 2, &form.of_text(&text))
 }
 
 /// An accepted item before any unit.

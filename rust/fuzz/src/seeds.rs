@@ -1,8 +1,8 @@
 //! Inputs to start from: the papers' streams, an item of every code, large ones
-//! for few units too, groups around the depth limit, streams so long that conversion goes by its tables,
+//! for few units too and around 4,096, groups around the depth limit, streams so long that conversion goes by its tables,
 //! a primitive of every code to write, some states.
 
-use crate::input::{Call, CALLS};
+use crate::input::{Call, CALLS, LONG};
 use streams::damage::GENUS_CODES;
 use streams::form::FORMS;
 use streams::generate::{large_code, nested, one_code, CODES, LARGE_CODES};
@@ -34,6 +34,10 @@ pub fn seeds() -> Vec<Vec<u8>> {
         seeds.push([&[choice(Call::Convert, form), 0], &form.of_text(&long)[..]].concat());
         seeds.extend(writes(form));
         seeds.extend(states(form));
+        for header in [&b"--JAABAA"[..], b"--AAAA__", b"7AABABAA", b"9AABAA__"] {
+            let made = form.of_text(&[header, b"AAAA"].concat());
+            seeds.push([&[choice(Call::All, form), LONG], &made[..]].concat());
+        }
     }
     seeds
 }
