@@ -25,14 +25,15 @@ pub fn fixed(random: &mut Random, (code, full, kind): Fixed) -> Item {
     Item::Primitive(text)
 }
 
-/// An item of a variable code with `n` units of any value; one at least where
-/// lead bytes are asked for. It is accepted where the code is the shortest one
+/// An item of a variable code with `n` units of any value; of a small one with
+/// lead bytes one at least. It is accepted where the code is the shortest one
 /// that counts so far.
 pub fn variable(random: &mut Random, selector: u8, letter: u8, n: usize) -> Item {
     let lead = usize::from((selector - b'4') % 3);
-    let n = n.max(usize::from(lead > 0));
+    let small = selector < b'7';
+    let n = n.max(usize::from(small && lead > 0));
     let digits = characters(n as u32);
-    let mut text = if selector < b'7' {
+    let mut text = if small {
         vec![selector, letter, digits[2], digits[3]]
     } else {
         [&[selector, b'A', b'A', letter], &digits[..]].concat()
@@ -40,17 +41,18 @@ pub fn variable(random: &mut Random, selector: u8, letter: u8, n: usize) -> Item
     let header = text.len();
     text.extend(random.characters(4 * n));
     // One lead byte: `A` and 2 zero bits; two: `AA` and 4 zero bits.
-    let zeros: &[u8] = match lead {
-        1 => &[b'A', b'A' + random.below(16) as u8],
-        2 => &[b'A', b'A', b'A' + random.below(4) as u8],
-        _ => &[],
+    let zeros: &[u8] = match lead.min(n) {
+        0 => &[],
+        _ if lead == 1 => &[b'A', b'A' + random.below(16) as u8],
+        _ => &[b'A', b'A', b'A' + random.below(4) as u8],
     };
     text[header..header + zeros.len()].copy_from_slice(zeros);
     Item::Primitive(text)
 }
 
 /// A group of any letter: opaque ones with any units for `body`'s items.
-pub fn group(random: &mut Random, letter: u8, large: bool, body: Vec<Item>) -> Item {
+pub fn group(random: &mut Random, letter: u8, body: Vec<Item>) -> Item {
+    let large = false;
     if is_opaque(letter) {
         let body = random.characters(4 * body.len());
         return Item::Opaque {
@@ -92,7 +94,7 @@ pub fn one_code(random: &mut Random, index: usize) -> Item {
     if index % 2 == 1 {
         body.extend([any_primitive(random), any_primitive(random)]);
     }
-    group(random, *letter, false, body)
+    group(random, *letter, body)
 }
 
 /// How many items `large_code` tells apart.
@@ -243,7 +245,7 @@ fn any_group(random: &mut Random, stand: Stand, deepest: usize) -> Item {
     let items = random.below(5);
     if is_opaque(letter) {
         let body = (0..items).map(|_| any_primitive(random)).collect();
-        return group(random, letter, false, body);
+        return group(random, letter, body);
     }
     let inner = |first| Stand {
         within: stand.within + 1,
@@ -251,7 +253,7 @@ fn any_group(random: &mut Random, stand: Stand, deepest: usize) -> Item {
     };
     let body = (0..items).map(|i| any_item(random, inner(i == 0), deepest));
     let body = body.collect();
-    group(random, letter, false, body)
+    group(random, letter, body)
 }
 
 /// `depth` groups, each just around the next, around one small primitive.
@@ -294,7 +296,7 @@ pub fn deep(random: &mut Random) -> Item {
     let depth = MOST_GROUPS - 4 + random.below(11);
     let mut body = match random.below(4) {
         0 => Vec::new(),
-        1 => vec![group(random, b'K', false, Vec::new())],
+        1 => vec![group(random, b'K', Vec::new())],
         _ => vec![any_primitive(random)],
     };
     // Counted from the innermost; a number past the outermost is none.
@@ -360,7 +362,7 @@ mod tests {
     fn large_codes_count_what_they_are_asked() {
         let mut random = Random::new(7);
         for index in 0..LARGE_CODES {
-            for units in [1, 2, 4095, 4096] {
+            for units in [0, 1, 2, 4095, 4096] {
                 let text = stream(&[large_code(&mut random, index, units)]);
                 assert_eq!(text.len(), 8 + 4 * units);
                 assert!(text.starts_with(b"--") || LARGE.contains(&text[0]));
