@@ -2,7 +2,7 @@
 //! the oracle with ordinary ones.
 
 use crate::fence::{Edge, Fence, LONGEST};
-use crate::input::{Call, Front, Room, LONG};
+use crate::input::{Call, Front, Room, LONG, LONG_UNITS};
 use crate::long;
 use proved::{Primitive, Refusal, State, Tag, STATE};
 use std::cell::RefCell;
@@ -59,21 +59,24 @@ pub fn one(input: &[u8]) {
     });
 }
 
-/// The calls that take nothing but a stream.
+/// The calls that take nothing but a stream. A walk that steps on over a long
+/// one takes all the time and meets nothing new.
 fn stream(memory: &mut Memory, call: Call, form: Form, room: Room, stream: &[u8]) {
+    let long = stream.len() >= LONG_UNITS * form.unit();
+    let steps = if long { 20 } else { usize::MAX };
     match call {
         Call::Report => report(memory, form, room, stream),
         Call::Convert => convert(memory, form, room, stream),
         Call::ReadItems => {
-            for at in walk(memory, form, stream, [0; STATE], 40) {
+            for at in walk(memory, form, stream, [0; STATE], steps.min(40)) {
                 read(memory, form, room, stream, at);
             }
         }
-        Call::Walk => drop(walk(memory, form, stream, [0; STATE], usize::MAX)),
+        Call::Walk => drop(walk(memory, form, stream, [0; STATE], steps)),
         _ => {
             report(memory, form, room, stream);
             convert(memory, form, room, stream);
-            walk(memory, form, stream, [0; STATE], usize::MAX);
+            walk(memory, form, stream, [0; STATE], steps);
         }
     }
 }

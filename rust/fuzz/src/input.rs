@@ -13,7 +13,7 @@ use std::borrow::Cow;
 use streams::Form;
 
 /// Units of a long stream: a large header, and the least that it counts.
-const LONG_UNITS: usize = 2 + 4096;
+pub const LONG_UNITS: usize = 2 + 4096;
 
 /// The second byte of an input with a long stream.
 pub const LONG: u8 = 255;

@@ -29,6 +29,10 @@ pub unsafe extern "C" fn LLVMFuzzerCustomMutator(
     let mut random = Random::new(u64::from(seed));
     // SAFETY: by the contract.
     let input = unsafe { std::slice::from_raw_parts_mut(data, most) };
+    // Long streams take long: what comes of them is mostly none.
+    if size > 1 && input[1] == LONG && !random.once_in(64) {
+        input[1] = 0;
+    }
     if random.once_in(2) {
         if let Some(size) = changed(&mut random, input, size) {
             return size;
@@ -55,7 +59,7 @@ fn changed(random: &mut Random, input: &mut [u8], size: usize) -> Option<usize> 
         }
         Call::WalkFrom => drop(front.state()),
         Call::Read => drop(front.number()),
-        _ if random.once_in(100) => return long_stream(random, form, input),
+        _ if random.once_in(400) => return long_stream(random, form, input),
         _ => {}
     }
     let mut made = front.0.to_vec();
