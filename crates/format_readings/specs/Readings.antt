@@ -14,15 +14,14 @@ use Rattle.format.specs.Deck.Holds.{end, _&_}
 unfoldable pub readings : List Example
 readings =
     example (52 ∷ 66 ∷ 65 ∷ 66 ∷ 65 ∷ 71 ∷ 104 ∷ 112 ∷ []) (raw (0 ∷ 104 ∷ 105 ∷ [])) ∷  -- `4BABAGhp`: lead 0
-    example (55 ∷ 65 ∷ 65 ∷ 66 ∷ 65 ∷ 65 ∷ 65 ∷ 66 ∷ 65 ∷ 71 ∷ 104 ∷ 112 ∷ []) (raw (0 ∷ 104 ∷ 105 ∷ [])) ∷  -- `7AABAAABAGhp`: a large one, lead 0
-    example (56 ∷ 65 ∷ 65 ∷ 66 ∷ 65 ∷ 65 ∷ 65 ∷ 66 ∷ 65 ∷ 71 ∷ 104 ∷ 112 ∷ []) (raw (104 ∷ 105 ∷ [])) ∷  -- `8AABAAABAGhp`: lead 1
-    example (57 ∷ 65 ∷ 65 ∷ 66 ∷ 65 ∷ 65 ∷ 65 ∷ 66 ∷ 65 ∷ 65 ∷ 66 ∷ 104 ∷ []) (raw (97 ∷ [])) ∷  -- `9AABAAABAABh`: lead 2
+    example (55 ∷ 65 ∷ 65 ∷ 66 ∷ 65 ∷ 65 ∷ 65 ∷ 66 ∷ 65 ∷ 71 ∷ 104 ∷ 112 ∷ []) (refused 18 0) ∷  -- `7AABAAABAGhp`: a large one that a small one holds, lead 0
+    example (56 ∷ 65 ∷ 65 ∷ 66 ∷ 65 ∷ 65 ∷ 65 ∷ 66 ∷ 65 ∷ 71 ∷ 104 ∷ 112 ∷ []) (refused 18 0) ∷  -- `8AABAAABAGhp`: lead 1
+    example (57 ∷ 65 ∷ 65 ∷ 66 ∷ 65 ∷ 65 ∷ 65 ∷ 66 ∷ 65 ∷ 65 ∷ 66 ∷ 104 ∷ []) (refused 18 0) ∷  -- `9AABAAABAABh`: lead 2
     example (86 ∷ 66 ∷ 65 ∷ 65 ∷ []) (refused 8 0) ∷  -- `VBAA`: the lead byte of V
     example (54 ∷ 66 ∷ 65 ∷ 66 ∷ 65 ∷ 65 ∷ 69 ∷ 65 ∷ []) (refused 8 0) ∷  -- `6BABAAEA`: the second lead byte
-    example (57 ∷ 65 ∷ 65 ∷ 66 ∷ 65 ∷ 65 ∷ 65 ∷ 66 ∷ 65 ∷ 65 ∷ 69 ∷ 65 ∷ []) (refused 8 0) ∷  -- `9AABAAABAAEA`: of a large one
+    example (57 ∷ 65 ∷ 65 ∷ 66 ∷ 65 ∷ 65 ∷ 65 ∷ 66 ∷ 65 ∷ 65 ∷ 69 ∷ 65 ∷ []) (refused 18 0) ∷  -- `9AABAAABAAEA`: 18, then 8
     example (54 ∷ 66 ∷ 65 ∷ 65 ∷ []) (refused 9 0) ∷  -- `6BAA`: selector 6 with n = 0
-    example (57 ∷ 65 ∷ 65 ∷ 66 ∷ 65 ∷ 65 ∷ 65 ∷ 65 ∷ []) (refused 9 0) ∷  -- `9AABAAAA`: and 9
-    example (55 ∷ 65 ∷ 65 ∷ 66 ∷ 65 ∷ 65 ∷ 65 ∷ 65 ∷ []) (raw []) ∷  -- `7AABAAAA`: 7 may have n = 0
+    example (57 ∷ 65 ∷ 65 ∷ 66 ∷ 65 ∷ 65 ∷ 65 ∷ 65 ∷ []) (refused 18 0) ∷  -- `9AABAAAA`: 18, then 9
     example (88 ∷ 65 ∷ 66 ∷ 67 ∷ []) (tag (65 ∷ 66 ∷ 67 ∷ [])) ∷  -- `XABC`: three tag characters
     example (88 ∷ 95 ∷ 95 ∷ 95 ∷ []) (tag (95 ∷ 95 ∷ 95 ∷ [])) ∷  -- `X___`: no pad bits
     example (89 ∷ 65 ∷ 66 ∷ 67 ∷ 68 ∷ 69 ∷ 70 ∷ 71 ∷ []) (tag (65 ∷ 66 ∷ 67 ∷ 68 ∷ 69 ∷ 70 ∷ 71 ∷ [])) ∷  -- `YABCDEFG`: seven
@@ -61,16 +60,15 @@ readings =
     example (45 ∷ 66 ∷ 65 ∷ 67 ∷ 45 ∷ 95 ∷ 65 ∷ 65 ∷ 65 ∷ 66 ∷ 65 ∷ 65 ∷ []) (refused 7 4) ∷  -- `-BAC-_AAABAA`: first item of -B
     example (45 ∷ 67 ∷ 65 ∷ 67 ∷ 45 ∷ 95 ∷ 65 ∷ 65 ∷ 65 ∷ 66 ∷ 65 ∷ 65 ∷ []) (refused 7 4) ∷  -- `-CAC-_AAABAA`: of -C
     example (45 ∷ 68 ∷ 65 ∷ 67 ∷ 45 ∷ 95 ∷ 65 ∷ 65 ∷ 65 ∷ 66 ∷ 65 ∷ 65 ∷ []) accepted ∷  -- `-DAC-_AAABAA`: -D is not overrideable
-    example (45 ∷ 45 ∷ 65 ∷ 65 ∷ 65 ∷ 65 ∷ 65 ∷ 67 ∷ 45 ∷ 95 ∷ 65 ∷ 65 ∷ 65 ∷ 66 ∷ 65 ∷ 65 ∷ []) (refused 7 8) ∷  -- `--AAAAAC-_AAABAA`: large too
     example (45 ∷ 65 ∷ 65 ∷ 68 ∷ 77 ∷ 65 ∷ 65 ∷ 66 ∷ 45 ∷ 95 ∷ 65 ∷ 65 ∷ 65 ∷ 66 ∷ 65 ∷ 65 ∷ []) accepted ∷  -- `-AADMAAB-_AAABAA`: the second item is a plain one
     example (45 ∷ 65 ∷ 65 ∷ 68 ∷ 45 ∷ 65 ∷ 65 ∷ 65 ∷ 45 ∷ 95 ∷ 65 ∷ 65 ∷ 65 ∷ 66 ∷ 65 ∷ 65 ∷ []) accepted ∷  -- `-AAD-AAA-_AAABAA`: an empty group is a first item and sets no mark
     example (45 ∷ 65 ∷ 65 ∷ 67 ∷ 45 ∷ 95 ∷ 65 ∷ 65 ∷ 65 ∷ 67 ∷ 65 ∷ 65 ∷ []) accepted ∷  -- `-AAC-_AAACAA`: `AAACAA` in -A
     example (45 ∷ 75 ∷ 65 ∷ 66 ∷ 95 ∷ 95 ∷ 95 ∷ 95 ∷ []) accepted ∷  -- `-KAB____`: opaque: any units in the alphabet
     example (45 ∷ 76 ∷ 65 ∷ 66 ∷ 95 ∷ 95 ∷ 95 ∷ 95 ∷ []) accepted ∷  -- `-LAB____`
-    example (45 ∷ 45 ∷ 76 ∷ 65 ∷ 65 ∷ 65 ∷ 65 ∷ 66 ∷ 95 ∷ 95 ∷ 95 ∷ 95 ∷ []) accepted ∷  -- `--LAAAAB____`: a large one too
+    example (45 ∷ 45 ∷ 76 ∷ 65 ∷ 65 ∷ 65 ∷ 65 ∷ 66 ∷ 95 ∷ 95 ∷ 95 ∷ 95 ∷ []) (refused 18 0) ∷  -- `--LAAAAB____`: a large one of one unit
     example (45 ∷ 77 ∷ 65 ∷ 66 ∷ 95 ∷ 95 ∷ 95 ∷ 95 ∷ []) (refused 6 4) ∷  -- `-MAB____`: no other is
     example (45 ∷ 72 ∷ 65 ∷ 66 ∷ 77 ∷ 81 ∷ 65 ∷ 65 ∷ []) (refused 8 4) ∷  -- `-HABMQAA`: the contents of -H are items
-    example (45 ∷ 45 ∷ 65 ∷ 65 ∷ 65 ∷ 65 ∷ 65 ∷ 66 ∷ 77 ∷ 65 ∷ 65 ∷ 66 ∷ []) accepted ∷  -- `--AAAAABMAAB`: a large group of one unit
+    example (45 ∷ 45 ∷ 65 ∷ 65 ∷ 65 ∷ 65 ∷ 65 ∷ 66 ∷ 77 ∷ 65 ∷ 65 ∷ 66 ∷ []) (refused 18 0) ∷  -- `--AAAAABMAAB`: a large group of one unit
     example (45 ∷ 45 ∷ 65 ∷ 66 ∷ 65 ∷ 65 ∷ 65 ∷ 65 ∷ []) (unframed 4 0) ∷  -- `--ABAAAA`: the first of five digits counts
     example (45 ∷ 45 ∷ 99 ∷ 95 ∷ 95 ∷ 95 ∷ 95 ∷ 95 ∷ []) (unframed 4 0) ∷  -- `--c_____`: an extent above 2 to the 32
     example (around 64 (45 ∷ 75 ∷ 65 ∷ 65 ∷ [])) (refused 11 256) ∷  -- a sixty-fifth that is opaque: 11
@@ -83,8 +81,8 @@ readings =
 pub readings-hold : Holds text (λ s. s) readings × Holds binary toBinary readings
 unfolding given readings
 readings-hold = (
-  refl & refl & refl & refl & refl & refl & refl & refl & refl & refl & refl & refl & refl & refl & refl & refl & refl & refl & refl & refl & refl & refl & refl & refl & refl & refl & refl & refl & refl & refl & refl & refl & refl & refl & refl & refl & refl & refl & refl & refl & refl & refl & refl & refl & refl & refl & refl & refl & refl & refl & refl & refl & refl & refl & refl & refl & refl & refl & refl & refl & refl & refl & refl & refl & end,
-  refl & refl & refl & refl & refl & refl & refl & refl & refl & refl & refl & refl & refl & refl & refl & refl & refl & refl & refl & refl & refl & refl & refl & refl & refl & refl & refl & refl & refl & refl & refl & refl & refl & refl & refl & refl & refl & refl & refl & refl & refl & refl & refl & refl & refl & refl & refl & refl & refl & refl & refl & refl & refl & refl & refl & refl & refl & refl & refl & refl & refl & refl & refl & refl & end,
+  refl & refl & refl & refl & refl & refl & refl & refl & refl & refl & refl & refl & refl & refl & refl & refl & refl & refl & refl & refl & refl & refl & refl & refl & refl & refl & refl & refl & refl & refl & refl & refl & refl & refl & refl & refl & refl & refl & refl & refl & refl & refl & refl & refl & refl & refl & refl & refl & refl & refl & refl & refl & refl & refl & refl & refl & refl & refl & refl & refl & refl & refl & end,
+  refl & refl & refl & refl & refl & refl & refl & refl & refl & refl & refl & refl & refl & refl & refl & refl & refl & refl & refl & refl & refl & refl & refl & refl & refl & refl & refl & refl & refl & refl & refl & refl & refl & refl & refl & refl & refl & refl & refl & refl & refl & refl & refl & refl & refl & refl & refl & refl & refl & refl & refl & refl & refl & refl & refl & refl & refl & refl & refl & refl & refl & refl & end,
 )
 
 -- ---- where a character is outside the alphabet, which only a text can have
@@ -102,10 +100,9 @@ stranger =
     example (53 ∷ 66 ∷ 65 ∷ 66 ∷ 81 ∷ 33 ∷ 104 ∷ 112 ∷ []) (refused 5 5) ∷  -- `5BABQ!hp`: then 8
     example (48 ∷ 76 ∷ 65 ∷ 65 ∷ 66 ∷ 33 ∷ 68 ∷ 69 ∷ []) (refused 5 5) ∷  -- `0LAAB!DE`: 5, then 10
     example (56 ∷ 65 ∷ 65 ∷ 66 ∷ 65 ∷ 65 ∷ 65 ∷ 66 ∷ 65 ∷ 33 ∷ 104 ∷ 112 ∷ []) (refused 5 9) ∷  -- `8AABAAABA!hp`: behind a header of two units
-    example (45 ∷ 45 ∷ 75 ∷ 65 ∷ 65 ∷ 65 ∷ 65 ∷ 66 ∷ 33 ∷ 65 ∷ 65 ∷ 65 ∷ []) (refused 5 8) ∷  -- `--KAAAAB!AAA`: and in a large opaque group
     example (around 64 (45 ∷ 75 ∷ 65 ∷ 66 ∷ 77 ∷ 33 ∷ 65 ∷ 66 ∷ [])) (refused 11 256) ∷  -- a sixty-fifth group that is opaque: 11, then 5
     []
 
 pub stranger-holds : Holds text (λ s. s) stranger
 unfolding given stranger
-stranger-holds = refl & refl & refl & refl & refl & refl & refl & refl & refl & refl & refl & refl & refl & end
+stranger-holds = refl & refl & refl & refl & refl & refl & refl & refl & refl & refl & refl & refl & end

@@ -11,7 +11,7 @@ use lib.Dec.{ltb, eqb}
 use lib.ListN.{length, getD, take, drop, length-drop, length-take, length-map, drop-of-length-le, List·getD-eq-default}
 use lib.Seq.{getD-take, take-all, length-take-le}
 use borrow.Author.Tests.{lt-ltb, le-ltb}
-use Rattle.base.specs.Pick.{pick}
+use Rattle.base.specs.Pick.{pick, pick-by}
 use Rattle.base.specs.Cases.{lt-or-ge, whether}
 use Rattle.base.specs.Lists.{map-take, map-drop, same-table}
 use Rattle.base.specs.Digits.{Below, none, more, below-drop}
@@ -24,15 +24,16 @@ use Rattle.format.specs.Alphabet.{sextetOf}
 use Rattle.format.specs.Units.{textSextets, binarySextets}
 use Rattle.format.specs.Conversion.{firstStranger}
 use Rattle.format.specs.Registry.{isOpaque, zeroBitsOf, prepadOf}
-use Rattle.format.specs.Judging.{shift, andThen, unless, scan, behind, hasLead, zeroBits, prepadRight, judgeKind, ownCheck}
+use Rattle.format.specs.Judging.{shift, andThen, unless, isShortest, scan, behind, hasLead, zeroBits, prepadRight, judgeKind, ownCheck}
 use Rattle.laws.specs.Registry.{Sound}
 use Rattle.laws.specs.Framing.{Shaped}
 use Rattle.laws.specs.Domains.{binary-reader}
+use Rattle.laws.specs.Levels.{then-accepts}
 use Rattle.laws.specs.Scan.{scan-below}
 use Rattle.laws.specs.Conversion.{binary-below}
 use Rattle.framing.specs.Heads.{headOf}
 use Rattle.framing.proofs.Laws.{head-at}
-use Rattle.judging.specs.Own.{fixedChecks, variableChecks, groupOwn, ownBy}
+use Rattle.judging.specs.Own.{fixedChecks, variableChecks, groupChecks, ownBy}
 
 -- ---- 5
 
@@ -112,23 +113,37 @@ zero-past cs h z l g =
       zero-div,
     )
 
-pub group-opaque : (letter : ℕ) (b : Verdict) (l : ℕ) → (l ≡ 0 → ⊥) → isOpaque letter ≡ true → groupOwn letter b l ≡ b
-unfolding groupOwn
-group-opaque letter b zero n e = absurd (n refl)
-group-opaque letter b (suc l) n e = rw e
+-- 11, 18
+pub no-levels : (h count l : ℕ) → l ≡ 0 → Refused 11 0 ≡ groupChecks h count l
+unfolding groupChecks
+no-levels h count l e = rw e
 
-pub group-plain : (letter : ℕ) (b : Verdict) (l : ℕ) → (l ≡ 0 → ⊥) → isOpaque letter ≡ false → groupOwn letter b l ≡ Accepted
-unfolding groupOwn
-group-plain letter b zero n e = absurd (n refl)
-group-plain letter b (suc l) n e = rw e
+pub some-levels : (h count l : ℕ) → (l ≡ 0 → ⊥) → (b : Bool) → isShortest h count ≡ b → unless 18 b ≡ groupChecks h count l
+unfolding groupChecks
+some-levels h count zero n b e = absurd (n refl)
+some-levels h count (suc l) n b e = rw e
 
-pub group-open : (letter l : ℕ) → (l ≡ 0 → ⊥) → groupOwn letter Accepted l ≡ Accepted
-group-open letter l n = ⊎-elim (λ e. group-opaque letter Accepted l n e) (λ e. group-plain letter Accepted l n e) (whether (isOpaque letter))
+-- a group, by what its checks answered
+module _ (letter h count l : ℕ) (v : Verdict) (e : v ≡ groupChecks h count l) where
+  pub group-opaque : (b r : Verdict) → r ≡ andThen v b → isOpaque letter ≡ true
+      → r ≡ andThen (groupChecks h count l) (pick (isOpaque letter) b Accepted)
+  group-opaque b r q o = rw (o, ← e) q
 
-own-group : (letter h l : ℕ) (s : List ℕ) → groupOwn letter (behind h s) l ≡ ownCheck l letter h (drop (4 * h) s)
-unfolding groupOwn ownCheck behind
-own-group letter h zero s = refl
-own-group letter h (suc l) s = refl
+  -- nothing behind its header is looked at, or is outside the alphabet
+  pub group-plain : (b : Verdict) → pick (isOpaque letter) b Accepted ≡ Accepted
+      → v ≡ andThen (groupChecks h count l) (pick (isOpaque letter) b Accepted)
+  group-plain b p = rw (p, ← e) (sym (then-accepts v))
+
+pub all-pass : (letter : ℕ) → pick (isOpaque letter) Accepted Accepted ≡ Accepted
+all-pass letter = pick-by (λ (v : Verdict). v ≡ Accepted) (isOpaque letter) _ _ (λ _. refl) (λ _. refl)
+
+own-group : (letter h n l : ℕ) (s : List ℕ) → length s ≡ 4 * n
+    → andThen (groupChecks h (n - h) l) (pick (isOpaque letter) (behind h s) Accepted) ≡ ownCheck l letter h (drop (4 * h) s)
+unfolding groupChecks ownCheck behind andThen
+own-group letter h n zero s long = refl
+own-group letter h n (suc l) s long =
+    let e : length (drop (4 * h) s) / 4 ≡ n - h = omega (arith, length-drop (4 * h) s) in
+    rw e
 
 -- what the code finds of an item's own sextets, those of its n units, is what format's judging finds
 pub own-judged : (k : Kind) (h n l : ℕ) (s : List ℕ) → h ≤ 2 → length s ≡ 4 * n → Shaped k h n
@@ -138,7 +153,7 @@ own-judged (Fixed c) h n l s few long shape =
     let m : c .chars ≤ 4 = shape .0 .chars .1 in
     rw (zero-head s (c .chars) (zeroBitsOf c) (omega arith), prepad-head s (c .chars) (prepadOf c) (omega arith))
 own-judged (Variable t lead count) h n l s few long shape = rw (zero-head s (4 * h) (8 * lead) (omega arith))
-own-judged (Group letter) h n l s few long shape = own-group letter h l s
+own-judged (Group letter) h n l s few long shape = own-group letter h n l s long
 own-judged Genus h n l s few long shape = refl
 
 -- ---- an item's own checks, from what the code has at hand

@@ -1,5 +1,5 @@
-// An item's own checks, which the walk and the single reader make: of a primitive 5 behind the header, 9, 8, 10; of a group 11 and,
-// if opaque, 5. A header's checks look at the item's first sextets, 0 past its end.
+// An item's own checks, which the walk and the single reader make: of a primitive 5 behind the header, 18, 9, 8, 10; of a group 11, 18
+// and, if opaque, 5. A header's checks look at the item's first sextets, 0 past its end.
 use format::CodeRow;
 use format::Framed;
 use format::Kind;
@@ -10,9 +10,9 @@ ghost use Rattle.format.specs.declared.Verdict.the-variants as Verdict;
 ghost use lib.ListN.{getD, take};
 ghost use Rattle.format.specs.Units.{textSextets};
 ghost use Rattle.format.specs.Registry.{zeroBitsOf, prepadOf};
-ghost use Rattle.format.specs.Judging.{andThen, behind, hasLead, zeroBits, prepadRight};
+ghost use Rattle.format.specs.Judging.{andThen, behind, isShortest, hasLead, zeroBits, prepadRight};
 ghost use Rattle.framing.specs.Heads.{unitOf, headOf};
-ghost use Rattle.judging.specs.Own.{fixedChecks, variableChecks, groupOwn, ownBy, toldBy};
+ghost use Rattle.judging.specs.Own.{fixedChecks, variableChecks, groupChecks, ownBy, toldBy};
 
 // How many groups may be open, one in the other: 64 by 02 g.
 pub const MAX_DEPTH: usize = 64;
@@ -148,7 +148,15 @@ fn fixed_checks(c: CodeRow, cs: [u8; 12]) -> Verdict
     Verdict::Accepted
 }
 
-// ---- 9 and 8 of a variable one
+// ---- 18: a large header where a small one counts the units behind it
+
+pub fn is_shortest(h: usize, count: usize) -> bool
+    ensures { λ r. ⌜ r ≡ isShortest h count ⌝ }
+{
+    if h == 1 { true } else { 4096 <= count }
+}
+
+// ---- 18, 9 and 8 of a variable one
 
 fn has_lead(lead: u8, count: usize) -> bool
     ensures { λ r. ⌜ r ≡ hasLead lead count ⌝ }
@@ -169,6 +177,12 @@ fn lead_zero(cs: [u8; 12], h: usize, lead: u8) -> bool
 fn variable_checks(lead: u8, count: usize, h: usize, cs: [u8; 12]) -> Verdict
     ensures { λ r. ⌜ r ≡ variableChecks lead count h cs ⌝ }
 {
+    if !is_shortest(h, count) {
+        return Verdict::Refused {
+            number: 18,
+            place: 0,
+        };
+    }
     if !has_lead(lead, count) {
         return Verdict::Refused {
             number: 9,
@@ -178,6 +192,33 @@ fn variable_checks(lead: u8, count: usize, h: usize, cs: [u8; 12]) -> Verdict
     if !lead_zero(cs, h, lead) {
         return Verdict::Refused {
             number: 8,
+            place: 0,
+        };
+    }
+    Verdict::Accepted
+}
+
+// ---- 11 and 18 of a group
+
+// The units behind a header of h.
+fn units_behind(n: usize, h: usize) -> usize
+    ensures { λ r. ⌜ r ≡ n - h ⌝ }
+{
+    if h <= n { n - h } else { 0 }
+}
+
+fn group_checks(h: usize, units: usize, levels: usize) -> Verdict
+    ensures { λ r. ⌜ r ≡ groupChecks h units levels ⌝ }
+{
+    if levels == 0 {
+        return Verdict::Refused {
+            number: 11,
+            place: 0,
+        };
+    }
+    if !is_shortest(h, units) {
+        return Verdict::Refused {
+            number: 18,
             place: 0,
         };
     }
@@ -215,7 +256,7 @@ fn after(b: Verdict, v: Verdict) -> Verdict
 }
 
 // The own checks of an item of a text: kind, header units and size n in units as framed, its first sextets, its own characters,
-// and how many more groups may be entered. No check asks for the size as yet.
+// and how many more groups may be entered.
 pub fn own_text(kind: Kind, h: usize, n: usize, cs: [u8; 12], item: &[u8], levels: usize) -> Verdict
     ensures { λ r. ⌜ r ≡ ownBy kind h n cs (behind h (textSextets (now (item .entry)))) levels ⌝ }
 {
@@ -233,16 +274,11 @@ pub fn own_text(kind: Kind, h: usize, n: usize, cs: [u8; 12], item: &[u8], level
             after(b, variable_checks(lead, count, h, cs))
         }
         Kind::Group { letter } => {
-            if levels == 0 {
-                return Verdict::Refused {
-                    number: 11,
-                    place: 0,
-                };
-            }
+            let v = group_checks(h, units_behind(n, h), levels);
             if registry::is_opaque(letter) {
-                behind_text(item, h)
+                after(v, behind_text(item, h))
             } else {
-                Verdict::Accepted
+                v
             }
         }
         Kind::Genus => Verdict::Accepted,
@@ -260,16 +296,7 @@ pub fn own_binary(kind: Kind, h: usize, n: usize, cs: [u8; 12], levels: usize) -
             lead,
             count,
         } => variable_checks(lead, count, h, cs),
-        Kind::Group { letter: _ } => {
-            if levels == 0 {
-                Verdict::Refused {
-                    number: 11,
-                    place: 0,
-                }
-            } else {
-                Verdict::Accepted
-            }
-        }
+        Kind::Group { letter: _ } => group_checks(h, units_behind(n, h), levels),
         Kind::Genus => Verdict::Accepted,
     }
 }

@@ -21,7 +21,7 @@ use Rattle.format.specs.declared.Primitive.{Primitive}
 use Rattle.format.specs.Alphabet.{charOf}
 use Rattle.format.specs.Registry.{opening, prepadOf}
 use Rattle.format.specs.Framing.{frameWith, frame, sextet}
-use Rattle.format.specs.Judging.{andThen, unless, behind, hasLead, judgeKind, ownCheck}
+use Rattle.format.specs.Judging.{andThen, unless, isShortest, behind, hasLead, judgeKind, ownCheck}
 use Rattle.format.specs.Values.{rawStart, tagOf}
 use Rattle.format.specs.Reading.{Reading, isPrimitive, primitiveOf, judged, readFramed, reading, padded}
 use Rattle.format.specs.Reading.Reading.{refused, found}
@@ -94,7 +94,8 @@ pub led : (k : Kind) (h : ℕ) (s : List ℕ) → judgeKind k h s (ownCheck 0) �
 unfolding judgeKind hasLead
 led (Fixed c) h s e = tt
 led (Variable t l m) h s e =
-    let nine = unless-true 9 _ (first-accepts _ _ (first-accepts (behind h s) _ e .1) .0) in
+    let short = first-accepts (unless 18 (isShortest h m)) _ (first-accepts (behind h s) _ e .1) in
+    let nine = unless-true 9 _ (first-accepts _ _ (short .1) .0) in
     λ p. ltb-true 0 m (rw (lt-ltb 0 l p) at nine)
 led (Group l) h s e = tt
 led Genus h s e = tt
