@@ -19,7 +19,7 @@ use Rattle.format.specs.Values.{tagOf}
 use Rattle.format.specs.Reading.{Reading, primitiveOf, readFramed, reading, from, placeFrom, padded}
 use Rattle.format.specs.Reading.{binaryAnswer, readBinary}
 use Rattle.format.specs.Reading.Reading.{refused, found}
-use Rattle.framing.specs.Heads.{headOf}
+use Rattle.framing_head.specs.Heads.{headOf}
 use Rattle.framing.proofs.Laws.{binary-units}
 use Rattle.reading_item.specs.Tags.{Taggable}
 use Rattle.reading_part.specs.Outcome.{outcome}

@@ -30,8 +30,8 @@ fn binary_found(part: &[u8], kind: Kind, head: usize, size: usize) -> BinaryRead
     ensures { λ r. ⌜ r ≡ binaryAnswer 0 (found kind head size) (binarySextets (now (part .entry))) ⌝ }
 {
     let p = reading_item::primitive_of(kind, head, size);
-    let cs = framing::binary_head(part);
-    let own = judging::within(cs, size);
+    let cs = framing_head::binary_head(part);
+    let own = framing_head::within(cs, size);
     let tag = reading_item::tag_of(kind, own);
     BinaryRead {
         found: BinaryFound::Found(p),

@@ -27,9 +27,9 @@ use Rattle.format.specs.Reading.{Reading, isPrimitive, primitiveOf, judged, rea
 use Rattle.format.specs.Reading.Reading.{refused, found}
 use Rattle.laws.specs.Framing.{Lawful, Good, Shaped, frame-good}
 use Rattle.laws.specs.Values.{Led, raw-inside}
-use Rattle.framing.specs.Heads.{headOf}
-use Rattle.framing.proofs.Laws.{head-at, head-length}
-use Rattle.judging.proofs.Laws.{within-head}
+use Rattle.framing_head.specs.Heads.{headOf}
+use Rattle.framing_head.proofs.Laws.{head-at, head-length}
+use Rattle.framing_head.proofs.Laws.{within-head}
 use Rattle.reading_item.specs.Tags.{Taggable}
 use Rattle.reading_part.specs.Outcome.{outcome}
 

@@ -19,7 +19,7 @@ use Rattle.format.specs.Registry.{opening}
 use Rattle.format.specs.Framing.{frame, frameWith}
 use Rattle.format.specs.Judging.{behind, judgeKind, ownCheck}
 use Rattle.format.specs.Reading.{isPrimitive, judged, readFramed, reading}
-use Rattle.framing.specs.Heads.{headOf}
+use Rattle.framing_head.specs.Heads.{headOf}
 use Rattle.framing.proofs.Laws.{framed-text, framed-binary, lawful, text-units, binary-units}
 use Rattle.judging.specs.Own.{toldBy, ownBy}
 use Rattle.judging.proofs.Laws.{own-text-judged, own-binary-judged}

@@ -8,7 +8,7 @@ ghost use Rattle.reading_part.specs.Outcome.{outcome};
 pub fn of_text(part: &[u8]) -> Framed
     ensures { λ r. ⌜ r ≡ outcome (reading (textSextets (now (part .entry)))) ⌝ }
 {
-    let cs = framing::text_head(part);
+    let cs = framing_head::text_head(part);
     let framed = framing::frame_head(cs, part.len() / 4);
     match framed {
         Framed::Unframed {
@@ -22,7 +22,7 @@ pub fn of_text(part: &[u8]) -> Framed
                     place: 0,
                 };
             }
-            let own = judging::within(cs, size);
+            let own = framing_head::within(cs, size);
             let end = 4 * size;
             let v = judging::own_text(kind, head, size, own, &part[..end], 0);
             judging::told(framed, v)
@@ -33,7 +33,7 @@ pub fn of_text(part: &[u8]) -> Framed
 pub fn of_binary(part: &[u8]) -> Framed
     ensures { λ r. ⌜ r ≡ outcome (reading (binarySextets (now (part .entry)))) ⌝ }
 {
-    let cs = framing::binary_head(part);
+    let cs = framing_head::binary_head(part);
     let framed = framing::frame_head(cs, part.len() / 3);
     match framed {
         Framed::Unframed {
@@ -47,7 +47,7 @@ pub fn of_binary(part: &[u8]) -> Framed
                     place: 0,
                 };
             }
-            let own = judging::within(cs, size);
+            let own = framing_head::within(cs, size);
             let v = judging::own_binary(kind, head, size, own, 0);
             judging::told(framed, v)
         }

@@ -20,7 +20,7 @@ use Rattle.format.specs.Values.{rawStart, tagOf}
 use Rattle.format.specs.Reading.{primitiveOf, readFramed, reading, from, placeFrom, padded, textAnswer, readText, textRaw, rawLeft}
 use Rattle.format.specs.Reading.Reading.{found}
 use Rattle.laws.specs.Values.{text-raw}
-use Rattle.framing.specs.Heads.{headOf}
+use Rattle.framing_head.specs.Heads.{headOf}
 use Rattle.framing.proofs.Laws.{text-units}
 use Rattle.reading_item.specs.Tags.{Taggable}
 use Rattle.reading_raw.specs.Raw.{Fit, rawInto}

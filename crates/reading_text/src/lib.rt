@@ -34,8 +34,8 @@ fn text_found(part: &[u8], kind: Kind, head: usize, size: usize, out: &mut [u8])
     if out.len() < p.raw {
         return no_text(3, 0);
     }
-    let cs = framing::text_head(part);
-    let own = judging::within(cs, size);
+    let cs = framing_head::text_head(part);
+    let own = framing_head::within(cs, size);
     let tag = reading_item::tag_of(kind, own);
     let end = 4 * size;
     reading_raw::copy_raw(&part[..end], p.start, out);

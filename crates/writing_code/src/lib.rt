@@ -174,6 +174,9 @@ pub fn is_short(n: Named, raw: usize) -> bool
     match n {
         Named::Unknown => true,
         Named::Row(_) => true,
-        Named::Variable { letter: _, head } => judging::is_shortest(wide(head), count_for(raw)),
+        Named::Variable { letter: _, head } => judging_header::is_shortest(
+            wide(head),
+            count_for(raw),
+        ),
     }
 }

@@ -6,10 +6,10 @@ use Rattle.judging.proofs.own_binary.Statement.{statement}
 use Rattle.judging.proofs.own_binary.Tie as tie
 use Rattle.judging.proofs.own_binary.Reads as reads
 use Rattle.judging.proofs.own_binary.Lts as lts
-use Rattle.judging.proofs.fixed_checks.Reads as fixed-checks-reads
-use Rattle.judging.proofs.group_checks.Reads as group-checks-reads
-use Rattle.judging.proofs.units_behind.Reads as units-behind-reads
-use Rattle.judging.proofs.variable_checks.Reads as variable-checks-reads
+use Rattle.judging_header.proofs.fixed_checks.Reads as fixed-checks-reads
+use Rattle.judging_header.proofs.group_checks.Reads as group-checks-reads
+use Rattle.judging_header.proofs.units_behind.Reads as units-behind-reads
+use Rattle.judging_header.proofs.variable_checks.Reads as variable-checks-reads
 
 enum-known-kind : tie.Need-enum-known-kind
 enum-known-kind c = search needs

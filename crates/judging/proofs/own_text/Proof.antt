@@ -8,10 +8,10 @@ use Rattle.judging.proofs.own_text.Reads as reads
 use Rattle.judging.proofs.own_text.Lts as lts
 use Rattle.judging.proofs.after.Reads as after-reads
 use Rattle.judging.proofs.behind_text.Reads as behind-text-reads
-use Rattle.judging.proofs.fixed_checks.Reads as fixed-checks-reads
-use Rattle.judging.proofs.group_checks.Reads as group-checks-reads
-use Rattle.judging.proofs.units_behind.Reads as units-behind-reads
-use Rattle.judging.proofs.variable_checks.Reads as variable-checks-reads
+use Rattle.judging_header.proofs.fixed_checks.Reads as fixed-checks-reads
+use Rattle.judging_header.proofs.group_checks.Reads as group-checks-reads
+use Rattle.judging_header.proofs.units_behind.Reads as units-behind-reads
+use Rattle.judging_header.proofs.variable_checks.Reads as variable-checks-reads
 use Rattle.registry.proofs.is_opaque.Reads as is-opaque-reads
 
 enum-known-kind : tie.Need-enum-known-kind

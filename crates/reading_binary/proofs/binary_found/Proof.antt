@@ -5,8 +5,8 @@ use Rattle.reading_binary.proofs.binary_found.Statement.{statement}
 use Rattle.reading_binary.proofs.binary_found.Tie as tie
 use Rattle.reading_binary.proofs.binary_found.Reads as reads
 use Rattle.reading_binary.proofs.binary_found.Lts as lts
-use Rattle.framing.proofs.binary_head.Reads as binary-head-reads
-use Rattle.judging.proofs.within.Reads as within-reads
+use Rattle.framing_head.proofs.binary_head.Reads as binary-head-reads
+use Rattle.framing_head.proofs.within.Reads as within-reads
 use Rattle.reading_item.proofs.primitive_of.Reads as primitive-of-reads
 use Rattle.reading_item.proofs.tag_of.Reads as tag-of-reads
 

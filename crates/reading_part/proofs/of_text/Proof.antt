@@ -5,9 +5,9 @@ use Rattle.reading_part.proofs.of_text.Tie as tie
 use Rattle.reading_part.proofs.of_text.Reads as reads
 use Rattle.reading_part.proofs.of_text.Lts as lts
 use Rattle.framing.proofs.frame_head.Reads as frame-head-reads
-use Rattle.framing.proofs.text_head.Reads as text-head-reads
+use Rattle.framing_head.proofs.text_head.Reads as text-head-reads
 use Rattle.judging.proofs.own_text.Reads as own-text-reads
-use Rattle.judging.proofs.within.Reads as within-reads
+use Rattle.framing_head.proofs.within.Reads as within-reads
 use Rattle.reading_item.proofs.is_primitive.Reads as is-primitive-reads
 use Rattle.judging.proofs.told.Reads as told-reads
 

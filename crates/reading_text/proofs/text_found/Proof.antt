@@ -9,8 +9,8 @@ use Rattle.reading_text.proofs.text_found.Statement.{statement}
 use Rattle.reading_text.proofs.text_found.Tie as tie
 use Rattle.reading_text.proofs.text_found.Reads as reads
 use Rattle.reading_text.proofs.text_found.Lts as lts
-use Rattle.framing.proofs.text_head.Reads as text-head-reads
-use Rattle.judging.proofs.within.Reads as within-reads
+use Rattle.framing_head.proofs.text_head.Reads as text-head-reads
+use Rattle.framing_head.proofs.within.Reads as within-reads
 use Rattle.reading_text.proofs.no_text.Reads as no-text-reads
 use Rattle.reading_item.proofs.primitive_of.Reads as primitive-of-reads
 use Rattle.reading_item.proofs.tag_of.Reads as tag-of-reads

@@ -8,7 +8,7 @@ use Rattle.writing_code.proofs.is_short.Reads as reads
 use Rattle.writing_code.proofs.is_short.Lts as lts
 use Rattle.writing_code.proofs.count_for.Reads as count-for-reads
 use Rattle.writing_code.proofs.wide.Reads as wide-reads
-use Rattle.judging.proofs.is_shortest.Reads as is-shortest-reads
+use Rattle.judging_header.proofs.is_shortest.Reads as is-shortest-reads
 
 enum-told : tie.Need-enum-told
 enum-told c = search needs
