@@ -184,7 +184,7 @@ fn variable_checks(lead: u8, count: usize, h: usize, cs: [u8; 12]) -> Verdict
     Verdict::Accepted
 }
 
-// ---- 5 behind the header, in text
+// ---- 5 or 19 behind the header, in text
 
 fn behind_text(item: &[u8], h: usize) -> Verdict
     ensures { λ r. ⌜ r ≡ behind h (textSextets (now (item .entry))) ⌝ }
@@ -193,10 +193,9 @@ fn behind_text(item: &[u8], h: usize) -> Verdict
         let from = 4 * h;
         let bad = alphabet::first_stranger(&item[from..]);
         if bad < item.len() - from {
-            return Verdict::Refused {
-                number: 5,
-                place: from + bad,
-            };
+            let place = from + bad;
+            let number = alphabet::number_at(item, place);
+            return Verdict::Refused { number, place };
         }
     }
     Verdict::Accepted

@@ -7,6 +7,7 @@ use Rattle.writing_plan.proofs.refusal_of.Statement.{statement}
 use Rattle.writing_plan.proofs.refusal_of.Tie as tie
 use Rattle.writing_plan.proofs.refusal_of.Reads as reads
 use Rattle.writing_plan.proofs.refusal_of.Lts as lts
+use Rattle.alphabet.proofs.number_at.Reads as number-at-reads
 use Rattle.writing_code.proofs.is_fit.Reads as is-fit-reads
 use Rattle.writing_code.proofs.is_named.Reads as is-named-reads
 use Rattle.writing_plan.proofs.tag_stranger.Reads as tag-stranger-reads
@@ -27,9 +28,18 @@ returns-2 c =
 tag-stranger-requires : tie.Need-tag-stranger-requires
 tag-stranger-requires c κs = search needs
 
+slice-aggregate-number-at : tie.Need-slice-aggregate-number-at
+slice-aggregate-number-at c = search needs
+
+number-at-requires : tie.Need-number-at-requires
+number-at-requires c κs = search needs
+
 returns-3 : tie.Need-returns-3
 returns-3 c =
-    is-strange _ _ _ _ (sym (c .before .before .before .before .before .is-named .ensures) ∙ not-false _ (c .before .before .before .before .if1 .left)) (sym (c .before .before .before .is-fit .ensures) ∙ not-false _ (c .before .before .if2 .left)) _ (c .before .tag-stranger .ensures) (c .if3 .taken)
+    let d = c .before .before in
+    let e = d .before .before .before in
+    rw (c .number-at .ensures)
+    (is-strange _ _ _ _ (sym (e .before .before .is-named .ensures) ∙ not-false _ (e .before .if1 .left)) (sym (e .is-fit .ensures) ∙ not-false _ (d .before .before .if2 .left)) _ (d .before .tag-stranger .ensures) (d .if3 .taken))
 
 returns-4 : tie.Need-returns-4
 returns-4 c =
@@ -44,5 +54,7 @@ refusal-of-spec =
     is-fit-requires
     returns-2
     tag-stranger-requires
+    slice-aggregate-number-at
+    number-at-requires
     returns-3
     returns-4)
