@@ -7,6 +7,7 @@ use Rattle.format.specs.Conversion.{binaryLeft}
 use Rattle.laws.specs.Offsets.{in-binary-is}
 use Rattle.convert_pack.proofs.Left.{stranger-left, no-room-left, written-left}
 use Rattle.convert.proofs.Answers.{text-long, text-torn, text-stranger, text-no-room, text-converted}
+use Rattle.alphabet.proofs.number_at.Reads as number-at-reads
 use borrow.Author.Needs.{needs}
 use Rattle.convert.proofs.text_to_binary.Statement.{statement}
 use Rattle.convert.proofs.text_to_binary.Tie as tie
@@ -22,14 +23,18 @@ returns-2 c = (sym (text-torn _ _ (omega arith) (omega arith)), refl)
 to-binary-requires : tie.Need-to-binary-requires
 to-binary-requires c κs = search needs
 
+number-at-requires : tie.Need-number-at-requires
+number-at-requires c κs = search needs
+
 same-length : tie.Need-same-length
 same-length c = search needs
 
 returns-3 : tie.Need-returns-3
 unfolding binaryLeft
 returns-3 c =
-    let b = c .before .before .before .to-binary in
-    (sym (text-stranger _ _ (omega arith) (omega arith) _ (b .ensures .0) (omega arith)), b .ensures .1 ∙ stranger-left _ _ (omega arith))
+    let b = c .before .before .before .before .to-binary in
+    let told = sym (text-stranger _ _ (omega arith) (omega arith) _ (b .ensures .0) (omega arith)) in
+    (rw (c .number-at .ensures) told, b .ensures .1 ∙ stranger-left _ _ (omega arith))
 
 in-binary-requires : tie.Need-in-binary-requires
 in-binary-requires c κs = search needs
@@ -65,6 +70,7 @@ text-to-binary-spec =
     returns
     returns-2
     to-binary-requires
+    number-at-requires
     same-length
     returns-3
     in-binary-requires
