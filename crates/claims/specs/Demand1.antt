@@ -407,13 +407,13 @@ demand1 = record {
   read-binary-accepts = λ s at q e.
       by-none (C.readBinaryRules s at) (subst (By (C.readBinaryRules s at)) (ap toldBinaryFound e) (binary-read s at));
   write-text = λ code tag tags raw d m p e. (
-    refusal _ _ m (λ z. z) (inl tt & inl tt & inl tt & inl tt & inl tt & end)
+    refusal _ _ m (λ z. z) (inl tt & inl tt & inl tt & inl tt & inl tt & inl tt & end)
         (by-first _ m (subst (By _) (ap toldTextWritten e) (write-text code tag tags raw (length d)))),
     rw e,
   );
   write-text-accepts = λ code tag tags raw d n e. by-none _ (subst (By _) (ap toldTextWritten e) (write-text code tag tags raw (length d)));
   write-binary = λ code tag tags raw d m p e. (
-    refusal _ _ m (λ z. z) (inl tt & inl tt & inl tt & inl tt & inl tt & end)
+    refusal _ _ m (λ z. z) (inl tt & inl tt & inl tt & inl tt & inl tt & inl tt & end)
         (by-first _ m (subst (By _) (ap toldBinaryWritten e) (write-binary code tag tags raw (length d)))),
     rw e,
   );

@@ -171,8 +171,10 @@ writing-masked u n tag tags raw room =
     rw (← map-take mask tags tag, stranger-masked (take tags tag), number-masked (take tags tag))
     (pick-to writingFive (W.isNamed n) _ _ _ _
     (λ _. pick-to writingFive (W.isFit n tags raw) _ _ _ _
+    (λ _. pick-to writingFive (W.isShort n raw) _ _ _ _
     (λ _. pick-to writingFive (ltb (firstStranger (take tags tag)) tags) _ _ _ _ (λ _. refl)
     (λ _. pick-to writingFive (ltb room (W.unitsOf n raw * u)) _ _ _ _ (λ _. refl) (λ _. refl)))
+    (λ _. refl))
     (λ _. refl))
     (λ _. refl))
 

@@ -233,9 +233,11 @@ module _ (code : Code) (tag : List ℕ) (tags : ℕ) (raw : List ℕ) (room : �
   writing-on u =
       pick-by WritingOn (W.isNamed (W.named code)) _ _
       (λ _. pick-by WritingOn (W.isFit (W.named code) tags (length raw)) _ _
+      (λ _. pick-by WritingOn (W.isShort (W.named code) (length raw)) _ _
       (λ _. pick-by WritingOn (ltb (firstStranger (take tags tag)) tags) _ _
       (λ b e. ap (λ (c : ℕ). strangerNumber (sextetOf c)) (getD-take tags tag (firstStranger (take tags tag)) 0 (ltb-true _ tags b)))
       (λ _. pick-by WritingOn (ltb room (W.unitsOf (W.named code) (length raw) * u)) _ _ (λ _ e. absurd (omega arith)) (λ _. tt)))
+      (λ _ e. absurd (omega arith)))
       (λ _ e. absurd (omega arith)))
       (λ _ e. absurd (omega arith))
 

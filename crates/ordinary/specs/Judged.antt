@@ -88,7 +88,9 @@ kind-five (Fixed c) h s go low g =
     (λ a. rw (whole h s low a) (then-five _ _ _ _ (unless-five 8 _ (λ e. omega arith)) (λ _. unless-five 10 _ (λ e. omega arith))))
 kind-five (Variable t l m) h s go low g =
     then-five _ _ _ _ (behind-five h s)
-    (λ a. rw (whole h s low a) (then-five _ _ _ _ (unless-five 9 _ (λ e. omega arith)) (λ _. unless-five 8 _ (λ e. omega arith))))
+    (λ a. rw (whole h s low a)
+    (then-five _ _ _ _ (unless-five 18 _ (λ e. omega arith))
+    (λ _. then-five _ _ _ _ (unless-five 9 _ (λ e. omega arith)) (λ _. unless-five 8 _ (λ e. omega arith)))))
 kind-five (Group l) h s go low g = rw (← map-drop plain (4 * h) s) (g l h (drop (4 * h) s))
 kind-five Genus h s go low g = refl
 
@@ -152,7 +154,10 @@ turn-five j h (item i c) =
 pub check-five : (l : ℕ) → Inner (ownCheck l)
 unfolding ownCheck verdictFive asFive
 check-five zero letter h ys = refl
-check-five (suc l) letter h ys = pick-to verdictFive (isOpaque letter) _ _ _ _ (λ _. rw (scan-five ys) (shift-five (4 * h) (scan ys))) (λ _. refl)
+check-five (suc l) letter h ys =
+    rw (length-map ys plain)
+    (then-five _ _ _ _ (unless-five 18 _ (λ e. omega arith))
+    (λ _. pick-to verdictFive (isOpaque letter) _ _ _ _ (λ _. rw (scan-five ys) (shift-five (4 * h) (scan ys))) (λ _. refl)))
 
 judge-by-five : (go : ℕ → ℕ → List ℕ → Verdict) → Inner go → (s : List ℕ)
     → judgeBy (frame (map plain s)) (map plain s) go ≡ verdictFive (judgeBy (frame s) s go)

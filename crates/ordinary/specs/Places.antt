@@ -212,7 +212,8 @@ kind-on (Fixed c) h s go g =
     (then-on own s _ _ (unless-on own s 8 _ (λ e. omega arith)) (unless-on own s 10 _ (λ e. omega arith)))
 kind-on (Variable t l m) h s go g =
     then-on own s _ _ (behind-on h s)
-    (then-on own s _ _ (unless-on own s 9 _ (λ e. omega arith)) (unless-on own s 8 _ (λ e. omega arith)))
+    (then-on own s _ _ (unless-on own s 18 _ (λ e. omega arith))
+    (then-on own s _ _ (unless-on own s 9 _ (λ e. omega arith)) (unless-on own s 8 _ (λ e. omega arith))))
 kind-on (Group l) h s go g = g l h s
 kind-on Genus h s go g = tt
 
@@ -237,7 +238,8 @@ pub check-on : (l : ℕ) → Inner (ownCheck l)
 unfolding ownCheck isOther asFive
 check-on zero letter h s = other own 11 s 0 (λ e. omega arith)
 check-on (suc l) letter h s =
-    pick-by (On own s) (isOpaque letter) _ Accepted (λ _. on-behind own (4 * h) s (scan (drop (4 * h) s)) (scan-on (drop (4 * h) s))) (λ _. tt)
+    then-on own s _ _ (unless-on own s 18 _ (λ e. omega arith))
+    (pick-by (On own s) (isOpaque letter) _ Accepted (λ _. on-behind own (4 * h) s (scan (drop (4 * h) s)) (scan-on (drop (4 * h) s))) (λ _. tt))
 
 group-on : (l : ℕ) → Inner (group l)
 unfolding group

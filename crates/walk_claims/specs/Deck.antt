@@ -113,7 +113,7 @@ pub data Steps : List Asked → Type 0 where
 
 pub steps-hold : Steps steps
 unfolding stepped steps
-steps-hold = refl & refl & refl & refl & refl & refl & refl & refl & refl & refl & refl & refl & refl & refl & refl & refl & refl & refl & refl & refl & refl & refl & refl & refl & refl & refl & refl & refl & refl & refl & refl & refl & refl & refl & refl & refl & refl & refl & refl & refl & refl & refl & end
+steps-hold = refl & refl & refl & refl & refl & refl & refl & refl & refl & refl & refl & refl & refl & refl & refl & refl & refl & refl & refl & refl & refl & refl & refl & refl & refl & refl & refl & refl & refl & refl & refl & refl & refl & refl & refl & refl & refl & refl & refl & refl & refl & refl & refl & refl & refl & refl & refl & refl & end
 
 -- 02 h: "`--AAABAA` with its 4,096 units still passes": it is opened, and marks. Its item is `4B__` and 4,095 units
 pub large-opens : stepped text (45 ∷ 45 ∷ 65 ∷ 65 ∷ 65 ∷ 66 ∷ 65 ∷ 65 ∷ 52 ∷ 66 ∷ 95 ∷ 95 ∷ replicate 16380 65) start
