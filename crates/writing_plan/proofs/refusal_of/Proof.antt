@@ -1,6 +1,8 @@
 -- `writing_plan::refusal_of` meets its contract: the first test that fails. Assumes nothing.
-use mathlib.Core.Path.{sym, _∙_}
+use Prim.Native.Nat.{ℕ}
+use mathlib.Core.Path.{ap, sym, _∙_}
 use borrow.Author.Tests.{not-true, not-false}
+use Rattle.writing_plan.specs.Plan.{refusal}
 use Rattle.writing_plan.proofs.Refusals.{is-unknown, is-unfit, is-strange, is-none}
 use borrow.Author.Needs.{needs}
 use Rattle.writing_plan.proofs.refusal_of.Statement.{statement}
@@ -38,8 +40,8 @@ returns-3 : tie.Need-returns-3
 returns-3 c =
     let d = c .before .before in
     let e = d .before .before .before in
-    rw (c .number-at .ensures)
-    (is-strange _ _ _ _ (sym (e .before .before .is-named .ensures) ∙ not-false _ (e .before .if1 .left)) (sym (e .is-fit .ensures) ∙ not-false _ (d .before .before .if2 .left)) _ (d .before .tag-stranger .ensures) (d .if3 .taken))
+    ap (λ (m : ℕ). refusal m (d .before .tag-stranger .result)) (c .number-at .ensures)
+    ∙ is-strange _ _ _ _ (sym (e .before .before .is-named .ensures) ∙ not-false _ (e .before .if1 .left)) (sym (e .is-fit .ensures) ∙ not-false _ (d .before .before .if2 .left)) _ (d .before .tag-stranger .ensures) (d .if3 .taken)
 
 returns-4 : tie.Need-returns-4
 returns-4 c =
