@@ -1,8 +1,9 @@
 -- `text_to_binary` meets its contract. Assumes nothing.
 use mathlib.Core.Path.{refl, ap, sym, _∙_}
+use Prim.Native.Nat.{ℕ}
 use native.Mathlib.Omega.{arith}
 use Rattle.format.specs.declared.ToBinary.the-variants as B
-use Rattle.format.specs.Offsets.{offsetInBinary}
+use Rattle.format.specs.Offsets.{textOffset, offsetInBinary}
 use Rattle.format.specs.Conversion.{binaryLeft}
 use Rattle.laws.specs.Offsets.{in-binary-is}
 use Rattle.convert_pack.proofs.Left.{stranger-left, no-room-left, written-left}
@@ -32,9 +33,10 @@ same-length c = search needs
 returns-3 : tie.Need-returns-3
 unfolding binaryLeft
 returns-3 c =
-    let b = c .before .before .before .before .to-binary in
-    let told = sym (text-stranger _ _ (omega arith) (omega arith) _ (b .ensures .0) (omega arith)) in
-    (rw (c .number-at .ensures) told, b .ensures .1 ∙ stranger-left _ _ (omega arith))
+    let b = c .before .before .before .before .to-binary in (
+      ap (λ (m : ℕ). B.Refused m (textOffset (b .result))) (c .number-at .ensures) ∙ sym (text-stranger _ _ (omega arith) (omega arith) _ (b .ensures .0) (omega arith)),
+      b .ensures .1 ∙ stranger-left _ _ (omega arith),
+    )
 
 in-binary-requires : tie.Need-in-binary-requires
 in-binary-requires c κs = search needs

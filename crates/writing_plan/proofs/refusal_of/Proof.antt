@@ -1,6 +1,8 @@
 -- `writing_plan::refusal_of` meets its contract: the first test that fails. Assumes nothing.
-use mathlib.Core.Path.{sym, _∙_}
+use Prim.Native.Nat.{ℕ}
+use mathlib.Core.Path.{ap, sym, _∙_}
 use borrow.Author.Tests.{not-true, not-false}
+use Rattle.writing_plan.specs.Plan.{refusal}
 use Rattle.writing_plan.proofs.Refusals.{is-unknown, is-unfit, is-long, is-strange, is-none}
 use borrow.Author.Needs.{needs}
 use Rattle.writing_plan.proofs.refusal_of.Statement.{statement}
@@ -48,11 +50,11 @@ returns-4 : tie.Need-returns-4
 returns-4 c =
     let d = c .before .before in
     let b = d .before .before .before .before .before in
-    rw (c .number-at .ensures)
-    (is-strange _ _ _ _ (sym (b .before .before .is-named .ensures) ∙ not-false _ (b .before .if1 .left))
+    ap (λ (m : ℕ). refusal m (d .before .tag-stranger .result)) (c .number-at .ensures)
+    ∙ is-strange _ _ _ _ (sym (b .before .before .is-named .ensures) ∙ not-false _ (b .before .if1 .left))
     (sym (b .is-fit .ensures) ∙ not-false _ (d .before .before .before .before .if2 .left))
     (sym (d .before .before .before .is-short .ensures) ∙ not-false _ (d .before .before .if3 .left)) _ (d .before .tag-stranger .ensures)
-    (d .if4 .taken))
+    (d .if4 .taken)
 
 returns-5 : tie.Need-returns-5
 returns-5 c =
