@@ -3,8 +3,9 @@
  * Terms. T is text, in characters of URL-safe Base64; B is binary, in bytes. A unit is 4 characters in T, 3 bytes in B. Every call
  * returns a number: 0 for accepted, or one of the numbers below for refused. A refused call writes to no buffer, tag, info, item or
  * state: it writes only the place behind `answer`. An accepted call writes its answer from the buffer's start; bytes behind it stay.
- * The place is the character for 5, else the item's start; 0 for 1, 2, 3, 12, 13 and for a writer's 6 and 18, and for a writer's 5 the
- * index among the tag characters. Places, offsets and lengths count characters in T and bytes in B.
+ * The place is the character for 5 and 19, else the item's start; 0 for 1, 2, 3, 12, 13 and for a writer's 6 and 18, and for a writer's
+ * 5 and 19 the index among the tag characters. Places, offsets and lengths count characters in T and bytes in B. Where 5 stands in the
+ * order of a call, the first character outside the alphabet gives 5 or 19.
  *
  * What the caller ensures: no pointer is null, also where its length is 0; what is written (buffer, tag, info, item, state, answer)
  * overlaps nothing else that the call is given; each length is that of the memory behind its pointer. The library keeps nothing
@@ -25,7 +26,7 @@ enum cesr_number {
     CESR_NOT_WHOLE_UNITS = 2,     /* whole-stream conversion: not whole units */
     CESR_ROOM = 3,                /* output room too small */
     CESR_PAST_END = 4,            /* header or full size passes the end of stream or enclosing group */
-    CESR_CHARACTER = 5,           /* character outside the alphabet (in T, or a tag character given to a writer) */
+    CESR_CHARACTER = 5,           /* character outside the alphabet but + / = (in T, or a tag character given to a writer) */
     CESR_UNKNOWN_CODE = 6,        /* code unknown or reserved */
     CESR_GENUS_VERSION = 7,       /* genus/version required but not AAACAA */
     CESR_NOT_ZERO = 8,            /* pad bit or lead byte not zero */
@@ -36,6 +37,7 @@ enum cesr_number {
     CESR_UNFIT_STATE = 13,        /* walk state unfit for the stream */
     CESR_NOT_A_PRIMITIVE = 14,    /* primitive asked for, group or genus/version found */
     CESR_NOT_SHORT = 18,          /* large variable code or large group whose size fits the small code */
+    CESR_ORDINARY_BASE64 = 19,    /* + / or = of ordinary Base64 (in T, or a tag character given to a writer) */
     CESR_END = 255                /* the walk alone: the end of the stream */
 };
 

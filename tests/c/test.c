@@ -48,6 +48,7 @@ static const uint8_t REST_4[] = {0, 0, 0, 0, 0, 0, 0, 0, 0, 0, 0, 1, 0, 0, 0, 0,
 static const uint8_t REST_6[] = {0, 0, 0, 0, 0, 0, 0, 0, 0, 0, 0, 1, 0, 0, 0, 0, 6};
 static const uint8_t INNER_7[] = {0, 0, 0, 1, 0, 0, 0, 0, 0, 0, 0, 12, 7, 0, 0, 0, 1, 0, 0, 0, 0, 7, 0, 0, 0, 4, 0, 0, 0, 0};
 static const uint8_t REFUSED_18[] = {0, 0, 0, 1, 0, 0, 0, 0, 0, 0, 0, 12, 18, 0, 0, 0, 1, 0, 0, 0, 0, 18, 0, 0, 0, 0, 0, 0, 0, 0};
+static const uint8_t REST_19[] = {0, 0, 0, 0, 0, 0, 0, 0, 0, 0, 0, 1, 0, 0, 0, 0, 19};
 static const uint8_t NOTHING[12] = {0};
 /* `-AAB0AAAMAAB`: 00000002, 00000000 00000008 04, 00000008 00000004 00; 00000001, 00000000 04 00000004; 00000000. */
 static const uint8_t LONG[] = {0, 0, 0, 2, 0, 0, 0, 0, 0, 0, 0, 8, 4, 0, 0, 0, 8, 0, 0, 0,
@@ -76,6 +77,7 @@ static void reports(void) {
     report("-AAC-_AAABAA", 1, INNER_7, sizeof INNER_7);
     report("-AAB0AAAMAAB", 2, LONG, sizeof LONG);
     report("--JAAAABMAAB", 1, REFUSED_18, sizeof REFUSED_18);
+    report("MA+!", 0, REST_19, sizeof REST_19);
 }
 
 static void binary_report(void) {
@@ -120,7 +122,8 @@ static void conversion(void) {
     check(memcmp(out, "1AAM", 4) == 0 && held(out, 4, ROOM), "1AAM", "D4000C");
     memset(out, HELD, ROOM);
     check(cesr_text_to_binary(bytes("MAABM"), 5, out, ROOM, &answer) == 2 && answer == 0, "2 at 0", "MAABM");
-    check(cesr_text_to_binary(bytes("MAABMA=B"), 8, out, ROOM, &answer) == 5 && answer == 6, "5 at 6", "MAABMA=B");
+    check(cesr_text_to_binary(bytes("MAABMA!="), 8, out, ROOM, &answer) == 5 && answer == 6, "5 at 6", "MAABMA!=");
+    check(cesr_text_to_binary(bytes("MAABMA=!"), 8, out, ROOM, &answer) == CESR_ORDINARY_BASE64 && answer == 6, "19 at 6", "MAABMA=!");
     check(cesr_text_to_binary(bytes("MAAB"), 4, out, 2, &answer) == 3 && answer == 0, "3 at 0", "MAAB");
     check(cesr_binary_to_text(told, 3, out, 3, &answer) == 3 && answer == 0, "3 at 0", "D4000C");
     check(held(out, 0, ROOM), "refusals leave the buffer", "conversion");
@@ -172,6 +175,8 @@ static void reading(void) {
     not_read("MAAB", 4, 4, 4);
     not_read("MAABb!!A", 4, 5, 5);
     not_read("MAAB8AABAAAA", 4, CESR_NOT_SHORT, 4);
+    not_read("MAABb+!A", 4, CESR_ORDINARY_BASE64, 5);
+    not_read("0HAA!/AA", 0, CESR_CHARACTER, 4);
     check(cesr_read_text(bytes("0J_A"), 4, 0, out, 0, tag, info, &answer) == 0 && info[5] == 1, "one tag character", "0J_A");
     check(memcmp(tag, tagged, 11) == 0, "tag A, unused places 0", "0J_A");
     check(cesr_read_binary(binary, 3, 0, tag, info, &answer) == 0 && answer == 2, "read accepted", "586869");
@@ -180,7 +185,7 @@ static void reading(void) {
 }
 
 static void writing(void) {
-    static const uint8_t tag[11] = {'A', '!'};
+    static const uint8_t tag[11] = {'A', '!'}, ordinary[11] = {'A', '/', '!'};
     uint8_t out[ROOM];
     size_t answer = 99;
     memset(out, HELD, ROOM);
@@ -197,6 +202,7 @@ static void writing(void) {
     check(cesr_write_text(1, 'W', tag, 0, bytes("h"), 1, out, ROOM, &answer) == 12 && answer == 0, "12 at 0", "W");
     check(cesr_write_text(2, 'J', tag, 12, bytes(""), 0, out, ROOM, &answer) == 12 && answer == 0, "12 at 0", "0J");
     check(cesr_write_text(2, 'K', tag, 2, bytes(""), 0, out, ROOM, &answer) == 5 && answer == 1, "5 at 1", "0K");
+    check(cesr_write_text(1, 'X', ordinary, 3, bytes(""), 0, out, ROOM, &answer) == CESR_ORDINARY_BASE64 && answer == 1, "19 at 1", "X");
     check(cesr_write_text(6, 'B', tag, 0, bytes("hi"), 2, out, 0, &answer) == CESR_NOT_SHORT && answer == 0, "18 at 0", "8AAB");
     check(cesr_write_binary(6, 'B', tag, 0, bytes(""), 0, out, 0, &answer) == CESR_NOT_SHORT && answer == 0, "18 at 0", "7AAB");
     check(cesr_write_text(1, 'W', tag, 0, bytes("hi"), 2, out, 3, &answer) == 3 && answer == 0, "3 at 0", "W");
@@ -236,6 +242,7 @@ static void walking(void) {
     no_step("-AAC-_AAABAA", state, 7, 4);
     memset(state, 0, sizeof state);
     no_step("--AAAAABMAAB", state, CESR_NOT_SHORT, 0);
+    no_step("-KAB_A=!", state, CESR_ORDINARY_BASE64, 6);
     step("-JAC--AAAAAA", state, 0, 12, 0, 7, 'J');
     no_step("-JAC--AAAAAA", state, CESR_NOT_SHORT, 4);
     memset(state, 0, sizeof state);

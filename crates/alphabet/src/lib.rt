@@ -1,12 +1,12 @@
-// The URL-safe Base64 alphabet: characters to sextets and back, and the search for a character outside it.
+// The URL-safe Base64 alphabet: characters to sextets and back, the search for a character outside it, and such a character's number.
 ghost use mathlib.Core.Path.{_≡_};
 ghost use Prim.Native.Nat.{_+_, _-_, _≤_, min};
 ghost use lib.Dec.{eqb, leb, ltb};
 ghost use lib.ListN.{length, getD, drop};
-ghost use Rattle.format.specs.Alphabet.{sextetOf, charOf, sextetTable, characterTable};
+ghost use Rattle.format.specs.Alphabet.{sextetOf, strangerNumber, charOf, sextetTable, characterTable};
 ghost use Rattle.format.specs.Conversion.{firstStranger};
 
-// A character is named where a run of the alphabet begins or ends, and where ordinary Base64 has one that is a stranger here.
+// A character is named where a run of the alphabet begins or ends, and where ordinary Base64 has one that is a stranger here: 65.
 const SEXTETS: [u8; 256] = [
     64,
     64,
@@ -51,11 +51,11 @@ const SEXTETS: [u8; 256] = [
     64,
     64,
     64,
-    64, // +
+    65, // +
     64,
     62, // -
     64,
-    64, // /
+    65, // /
     52, // 0
     53,
     54,
@@ -69,7 +69,7 @@ const SEXTETS: [u8; 256] = [
     64,
     64,
     64,
-    64, // =
+    65, // =
     64,
     64,
     64,
@@ -333,7 +333,7 @@ const CHARACTERS: [u8; 64] = [
     95,
 ];
 
-// The value of each byte, 64 for one outside the alphabet. A caller that reads many characters names the table once and lends it.
+// The value of each byte; for one outside the alphabet a mark, 65 for `+`, `/` and `=`, 64 for any other. A caller that reads many characters names the table once and lends it.
 pub fn sextets() -> [u8; 256]
     ensures { λ r. ⌜ r ≡ sextetTable ⌝ }
 {
@@ -355,7 +355,7 @@ pub fn value(values: &[u8; 256], c: u8) -> u8
     values[c as usize]
 }
 
-// The value of one character, 64 for one outside the alphabet.
+// The value of one character, or its mark.
 pub fn sextet(c: u8) -> u8
     ensures { λ r. ⌜ r ≡ sextetOf c ⌝ }
 {
@@ -444,4 +444,21 @@ pub fn first_stranger(s: &[u8]) -> usize
         i = i + 64;
     }
     stranger_from(s, i)
+}
+
+// The number of a character outside the alphabet by its mark: 19 for one of the ordinary alphabet, 5 for any other.
+pub fn stranger_number(v: u8) -> u8
+    ensures { λ r. ⌜ r ≡ strangerNumber v ⌝ }
+{
+    if v == 65 { 19 } else { 5 }
+}
+
+// The same of the character at a place, whose entry is read once its place is known.
+pub fn number_at(s: &[u8], i: usize) -> u8
+    ensures { λ r. ⌜ r ≡ strangerNumber (sextetOf (getD (now (s .entry)) i 0)) ⌝ }
+{
+    if i < s.len() {
+        return stranger_number(sextet(s[i]));
+    }
+    5
 }

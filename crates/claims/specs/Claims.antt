@@ -5,7 +5,7 @@ use Prim.Native.Nat.{ℕ, suc, _+_, _-_, _*_, _/_, _≤_, _<_}
 use mathlib.Core.Path.{_≡_}
 use mathlib.Core.List.{List, [], _∷_, _++_}
 use mathlib.Core.Logic.{_⊎_}
-use lib.Dec.{eqb, ltb}
+use lib.Dec.{eqb, ltb, leb}
 use lib.ListN.{length, getD, drop}
 use Rattle.base.specs.Pick.{pick}
 use Rattle.format.specs.declared.Kind.{Kind}
@@ -21,8 +21,8 @@ use Rattle.format.specs.declared.TextFound.the-variants as TF
 use Rattle.format.specs.declared.BinaryFound.the-variants as BF
 use Rattle.format.specs.declared.TextWritten.the-variants as TW
 use Rattle.format.specs.declared.BinaryWritten.the-variants as BW
-use Rattle.format.specs.Alphabet.{stranger, sextetOf, sextetTable}
-use Rattle.format.specs.Characters.{characterWith, howMany}
+use Rattle.format.specs.Alphabet.{stranger, ordinary, sextetOf, sextetTable}
+use Rattle.format.specs.Characters.{characterWith, ordinaryAt, howMany}
 use Rattle.format.specs.Units.{Domain, text, binary, textSextets, binarySextets}
 use Rattle.format.specs.Offsets.{textOffset, binaryOffset}
 use Rattle.format.specs.Conversion.{toBinary, toText, textToBinary, binaryLeft, binaryToText, textLeft}
@@ -47,12 +47,12 @@ use Rattle.claims.specs.Words.{WholeText, WholeBinary, SameReport, heade
 -- itself is refused, every output buffer holds what it held before." The walk's step is in walk_claims' Claims, what C sees of the
 -- numbers in exports_claims' Claims. That nothing is asked is what the calls' contracts say: they have no premise.
 
--- a refusal has a number that is not 0, among those that 01 lists for the call, and of its conditions, in 01's order, the first that holds;
--- and an accepted call meets none of them. d: what the buffer lent held
+-- a refusal has a number that is not 0, among those that 01 lists for the call (02 j: 19 beside 5), and of its conditions, in 01's order, the
+-- first that holds; and an accepted call meets none of them. d: what the buffer lent held
 pub record Demand1 : Type 0 where
   -- 01: "T to B gives 1, 2, 5, 3"
   pub to-binary : (s d : List ℕ) (m : ℕ) (p : TextOffset) → textToBinary s (length d) ≡ B.Refused m p
-      → Refusal (1 ∷ 2 ∷ 5 ∷ 3 ∷ []) (toBinaryRules s (length d)) m × (binaryLeft (textToBinary s (length d)) s d ≡ d)
+      → Refusal (1 ∷ 2 ∷ 5 ∷ 19 ∷ 3 ∷ []) (toBinaryRules s (length d)) m × (binaryLeft (textToBinary s (length d)) s d ≡ d)
   pub to-binary-accepts : (s d : List ℕ) (n : BinaryOffset) → textToBinary s (length d) ≡ B.Written n → None (toBinaryRules s (length d))
   -- 01: "B to T 1, 2, 3"
   pub to-text : (s d : List ℕ) (m : ℕ) (p : BinaryOffset) → binaryToText s (length d) ≡ T.Refused m p
@@ -65,7 +65,7 @@ pub record Demand1 : Type 0 where
   -- 01: "Reading a primitive at an offset: 1, 4 at or past the end, framing (never 7), 14, judging, then 3 for T"; framing gives 4, 5 and
   -- 6, judging 5, 18 (02 h), 9, 8 and 10. 5 is for "character outside the alphabet (in T ..)"
   pub read-text : (s : List ℕ) (at : ℕ) (d : List ℕ) (m : ℕ) (p : TextOffset) → readText s at (length d) .found ≡ TF.Refused m p
-      → Refusal (1 ∷ 4 ∷ 5 ∷ 6 ∷ 14 ∷ 18 ∷ 9 ∷ 8 ∷ 10 ∷ 3 ∷ []) (readTextRules s at (length d)) m
+      → Refusal (1 ∷ 4 ∷ 5 ∷ 19 ∷ 6 ∷ 14 ∷ 18 ∷ 9 ∷ 8 ∷ 10 ∷ 3 ∷ []) (readTextRules s at (length d)) m
       × (rawLeft (readText s at (length d) .found) s at d ≡ d)
   pub read-text-accepts : (s : List ℕ) (at : ℕ) (d : List ℕ) (q : Primitive) → readText s at (length d) .found ≡ TF.Found q
       → None (readTextRules s at (length d))
@@ -75,13 +75,13 @@ pub record Demand1 : Type 0 where
   pub read-binary-accepts : (s : List ℕ) (at : ℕ) (q : Primitive) → readBinary s at .found ≡ BF.Found q → None (readBinaryRules s at)
   -- 01: "Writing, to T or B: 6 (any code that isn't a primitive's), 12, 5 (tags), 3.", 02 h: 18 "directly after 12"
   pub write-text : (code : Code) (tag : List ℕ) (tags : ℕ) (raw d : List ℕ) (m p : ℕ) → writeText code tag tags raw (length d) ≡ TW.Refused m p
-      → Refusal (6 ∷ 12 ∷ 18 ∷ 5 ∷ 3 ∷ []) (writeRules 4 code tag tags (length raw) (length d)) m
+      → Refusal (6 ∷ 12 ∷ 18 ∷ 5 ∷ 19 ∷ 3 ∷ []) (writeRules 4 code tag tags (length raw) (length d)) m
       × (textItemLeft (writeText code tag tags raw (length d)) code tag tags raw d ≡ d)
   pub write-text-accepts : (code : Code) (tag : List ℕ) (tags : ℕ) (raw d : List ℕ) (n : TextOffset)
       → writeText code tag tags raw (length d) ≡ TW.Written n → None (writeRules 4 code tag tags (length raw) (length d))
   pub write-binary : (code : Code) (tag : List ℕ) (tags : ℕ) (raw d : List ℕ) (m p : ℕ)
       → writeBinary code tag tags raw (length d) ≡ BW.Refused m p
-      → Refusal (6 ∷ 12 ∷ 18 ∷ 5 ∷ 3 ∷ []) (writeRules 3 code tag tags (length raw) (length d)) m
+      → Refusal (6 ∷ 12 ∷ 18 ∷ 5 ∷ 19 ∷ 3 ∷ []) (writeRules 3 code tag tags (length raw) (length d)) m
       × (binaryItemLeft (writeBinary code tag tags raw (length d)) code tag tags raw d ≡ d)
   pub write-binary-accepts : (code : Code) (tag : List ℕ) (tags : ℕ) (raw d : List ℕ) (n : BinaryOffset)
       → writeBinary code tag tags raw (length d) ≡ BW.Written n → None (writeRules 3 code tag tags (length raw) (length d))
@@ -160,7 +160,7 @@ pub record Demand3 (d : Domain) : Type 0 where
 
 pub record FramingClaims : Type 0 where
   -- 01: "Framing an item: 4 (first unit), 5 (its first bad character), 6, 4 (second unit), 5, 4 (extent)."
-  pub refuses : (s : List ℕ) (m p : ℕ) → frame s ≡ Unframed m p → Refusal (4 ∷ 5 ∷ 6 ∷ []) (framing s) m
+  pub refuses : (s : List ℕ) (m p : ℕ) → frame s ≡ Unframed m p → Refusal (4 ∷ 5 ∷ 19 ∷ 6 ∷ []) (framing s) m
   pub accepts : (s : List ℕ) (k : Kind) (h n : ℕ) → frame s ≡ Item k h n → None (framing s)
   -- an item's header and full size are the registry's rules of what its first unit opens, and of the second unit's digits
   pub header : (s : List ℕ) (k : Kind) (h n : ℕ) → frame s ≡ Item k h n → h ≡ headerUnits (openingOf s)
@@ -179,11 +179,18 @@ pub record LookupClaims (table : List ℕ) : Type 0 where
   pub values : (v : ℕ) → v < 64 → getD table (characterWith v) 0 ≡ v
   pub once : (v : ℕ) → v < 64 → howMany (eqb v) table ≡ 1
   pub sixty-four : howMany (λ x. ltb x 64) table ≡ 64
-  -- "the other 192 none.": 64, which is no value, for each byte outside
-  pub others : (c : ℕ) → c < 256 → ((v : ℕ) → v < 64 → characterWith v ≡ c → ⊥) → getD table c 0 ≡ stranger
-  pub as-many : howMany (eqb stranger) table ≡ 192
+  -- "the other 192 none.": each byte outside a mark, which is no value
+  pub others : (c : ℕ) → c < 256 → ((v : ℕ) → v < 64 → characterWith v ≡ c → ⊥) → 64 ≤ getD table c 0
+  pub as-many : howMany (leb 64) table ≡ 192
   -- "The lookup answers exactly as before, for every byte."
   pub as-before : (c : ℕ) → c < 256 → getD table c 0 ≡ sextetOf c
+  -- 02 j: "`+`, `/` or `=` from the ordinary alphabet. The lookup of b) should tell these three apart from other strangers": they have one
+  -- mark, and the other 189 bytes outside another
+  pub three : (i : ℕ) → i < 3 → getD table (ordinaryAt i) 0 ≡ ordinary
+  pub no-fourth : howMany (eqb ordinary) table ≡ 3
+  pub strangers : (c : ℕ) → c < 256 → ((v : ℕ) → v < 64 → characterWith v ≡ c → ⊥) → ((i : ℕ) → i < 3 → ordinaryAt i ≡ c → ⊥)
+      → getD table c 0 ≡ stranger
+  pub the-rest : howMany (eqb stranger) table ≡ 189
 
 -- ---- 02's request g, of the limit of nesting
 

@@ -12,7 +12,7 @@ use Rattle.format.specs.declared.Kind.the-variants.{Fixed, Variable, Group, Gen
 use Rattle.format.specs.declared.Opening.{Opening}
 use Rattle.format.specs.declared.Opening.the-variants.{Unknown, Short, LargeVariable, LargeGroup, Version}
 use Rattle.format.specs.declared.Code.{Code}
-use Rattle.format.specs.Alphabet.{sextetOf}
+use Rattle.format.specs.Alphabet.{ordinary, sextetOf}
 use Rattle.format.specs.Units.{Domain, text, binary}
 use Rattle.format.specs.Registry.{isOpaque, zeroBitsOf, prepadOf, opening, headerUnits, extent}
 use Rattle.format.specs.Framing.{digits4, sextet}
@@ -24,15 +24,22 @@ use Rattle.format.specs.Writing.{Named, rawSize, rawLimit, named, unitsOf}
 use Rattle.format.specs.Writing.Named.{unknown, row, variable}
 use Rattle.claims.specs.Order.{Rule, _when_}
 
--- ---- 5: "character outside the alphabet"
+-- ---- 5: "character outside the alphabet"; 19, by 02 j: one "from the ordinary alphabet". "the first bad character is reported, of
+-- whichever kind"
 
--- one of the first n characters
-abbrev pub StrangerIn : ℕ → List ℕ → Type 0
-StrangerIn n s = (i : ℕ) × (i < n) × (64 ≤ sextetOf (getD s i 0))
+abbrev pub Other : ℕ → Type 0
+Other v = (64 ≤ v) × (v ≡ ordinary → ⊥)
 
--- one of the sextets from one place to before another
-abbrev pub StrangeFrom : List ℕ → ℕ → ℕ → Type 0
-StrangeFrom s from to = (i : ℕ) × (from ≤ i) × (i < to) × (64 ≤ sextet s i)
+abbrev pub Ordinary : ℕ → Type 0
+Ordinary v = v ≡ ordinary
+
+-- of the values from one place to before another, the first that is none of the 64 is such
+abbrev pub FirstIs : (ℕ → Type 0) → (ℕ → ℕ) → ℕ → ℕ → Type 0
+FirstIs Is at from to = (i : ℕ) × (from ≤ i) × (i < to) × ((j : ℕ) → from ≤ j → j < i → at j < 64) × Is (at i)
+
+-- the values of a text's characters
+abbrev pub valueIn : List ℕ → ℕ → ℕ
+valueIn s i = sextetOf (getD s i 0)
 
 -- ---- "Calls: T to B gives 1, 2, 5, 3; B to T 1, 2, 3. Room asked .. is the exact size written."
 
@@ -40,7 +47,8 @@ abbrev pub toBinaryRules : List ℕ → ℕ → List Rule
 toBinaryRules s room =
     1 when (text .limit < length s) ∷
     2 when (0 < length s % 4) ∷
-    5 when (StrangerIn (length s) s) ∷
+    5 when (FirstIs Other (valueIn s) 0 (length s)) ∷
+    19 when (FirstIs Ordinary (valueIn s) 0 (length s)) ∷
     3 when (room < length s / 4 * 3) ∷
     []
 
@@ -65,10 +73,12 @@ reportRules d xs room =
 abbrev pub framingRules : Opening → (ℕ → ℕ) → ℕ → List Rule
 framingRules o at len =
     4 when (len < 1) ∷
-    5 when ((i : ℕ) × (i < 4) × (64 ≤ at i)) ∷
+    5 when (FirstIs Other at 0 4) ∷
+    19 when (FirstIs Ordinary at 0 4) ∷
     6 when (o ≡ Unknown) ∷
     4 when (len < headerUnits o) ∷
-    5 when ((i : ℕ) × (4 ≤ i) × (i < 4 * headerUnits o) × (64 ≤ at i)) ∷
+    5 when (FirstIs Other at 4 (4 * headerUnits o)) ∷
+    19 when (FirstIs Ordinary at 4 (4 * headerUnits o)) ∷
     4 when (len < extent o (digits4 at)) ∷
     []
 
@@ -132,7 +142,8 @@ OtherPrepad Genus s = ⊥
 
 abbrev pub judging : Kind → ℕ → List ℕ → List Rule
 judging k h s =
-    5 when (StrangeFrom s (4 * h) (length s)) ∷
+    5 when (FirstIs Other (sextet s) (4 * h) (length s)) ∷
+    19 when (FirstIs Ordinary (sextet s) (4 * h) (length s)) ∷
     18 when (LongForm k h) ∷
     9 when (Empty k) ∷
     8 when (NotZero k h s) ∷
@@ -146,7 +157,8 @@ abbrev pub groupRules : ℕ → ℕ → ℕ → List ℕ → List Rule
 groupRules l letter h s =
     11 when (l ≡ 0) ∷
     18 when (FitsSmall h (length s / 4 - h)) ∷
-    5 when ((isOpaque letter ≡ true) × StrangeFrom s (4 * h) (length s)) ∷
+    5 when ((isOpaque letter ≡ true) × FirstIs Other (sextet s) (4 * h) (length s)) ∷
+    19 when ((isOpaque letter ≡ true) × FirstIs Ordinary (sextet s) (4 * h) (length s)) ∷
     []
 
 abbrev pub ownRules : ℕ → Kind → ℕ → List ℕ → List Rule
@@ -192,6 +204,7 @@ writeRules u code tag tags raw room =
     6 when (named code ≡ unknown) ∷
     12 when (Unfit (named code) tags raw) ∷
     18 when (SmallHolds (named code) raw) ∷
-    5 when (StrangerIn tags tag) ∷
+    5 when (FirstIs Other (valueIn tag) 0 tags) ∷
+    19 when (FirstIs Ordinary (valueIn tag) 0 tags) ∷
     3 when (room < unitsOf (named code) raw * u) ∷
     []

@@ -6,7 +6,7 @@ use mathlib.Core.Bool.{Bool, true, false}
 use mathlib.Core.Logic.{_⊎_, inl, inr, ⊎-elim}
 use native.Mathlib.Omega.{arith}
 use lib.ListN.{length, getD, take, drop, length-drop, List·getD-eq-default}
-use lib.Seq.{take-length}
+use lib.Seq.{take-length, getD-take}
 use lib.Dec.{ltb, leb, eqb}
 use borrow.Author.Tests.{ltb-true, ltb-false, leb-true, leb-false, eqb-true, eqb-false, lt-ltb}
 use Rattle.base.specs.Pick.{pick, pick-by}
@@ -42,7 +42,7 @@ use Rattle.format.specs.Alphabet.{sextetOf}
 use Rattle.format.specs.Units.{Domain, text, binary, textSextets, binarySextets}
 use Rattle.format.specs.Framing.{sextet, frame, frameWith}
 use Rattle.format.specs.Judging.{isShortest, judgeKind, ownCheck}
-use Rattle.format.specs.Conversion.{firstStranger, textToBinary, binaryToText, binaryLeft, textLeft}
+use Rattle.format.specs.Conversion.{firstStranger, firstNumber, textToBinary, binaryToText, binaryLeft, textLeft}
 use Rattle.format.specs.Report.{rowsIn, reportAnswer, reportLeft}
 use Rattle.format.specs.Reading.{Reading, judged, readFramed, reading, from, textAnswer, readText, rawLeft, binaryAnswer, readBinary, partAt, isPrimitive}
 use Rattle.format.specs.Reading.Reading.{refused, found}
@@ -56,6 +56,7 @@ use Rattle.claims.specs.Rules.Told.{accepted, told}
 use Rattle.claims.specs.Rules.By.{none, first}
 use Rattle.claims.specs.Rules.Allowed.{end, _&_}
 use Rattle.claims.specs.Conditions as C
+use Rattle.claims.specs.Strangers.{Clean, strange, clean-other, clean-ordinary, ask-strange}
 use Rattle.claims.specs.Claims.{Demand1}
 use Rattle.claims.specs.Framed.{framed-found, unframed-first}
 use Rattle.claims.specs.Judged.{Judged, true-false, long-form, short-form, own-judged}
@@ -63,28 +64,39 @@ use Rattle.claims.specs.Judged.Judged.{passes, refuses}
 
 -- ---- strangers among characters
 
-stranger-in : (n : ℕ) (s : List ℕ) → firstStranger (take n s) < n → C.StrangerIn n s
-unfolding firstStranger sextetOf
-stranger-in zero s l = absurd (omega arith)
-stranger-in (suc n) [] l = (0, omega arith, omega arith)
-stranger-in (suc n) (c ∷ s) l = go (ltb (sextetOf c) 64) refl l (stranger-in n s)
-  where
-    go : (b : Bool) → ltb (sextetOf c) 64 ≡ b → pick b (suc (firstStranger (take n s))) 0 < suc n
-        → (firstStranger (take n s) < n → C.StrangerIn n s) → C.StrangerIn (suc n) (c ∷ s)
-    go true e h next = let q = next (omega arith) in (suc (q .0), omega (arith, q .1), q .2)
-    go false e h next = (0, omega arith, ltb-false (sextetOf c) 64 e)
-
-no-stranger-in : (n : ℕ) (s : List ℕ) → n ≤ firstStranger (take n s) → C.StrangerIn n s → ⊥
+known : (n : ℕ) (s : List ℕ) → Clean (C.valueIn s) 0 (firstStranger (take n s))
 unfolding firstStranger
-no-stranger-in zero s l q = omega (arith, q .1)
-no-stranger-in (suc n) [] l q = omega arith
-no-stranger-in (suc n) (c ∷ s) l q = go (ltb (sextetOf c) 64) refl l q (no-stranger-in n s)
+known zero s j a b = absurd (omega arith)
+known (suc n) [] j a b = absurd (omega arith)
+known (suc n) (c ∷ s) j a b = go (ltb (sextetOf c) 64) refl j b (known n s)
   where
-    go : (b : Bool) → ltb (sextetOf c) 64 ≡ b → suc n ≤ pick b (suc (firstStranger (take n s))) 0 → C.StrangerIn (suc n) (c ∷ s)
-        → (n ≤ firstStranger (take n s) → C.StrangerIn n s → ⊥) → ⊥
-    go false e h r next = omega arith
-    go true e h (zero, a, b) next = omega (arith, ltb-true (sextetOf c) 64 e)
-    go true e h (suc i, a, b) next = next (omega arith) (i, omega arith, b)
+    go : (t : Bool) → ltb (sextetOf c) 64 ≡ t → (j : ℕ) → j < pick t (suc (firstStranger (take n s))) 0
+        → Clean (C.valueIn s) 0 (firstStranger (take n s)) → C.valueIn (c ∷ s) j < 64
+    go true e zero l next = ltb-true (sextetOf c) 64 e
+    go true e (suc j) l next = next j (omega arith) (omega arith)
+    go false e j l next = absurd (omega arith)
+
+bad : (n : ℕ) (s : List ℕ) → firstStranger (take n s) < n → 64 ≤ C.valueIn s (firstStranger (take n s))
+unfolding firstStranger sextetOf
+bad zero s l = absurd (omega arith)
+bad (suc n) [] l = omega arith
+bad (suc n) (c ∷ s) l = go (ltb (sextetOf c) 64) refl l (bad n s)
+  where
+    go : (t : Bool) → ltb (sextetOf c) 64 ≡ t → pick t (suc (firstStranger (take n s))) 0 < suc n
+        → (firstStranger (take n s) < n → 64 ≤ C.valueIn s (firstStranger (take n s)))
+        → 64 ≤ C.valueIn (c ∷ s) (pick t (suc (firstStranger (take n s))) 0)
+    go true e h next = next (omega arith)
+    go false e h next = ltb-false (sextetOf c) 64 e
+
+-- the first of n characters that is outside the alphabet, where there is one
+module _ (n : ℕ) (s : List ℕ) where
+  stranger-in : firstStranger (take n s) < n
+      → (0 ≤ firstStranger (take n s)) × (firstStranger (take n s) < n) × Clean (C.valueIn s) 0 (firstStranger (take n s))
+      × (64 ≤ C.valueIn s (firstStranger (take n s)))
+  stranger-in l = (omega arith, l, known n s, bad n s l)
+
+  no-stranger-in : n ≤ firstStranger (take n s) → Clean (C.valueIn s) 0 n
+  no-stranger-in l j a b = known n s j a (omega arith)
 
 -- ---- conversion
 
@@ -93,12 +105,12 @@ toldBinary (ToBinary.Written n) = accepted
 toldBinary (ToBinary.Refused m p) = told m
 
 to-binary : (s : List ℕ) (room : ℕ) → By (C.toBinaryRules s room) (toldBinary (textToBinary s room))
-unfolding textToBinary toldBinary
+unfolding textToBinary firstNumber toldBinary
 to-binary s room =
     ask-lt toldBinary (text .limit) (length s) 1 _ _ _ refl
     (ask-lt toldBinary 0 (length s % 4) 2 _ _ _ refl
-    (ask toldBinary (ltb (firstStranger s) (length s)) 5 _ _ _ _ refl
-    (λ e. stranger-in (length s) s (rw (take-length s) (ltb-true (firstStranger s) (length s) e)))
+    (ask-strange toldBinary (ltb (firstStranger s) (length s)) (C.valueIn s) 0 (length s) (firstStranger s) _ _ _ (λ _. refl)
+    (λ e. rw (take-length s) at (stranger-in (length s) s (rw (take-length s) (ltb-true (firstStranger s) (length s) e))))
     (λ e. no-stranger-in (length s) s (rw (take-length s) (ltb-false (firstStranger s) (length s) e)))
     (ask-lt toldBinary room (length s / 4 * 3) 3 _ _ _ refl
     (none tt))))
@@ -189,15 +201,16 @@ module _ (u : ℕ) (n : W.Named) (tag : List ℕ) (tags raw room : ℕ) where
       6 when (n ≡ W.unknown) ∷
       12 when (C.Unfit n tags raw) ∷
       18 when (C.SmallHolds n raw) ∷
-      5 when (C.StrangerIn tags tag) ∷
+      5 when (C.FirstIs C.Other (C.valueIn tag) 0 tags) ∷
+      19 when (C.FirstIs C.Ordinary (C.valueIn tag) 0 tags) ∷
       3 when (room < W.unitsOf n raw * u) ∷
       []
 
   abbrev behindTwelve : List Rule
-  behindTwelve = 18 when (C.SmallHolds n raw) ∷ 5 when (C.StrangerIn tags tag) ∷ 3 when (room < W.unitsOf n raw * u) ∷ []
+  behindTwelve = 18 when (C.SmallHolds n raw) ∷ strange (C.valueIn tag) 0 tags (3 when (room < W.unitsOf n raw * u) ∷ [])
 
   named : (n ≡ W.unknown → ⊥) → W.isNamed n ≡ true → By writeBy (toldWriting (W.writing u n tag tags raw room))
-  unfolding W.writing toldWriting
+  unfolding W.writing firstNumber toldWriting
   named not i =
       rw i (skip (6 when (n ≡ W.unknown)) _ _ not
       (pick-by (λ (w : W.Writing). By (12 when (C.Unfit n tags raw) ∷ behindTwelve) (toldWriting w))
@@ -205,7 +218,8 @@ module _ (u : ℕ) (n : W.Named) (tag : List ℕ) (tags raw room : ℕ) where
       (λ e. skip (12 when (C.Unfit n tags raw)) _ _ (fits n tags raw e)
       (pick-by (λ (w : W.Writing). By behindTwelve (toldWriting w)) (W.isShort n raw) _ _
       (λ s. skip (18 when (C.SmallHolds n raw)) _ _ (short n raw s)
-      (ask toldWriting (ltb (firstStranger (take tags tag)) tags) 5 _ _ _ _ refl
+      (ask-strange toldWriting (ltb (firstStranger (take tags tag)) tags) (C.valueIn tag) 0 tags (firstStranger (take tags tag)) _ _ _
+      (λ f. rw (getD-take tags tag (firstStranger (take tags tag)) 0 (ltb-true _ tags f)))
       (λ f. stranger-in tags tag (ltb-true _ tags f)) (λ f. no-stranger-in tags tag (ltb-false _ tags f))
       (ask-lt toldWriting room (W.unitsOf n raw * u) 3 _ _ _ refl (none tt))))
       (λ s. first (inl (long n raw s, refl)))))
@@ -311,33 +325,28 @@ binary-read xs at =
     (λ g. rw (no-unit s (omega (arith, binary-reader .units (drop at xs), length-drop at xs))) (first (inl (g, refl))))
     (lt-or-ge at (length xs)))
 
--- ---- no sextet of a binary is outside the alphabet, so its reader gives no 5
+-- ---- no sextet of a binary is outside the alphabet, so its reader gives neither 5 nor 19
 
-low : (s : List ℕ) → Below 64 s → (i : ℕ) → 64 ≤ sextet s i → ⊥
-low s b i h =
-    ⊎-elim (λ l. omega (arith, below-at 64 s b i l)) (λ g. omega (arith, rw (List·getD-eq-default s 0 g) at h)) (lt-or-ge i (length s))
+clean : (s : List ℕ) → Below 64 s → (start stop : ℕ) → Clean (sextet s) start stop
+clean s b start stop i l u =
+    ⊎-elim (λ g. below-at 64 s b i g) (λ g. omega (arith, List·getD-eq-default s 0 {n = i} g)) (lt-or-ge i (length s))
 
 module _ (xs : List ℕ) (at : ℕ) where
   abbrev fromOffset : List ℕ
   fromOffset = binary .sextets (drop at xs)
 
-  known : Below 64 fromOffset
-  known = binary-below (drop at xs)
+  all-known : (start stop : ℕ) → Clean (sextet fromOffset) start stop
+  all-known = clean fromOffset (binary-below (drop at xs))
+
+  own-known : (start stop : ℕ) → Clean (sextet (take (4 * C.itemSize fromOffset) fromOffset)) start stop
+  own-known = clean _ (below-take 64 (4 * C.itemSize fromOffset) fromOffset (binary-below (drop at xs)))
 
   -- in the first unit, in the header, behind it
-  no-first : ((i : ℕ) × (i < 4) × (64 ≤ sextet fromOffset i)) → ⊥
-  no-first q = low fromOffset known (q .0) (q .2)
-
-  no-header : ((i : ℕ) × (4 ≤ i) × (i < 4 * C.itemHead fromOffset) × (64 ≤ sextet fromOffset i)) → ⊥
-  no-header q = low fromOffset known (q .0) (q .3)
-
-  no-behind : (let own : List ℕ = take (4 * C.itemSize fromOffset) fromOffset in C.StrangeFrom own (4 * C.itemHead fromOffset) (length own)) → ⊥
-  no-behind q = low _ (below-take 64 (4 * C.itemSize fromOffset) fromOffset known) (q .0) (q .3)
-
   no-five : Allowed (1 ∷ 4 ∷ 6 ∷ 14 ∷ 18 ∷ 9 ∷ 8 ∷ 10 ∷ []) (C.readBinaryRules xs at)
   no-five =
-      inl tt & inl tt & inl tt & inr no-first & inl tt & inl tt & inr no-header & inl tt & inl tt & inr no-behind & inl tt & inl tt & inl tt & inl tt
-      & end
+      inl tt & inl tt & inl tt & inr (clean-other _ _ _ (all-known _ _)) & inr (clean-ordinary _ _ _ (all-known _ _)) & inl tt & inl tt
+      & inr (clean-other _ _ _ (all-known _ _)) & inr (clean-ordinary _ _ _ (all-known _ _)) & inl tt & inl tt
+      & inr (clean-other _ _ _ (own-known _ _)) & inr (clean-ordinary _ _ _ (own-known _ _)) & inl tt & inl tt & inl tt & inl tt & end
 
 -- ---- all of it
 
@@ -374,7 +383,7 @@ unfolding binaryLeft textLeft reportLeft rawLeft partAt W.textItemLeft W.binaryI
     toldTextFound toldBinaryRead toldBinaryFound toldTextWritten toldBinaryWritten
 demand1 = record {
   to-binary = λ s d m p e.
-      (refusal _ _ m (λ z. z) (inl tt & inl tt & inl tt & inl tt & end) (by-first _ m (subst (By _) (ap toldBinary e) (to-binary s (length d)))), rw e);
+      (refusal _ _ m (λ z. z) (inl tt & inl tt & inl tt & inl tt & inl tt & end) (by-first _ m (subst (By _) (ap toldBinary e) (to-binary s (length d)))), rw e);
   to-binary-accepts = λ s d n e. by-none _ (subst (By _) (ap toldBinary e) (to-binary s (length d)));
   to-text = λ s d m p e.
       (refusal _ _ m (λ z. z) (inl tt & inl tt & inl tt & end) (by-first _ m (subst (By _) (ap toldText e) (to-text s (length d)))), rw e);
@@ -384,7 +393,7 @@ demand1 = record {
   reports-accepts = λ f s d n e. by-none _ (subst (By _) (ap toldReport e) (report f s (length d)));
   read-text = λ s at d m p e. (
     refusal _ (C.readTextRules s at (length d)) m (λ z. z)
-        (inl tt & inl tt & inl tt & inl tt & inl tt & inl tt & inl tt & inl tt & inl tt & inl tt & inl tt & inl tt & inl tt & inl tt & inl tt & end)
+        (inl tt & inl tt & inl tt & inl tt & inl tt & inl tt & inl tt & inl tt & inl tt & inl tt & inl tt & inl tt & inl tt & inl tt & inl tt & inl tt & inl tt & inl tt & end)
         (by-first _ m (subst (By (C.readTextRules s at (length d))) (ap toldTextFound e) (text-read s at (length d)))),
     rw e,
   );
@@ -398,13 +407,13 @@ demand1 = record {
   read-binary-accepts = λ s at q e.
       by-none (C.readBinaryRules s at) (subst (By (C.readBinaryRules s at)) (ap toldBinaryFound e) (binary-read s at));
   write-text = λ code tag tags raw d m p e. (
-    refusal _ _ m (λ z. z) (inl tt & inl tt & inl tt & inl tt & inl tt & end)
+    refusal _ _ m (λ z. z) (inl tt & inl tt & inl tt & inl tt & inl tt & inl tt & end)
         (by-first _ m (subst (By _) (ap toldTextWritten e) (write-text code tag tags raw (length d)))),
     rw e,
   );
   write-text-accepts = λ code tag tags raw d n e. by-none _ (subst (By _) (ap toldTextWritten e) (write-text code tag tags raw (length d)));
   write-binary = λ code tag tags raw d m p e. (
-    refusal _ _ m (λ z. z) (inl tt & inl tt & inl tt & inl tt & inl tt & end)
+    refusal _ _ m (λ z. z) (inl tt & inl tt & inl tt & inl tt & inl tt & inl tt & end)
         (by-first _ m (subst (By _) (ap toldBinaryWritten e) (write-binary code tag tags raw (length d)))),
     rw e,
   );

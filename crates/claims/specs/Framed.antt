@@ -16,10 +16,12 @@ use Rattle.format.specs.declared.Opening.{Opening}
 use Rattle.format.specs.declared.Opening.the-variants.{Unknown, Short, LargeVariable, LargeGroup, Version}
 use Rattle.format.specs.declared.Framed.{Framed}
 use Rattle.format.specs.declared.Framed.the-variants.{Item, Unframed}
+use Rattle.format.specs.Alphabet.{strangerNumber}
 use Rattle.format.specs.Registry.{opening, headerUnits, extent}
 use Rattle.format.specs.Framing.{fit, known, second, digits4, headed, frameWith, sextet, frame}
 use Rattle.claims.specs.Order.{Rule, _when_, First, None}
-use Rattle.claims.specs.Conditions.{framingRules, openingOf, kindIn, itemKind, itemHead, itemSize, framing}
+use Rattle.claims.specs.Strangers.{Clean, strange, clean-other, clean-ordinary, bad-first, clean-on}
+use Rattle.claims.specs.Conditions.{Other, Ordinary, FirstIs, framingRules, openingOf, kindIn, itemKind, itemHead, itemSize, framing}
 
 -- what an opening and the digits behind it make of an item, or the first number that is given
 data By (o : Opening) (n : ℕ) (rs : List Rule) : Framed → Type 0 where
@@ -32,8 +34,8 @@ skip o n r rs f not (told first) = told (inr (not, first))
 
 -- the four sextets from i on
 known-split : (P : Framed → Type 0) (at : ℕ → ℕ) (i : ℕ) (next : Framed)
-    → ((j : ℕ) → i ≤ j → j < i + 4 → 64 ≤ at j → P (Unframed 5 j))
-    → (((j : ℕ) → i ≤ j → j < i + 4 → 64 ≤ at j → ⊥) → P next)
+    → ((j : ℕ) → i ≤ j → j < i + 4 → Clean at i j → 64 ≤ at j → P (Unframed (strangerNumber (at j)) j))
+    → (Clean at i (i + 4) → P next)
     → P (known at i next)
 unfolding known
 known-split P at i next bad good =
@@ -41,36 +43,38 @@ known-split P at i next bad good =
     (λ a. pick-by P (ltb (at (i + 1)) 64) _ _
     (λ b. pick-by P (ltb (at (i + 2)) 64) _ _
     (λ c. pick-by P (ltb (at (i + 3)) 64) _ _
-    (λ d. good (none (ltb-true (at i) 64 a) (ltb-true (at (i + 1)) 64 b) (ltb-true (at (i + 2)) 64 c) (ltb-true (at (i + 3)) 64 d)))
-    (λ d. bad (i + 3) (omega arith) (omega arith) (ltb-false (at (i + 3)) 64 d)))
-    (λ c. bad (i + 2) (omega arith) (omega arith) (ltb-false (at (i + 2)) 64 c)))
-    (λ b. bad (i + 1) (omega arith) (omega arith) (ltb-false (at (i + 1)) 64 b)))
-    (λ a. bad i (omega arith) (omega arith) (ltb-false (at i) 64 a))
+    (λ d. good (four (ltb-true (at i) 64 a) (ltb-true (at (i + 1)) 64 b) (ltb-true (at (i + 2)) 64 c) (ltb-true (at (i + 3)) 64 d)))
+    (λ d. bad (i + 3) (omega arith) (omega arith) (three (ltb-true (at i) 64 a) (ltb-true (at (i + 1)) 64 b) (ltb-true (at (i + 2)) 64 c)) (ltb-false (at (i + 3)) 64 d)))
+    (λ c. bad (i + 2) (omega arith) (omega arith) (two (ltb-true (at i) 64 a) (ltb-true (at (i + 1)) 64 b)) (ltb-false (at (i + 2)) 64 c)))
+    (λ b. bad (i + 1) (omega arith) (omega arith) (one (ltb-true (at i) 64 a)) (ltb-false (at (i + 1)) 64 b)))
+    (λ a. bad i (omega arith) (omega arith) (λ j l u. absurd (omega arith)) (ltb-false (at i) 64 a))
   where
-    none : at i < 64 → at (i + 1) < 64 → at (i + 2) < 64 → at (i + 3) < 64 → (j : ℕ) → i ≤ j → j < i + 4 → 64 ≤ at j → ⊥
-    none a b c d j l u s =
-        ⊎-elim (λ p. let e : j ≡ i = omega arith in below e a)
-        (λ g. ⊎-elim (λ p. let e : j ≡ i + 1 = omega arith in below e b)
-        (λ g′. ⊎-elim (λ p. let e : j ≡ i + 2 = omega arith in below e c)
-        (λ g″. let e : j ≡ i + 3 = omega arith in below e d)
-        (lt-or-ge j (i + 3)))
-        (lt-or-ge j (i + 2)))
-        (lt-or-ge j (i + 1))
-      where
-        below : {k : ℕ} → j ≡ k → at k < 64 → ⊥
-        below e q = omega (arith, rw e at s)
+    one : at i < 64 → Clean at i (i + 1)
+    one a = clean-on at i i (i + 1) (omega arith) (λ j l u. absurd (omega arith)) a
+
+    two : at i < 64 → at (i + 1) < 64 → Clean at i (i + 2)
+    two a b = clean-on at i (i + 1) (i + 2) (omega arith) (one a) b
+
+    three : at i < 64 → at (i + 1) < 64 → at (i + 2) < 64 → Clean at i (i + 3)
+    three a b c = clean-on at i (i + 2) (i + 3) (omega arith) (two a b) c
+
+    four : at i < 64 → at (i + 1) < 64 → at (i + 2) < 64 → at (i + 3) < 64 → Clean at i (i + 4)
+    four a b c d = clean-on at i (i + 3) (i + 4) (omega arith) (three a b c) d
+
+-- both rules of a first bad one
+skip-strange : (o : Opening) (n : ℕ) (at : ℕ → ℕ) (from to : ℕ) (rs : List Rule) (f : Framed) → Clean at from to → By o n rs f
+    → By o n (strange at from to rs) f
+skip-strange o n at from to rs f k b =
+    skip o n _ _ f (clean-other at from to k) (skip o n _ _ f (clean-ordinary at from to k) b)
 
 -- ---- the rules from each place on
 
 module _ (o : Opening) (at : ℕ → ℕ) (len : ℕ) where
-  abbrev Second : Type 0
-  Second = (i : ℕ) × (4 ≤ i) × (i < 4 * headerUnits o) × (64 ≤ at i)
-
   abbrev fromExtent : List Rule
   fromExtent = 4 when (len < extent o (digits4 at)) ∷ []
 
   abbrev fromSecond : List Rule
-  fromSecond = 5 when Second ∷ fromExtent
+  fromSecond = strange at 4 (4 * headerUnits o) fromExtent
 
   abbrev fromHeader : List Rule
   fromHeader = 4 when (len < headerUnits o) ∷ fromSecond
@@ -79,7 +83,7 @@ module _ (o : Opening) (at : ℕ → ℕ) (len : ℕ) where
   fromCode = 6 when (o ≡ Unknown) ∷ fromHeader
 
   abbrev fromFirst : List Rule
-  fromFirst = 5 when ((i : ℕ) × (i < 4) × (64 ≤ at i)) ∷ fromCode
+  fromFirst = strange at 0 4 fromCode
 
   -- 4 (extent)
   fit-by : (k : Kind) (h size : ℕ) → k ≡ kindIn o (digits4 at) → h ≡ headerUnits o → size ≡ extent o (digits4 at)
@@ -96,8 +100,9 @@ module _ (o : Opening) (at : ℕ → ℕ) (len : ℕ) where
   second-by k ek two =
       pick-by (By o (digits4 at) fromHeader) (ltb len 2) _ _ (λ e. told (inl (rw two (ltb-true len 2 e), refl)))
       (λ e. skip o (digits4 at) (4 when (len < headerUnits o)) fromSecond _ (λ l. omega (arith, two, ltb-false len 2 e))
-      (known-split (By o (digits4 at) fromSecond) at 4 _ (λ j a b s. told (inl ((j, a, rw two (omega arith), s), refl)))
-      (λ none. skip o (digits4 at) (5 when Second) fromExtent _ (λ q. none (q .0) (q .1) (omega (arith, two, q .2)) (q .3))
+      (known-split (By o (digits4 at) fromSecond) at 4 _
+      (λ j a b c s. told (bad-first at 4 (4 * headerUnits o) j fromExtent a (rw two (omega arith)) c s))
+      (λ c. skip-strange o (digits4 at) at 4 (4 * headerUnits o) fromExtent _ (λ j a b. c j a (omega (arith, two)))
       (fit-by k 2 (extent o (digits4 at)) ek (rw two) refl))))
 
 -- 6
@@ -107,7 +112,7 @@ headed-by Unknown at len l = told (inl (refl, refl))
 headed-by (Short k n) at len l =
     skip (Short k n) (digits4 at) (6 when (Short k n ≡ Unknown)) _ _ (λ e. let z : _≡_ {A = ℕ} 0 1 = cc in omega arith)
     (skip (Short k n) (digits4 at) (4 when (len < 1)) _ _ (λ g. omega arith)
-    (skip (Short k n) (digits4 at) (5 when (Second (Short k n) at len)) _ _ (λ q. omega (arith, q .1, q .2))
+    (skip-strange (Short k n) (digits4 at) at 4 4 _ _ (λ j a b. absurd (omega arith))
     (fit-by (Short k n) at len k 1 n refl refl refl)))
 headed-by (LargeVariable t v) at len l =
     skip (LargeVariable t v) (digits4 at) (6 when (LargeVariable t v ≡ Unknown)) _ _ (λ e. let z : _≡_ {A = ℕ} 0 1 = cc in omega arith)
@@ -131,9 +136,8 @@ module _ (s : List ℕ) where
       (λ e. skip _ _ (4 when (length s / 4 < 1)) (fromFirst (openingOf s) (sextet s) (length s / 4)) _
       (λ l. omega (arith, ltb-false (length s / 4) 1 e))
       (known-split (Framing (fromFirst (openingOf s) (sextet s) (length s / 4))) (sextet s) 0 _
-      (λ j a b g. told (inl ((j, omega arith, g), refl)))
-      (λ none. skip _ _ (5 when ((i : ℕ) × (i < 4) × (64 ≤ sextet s i))) _ _
-      (λ q. none (q .0) (omega arith) (omega (arith, q .1)) (q .2))
+      (λ j a b k g. told (bad-first (sextet s) 0 4 j (fromCode (openingOf s) (sextet s) (length s / 4)) a b k g))
+      (λ k. skip-strange (openingOf s) (digits4 (sextet s)) (sextet s) 0 4 (fromCode (openingOf s) (sextet s) (length s / 4)) _ k
       (headed-by (openingOf s) (sextet s) (length s / 4) (ltb-false (length s / 4) 1 e)))))
 
 -- ---- as claims

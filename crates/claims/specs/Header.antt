@@ -108,7 +108,7 @@ one-or-two a b c d = opened a b (opening a b c d) (opening-units a b c d)
 -- ---- of an item
 
 known-code : (s : List ℕ) → None (framing s) → openingOf s ≡ Unknown → ⊥
-known-code s n = n .1 .1 .0
+known-code s n = n .1 .1 .1 .0
 
 pub header-units : (s : List ℕ) (k : Kind) (h n : ℕ) → frame s ≡ Item k h n → h ≡ headerOf (sextet s 0) (sextet s 1)
 header-units s k h n e =
@@ -127,8 +127,8 @@ header-elements d xs r k h n e f =
 
 pub framing-claims : FramingClaims
 framing-claims = record {
-  refuses = λ s m p e. refusal (4 ∷ 5 ∷ 6 ∷ []) (framing s) m (λ z. z) (inl tt & inl tt & inl tt & inl tt & inl tt & inl tt & end)
-      (unframed-first s m p e);
+  refuses = λ s m p e. refusal (4 ∷ 5 ∷ 19 ∷ 6 ∷ []) (framing s) m (λ z. z)
+      (inl tt & inl tt & inl tt & inl tt & inl tt & inl tt & inl tt & inl tt & end) (unframed-first s m p e);
   accepts = λ s k h n e. framed-found s k h n e .none;
   header = λ s k h n e. framed-found s k h n e .head;
   extent-by = λ s k h n e. framed-found s k h n e .size;

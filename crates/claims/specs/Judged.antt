@@ -19,8 +19,11 @@ use Rattle.format.specs.Registry.{isOpaque}
 use Rattle.format.specs.Framing.{sextet}
 use Rattle.format.specs.Judging.{shift, andThen, unless, isShortest, scan, behind, hasLead, judgeKind, ownCheck}
 use Rattle.claims.specs.Order.{Rule, _when_, First, None}
-use Rattle.claims.specs.Conditions.{StrangeFrom, FitsSmall, judging, groupRules, ownRules}
+use Rattle.claims.specs.Rules.{in-front}
+use Rattle.claims.specs.Conditions.{Other, Ordinary, FirstIs, FitsSmall, judging, groupRules, ownRules}
+use Rattle.claims.specs.Strangers.{strange, bad-first}
 
+infixr 5 _&_
 pub data Judged (rs : List Rule) : Verdict → Type 0 where
   passes : None rs → Judged rs Accepted
   refuses : {m p : ℕ} → First rs m → Judged rs (Refused m p)
@@ -44,18 +47,31 @@ unfolding shift
 shift-judged o rs v (passes none) = passes none
 shift-judged o rs v (refuses first) = refuses first
 
--- one rule, then others
-then-judged : (r : Rule) (rs : List Rule) (v w : Verdict) → Judged (r ∷ []) v → Judged rs w → Judged (r ∷ rs) (andThen v w)
+-- some rules, then others
+then-judged : (qs rs : List Rule) (v w : Verdict) → Judged qs v → Judged rs w → Judged (qs ++ rs) (andThen v w)
 unfolding andThen
-then-judged r rs v w (passes none) j = skip r rs w (none .0) j
-then-judged r rs v w (refuses (inl first)) j = refuses (inl first)
-then-judged r rs v w (refuses (inr first)) j = absurd (first .1)
+then-judged [] rs v w (passes none) j = j
+then-judged [] rs v w (refuses first) j = absurd first
+then-judged (q ∷ qs) rs v w (passes none) j = skip q (qs ++ rs) w (none .0) (then-judged qs rs Accepted w (passes (none .1)) j)
+then-judged (q ∷ qs) rs v w (refuses {m = m} first) j = refuses (in-front (q ∷ qs) rs m first)
 
--- a rule for another that says the same
-same : (n : ℕ) (C D : Type 0) (v : Verdict) → (C → D) → (D → C) → Judged (n when C ∷ []) v → Judged (n when D ∷ []) v
-same n C D v to from (passes none) = passes (λ d. none .0 (from d), tt)
-same n C D v to from (refuses (inl first)) = refuses (inl (to (first .0), first .1))
-same n C D v to from (refuses (inr first)) = absurd (first .1)
+-- rules for others that say the same
+data Alike : List Rule → List Rule → Type 1 where
+  end : Alike [] []
+  _&_ : {n : ℕ} {C D : Type 0} {rs qs : List Rule} → (C → D) × (D → C) → Alike rs qs → Alike (n when C ∷ rs) (n when D ∷ qs)
+
+none-alike : {rs qs : List Rule} → Alike rs qs → None rs → None qs
+none-alike end n = tt
+none-alike (s & a) n = (λ d. n .0 (s .1 d), none-alike a (n .1))
+
+first-alike : {rs qs : List Rule} (m : ℕ) → Alike rs qs → First rs m → First qs m
+first-alike m end f = f
+first-alike m (s & a) (inl f) = inl (s .0 (f .0), f .1)
+first-alike m (s & a) (inr f) = inr (λ d. f .0 (s .1 d), first-alike m a (f .1))
+
+same : {rs qs : List Rule} (v : Verdict) → Alike rs qs → Judged rs v → Judged qs v
+same v a (passes none) = passes (none-alike a none)
+same v a (refuses {m = m} first) = refuses (first-alike m a first)
 
 -- ---- the checks
 
@@ -70,30 +86,60 @@ true-false e = let z : _≡_ {A = ℕ} 0 1 = cc in omega arith
 unless-false : (n : ℕ) (b : Bool) → Judged (n when (b ≡ false) ∷ []) (unless n b)
 unless-false n b = unless-judged n b (b ≡ false) (λ e. e) (λ t f. true-false (cc))
 
--- 5
-later : (x : ℕ) (s : List ℕ) → x < 64 → StrangeFrom (x ∷ s) 0 (suc (length s)) → StrangeFrom s 0 (length s)
-later x s l (zero, a, b, c) = absurd (omega arith)
-later x s l (suc i, a, b, c) = (i, omega arith, omega arith, c)
+-- 5 or 19
 
-scan-judged : (s : List ℕ) → Judged (5 when (StrangeFrom s 0 (length s)) ∷ []) (scan s)
+-- the first bad one of a list is that of the list behind a known one
+module _ (Is : ℕ → Type 0) (bad : (v : ℕ) → Is v → 64 ≤ v) (x : ℕ) (s : List ℕ) (l : x < 64) where
+  later : FirstIs Is (sextet s) 0 (length s) → FirstIs Is (sextet (x ∷ s)) 0 (suc (length s))
+  later (i, a, b, k, v) = (suc i, omega arith, omega arith, known, v)
+    where
+      known : (j : ℕ) → 0 ≤ j → j < suc i → sextet (x ∷ s) j < 64
+      known zero c d = l
+      known (suc j) c d = k j (omega arith) (omega arith)
+
+  sooner : FirstIs Is (sextet (x ∷ s)) 0 (suc (length s)) → FirstIs Is (sextet s) 0 (length s)
+  sooner (zero, a, b, k, v) = absurd (omega (arith, bad x v))
+  sooner (suc i, a, b, k, v) = (i, omega arith, omega arith, λ j c d. k (suc j) (omega arith) (omega arith), v)
+
+other-bad : (v : ℕ) → Other v → 64 ≤ v
+other-bad v o = o .0
+
+ordinary-bad : (v : ℕ) → Ordinary v → 64 ≤ v
+ordinary-bad v e = omega arith
+
+scan-judged : (s : List ℕ) → Judged (strange (sextet s) 0 (length s) []) (scan s)
 unfolding scan
-scan-judged [] = passes (λ q. omega (arith, q .1, q .2), tt)
+scan-judged [] = passes (λ q. omega (arith, q .1, q .2), (λ q. omega (arith, q .1, q .2), tt))
 scan-judged (x ∷ s) =
-    pick-by (Judged (5 when (StrangeFrom (x ∷ s) 0 (suc (length s))) ∷ [])) (ltb x 64) _ _
-    (λ e. shift-judged 1 _ (scan s) (same 5 (StrangeFrom s 0 (length s)) _ (scan s)
-    (λ q. (suc (q .0), omega arith, omega (arith, q .2), q .3)) (later x s (ltb-true x 64 e)) (scan-judged s)))
-    (λ e. refuses (inl ((0, omega arith, omega arith, ltb-false x 64 e), refl)))
+    pick-by (Judged (strange (sextet (x ∷ s)) 0 (suc (length s)) [])) (ltb x 64) _ _
+    (λ e. let l = ltb-true x 64 e in
+    shift-judged 1 _ (scan s) (same (scan s)
+    ((later Other other-bad x s l, sooner Other other-bad x s l) & (later Ordinary ordinary-bad x s l, sooner Ordinary ordinary-bad x s l) & end)
+    (scan-judged s)))
+    (λ e. refuses (bad-first (sextet (x ∷ s)) 0 (suc (length s)) 0 [] (omega arith) (omega arith) (λ j a b. absurd (omega arith)) (ltb-false x 64 e)))
 
--- 5 from a place on
-behind-judged : (n : ℕ) (s : List ℕ) → Judged (5 when (StrangeFrom s n (length s)) ∷ []) (shift n (scan (drop n s)))
+-- from a place on
+module _ (Is : ℕ → Type 0) (n : ℕ) (s : List ℕ) where
+  onward : FirstIs Is (sextet (drop n s)) 0 (length (drop n s)) → FirstIs Is (sextet s) n (length s)
+  onward (i, a, b, k, v) = (n + i, omega arith, omega (arith, length-drop n s), known, subst Is (getD-drop n s i 0) v)
+    where
+      known : (j : ℕ) → n ≤ j → j < n + i → sextet s j < 64
+      known j c d = let e : n + (j - n) ≡ j = omega arith in rw (getD-drop n s (j - n) 0, e) at (k (j - n) (omega arith) (omega arith))
+
+  back : FirstIs Is (sextet s) n (length s) → FirstIs Is (sextet (drop n s)) 0 (length (drop n s))
+  back (i, a, b, k, v) =
+      let e : n + (i - n) ≡ i = omega arith in (
+        i - n,
+        omega arith,
+        omega (arith, length-drop n s),
+        λ j c d. rw (getD-drop n s j 0) (k (n + j) (omega arith) (omega arith)),
+        rw (getD-drop n s (i - n) 0, e) v,
+      )
+
+behind-judged : (n : ℕ) (s : List ℕ) → Judged (strange (sextet s) n (length s) []) (shift n (scan (drop n s)))
 behind-judged n s =
-    shift-judged n _ (scan (drop n s)) (same 5 (StrangeFrom (drop n s) 0 (length (drop n s))) _ (scan (drop n s))
-    (λ q. (n + q .0, omega arith, omega (arith, q .2, length-drop n s), rw (getD-drop n s (q .0) 0) at (q .3)))
-    (λ q. (q .0 - n, omega arith, omega (arith, q .1, q .2, length-drop n s), here (q .0) (q .1) (q .3)))
-    (scan-judged (drop n s)))
-  where
-    here : (i : ℕ) → n ≤ i → 64 ≤ sextet s i → 64 ≤ sextet (drop n s) (i - n)
-    here i l h = let e : n + (i - n) ≡ i = omega arith in rw (getD-drop n s (i - n) 0, e) h
+    shift-judged n _ (scan (drop n s)) (same (scan (drop n s))
+    ((onward Other n s, back Other n s) & (onward Ordinary n s, back Ordinary n s) & end) (scan-judged (drop n s)))
 
 -- 18
 pub long-form : (h n : ℕ) → isShortest h n ≡ false → FitsSmall h n
@@ -144,7 +190,10 @@ own-judged l (Group letter) h s = check l
         let n : length (drop (4 * h) s) / 4 ≡ length s / 4 - h = omega (arith, length-drop (4 * h) s) in
         skip (11 when (suc m ≡ 0)) _ _ (λ e. omega arith) (rw n (then-judged _ _ _ _ (short-judged h (length s / 4 - h)) (opaque (isOpaque letter))))
       where
-        opaque : (b : Bool) → Judged (5 when ((b ≡ true) × StrangeFrom s (4 * h) (length s)) ∷ []) (pick b (shift (4 * h) (scan (drop (4 * h) s))) Accepted)
-        opaque true = same 5 (StrangeFrom s (4 * h) (length s)) _ _ (λ q. (refl, q)) (λ q. q .1) (behind-judged (4 * h) s)
-        opaque false = passes (λ q. true-false (sym (q .0)), tt)
+        opaque : (b : Bool)
+            → Judged (5 when ((b ≡ true) × FirstIs Other (sextet s) (4 * h) (length s)) ∷
+            19 when ((b ≡ true) × FirstIs Ordinary (sextet s) (4 * h) (length s)) ∷ [])
+            (pick b (shift (4 * h) (scan (drop (4 * h) s))) Accepted)
+        opaque true = same _ ((λ q. (refl, q), λ q. q .1) & (λ q. (refl, q), λ q. q .1) & end) (behind-judged (4 * h) s)
+        opaque false = passes (λ q. true-false (sym (q .0)), (λ q. true-false (sym (q .0)), tt))
 own-judged l Genus h s = passes tt

@@ -2,6 +2,7 @@ pub mod Words
 pub mod Order
 pub mod Rules
 pub mod Conditions
+pub mod Strangers
 pub mod Framed
 pub mod Judged
 pub mod Claims

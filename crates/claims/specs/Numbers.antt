@@ -10,12 +10,13 @@ use Rattle.format.specs.Units.{Domain}
 use Rattle.format.specs.Judging.{scan, maxDepth}
 use Rattle.format.specs.Report.{judgeIn, placed}
 use Rattle.damage.specs.Counts.{Numbered, shift-numbered}
+use Rattle.laws.specs.Alphabet.{number-some}
 use Rattle.laws.specs.Judging.{Reaches, every-verdict}
 
 scan-numbered : (s : List ℕ) → Numbered (scan s)
 unfolding scan
 scan-numbered [] = tt
-scan-numbered (x ∷ s) = pick-by Numbered (ltb x 64) _ _ (λ _. shift-numbered 1 (scan s) (scan-numbered s)) (λ _. omega arith)
+scan-numbered (x ∷ s) = pick-by Numbered (ltb x 64) _ _ (λ _. shift-numbered 1 (scan s) (scan-numbered s)) (λ _. number-some x)
 
 numbered : Reaches (λ s. Unit {0}) Numbered
 numbered = record {

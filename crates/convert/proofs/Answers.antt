@@ -2,12 +2,13 @@
 use mathlib.Core.Path.{_≡_}
 use mathlib.Core.List.{List}
 use Prim.Native.Nat.{ℕ, _*_, _/_, _%_, _<_, _≤_}
-use lib.ListN.{length}
+use lib.ListN.{length, getD}
 use borrow.Author.Tests.{lt-ltb, le-ltb}
+use Rattle.format.specs.Alphabet.{sextetOf, strangerNumber}
 use Rattle.format.specs.Offsets.{textOffset, binaryOffset}
 use Rattle.format.specs.declared.ToBinary.the-variants as B
 use Rattle.format.specs.declared.ToText.the-variants as T
-use Rattle.format.specs.Conversion.{textToBinary, binaryToText, firstStranger}
+use Rattle.format.specs.Conversion.{textToBinary, binaryToText, firstStranger, firstNumber}
 
 module _ (s : List ℕ) (room : ℕ) where
   pub text-long : 4194304 < length s → textToBinary s room ≡ B.Refused 1 (textOffset 0)
@@ -19,8 +20,8 @@ module _ (s : List ℕ) (room : ℕ) where
   text-torn a b = simp (le-ltb _ _ a, lt-ltb _ _ b)
 
   module _ (a : length s ≤ 4194304) (b : length s % 4 ≤ 0) (i : ℕ) (e : i ≡ firstStranger s) where
-    pub text-stranger : i < length s → textToBinary s room ≡ B.Refused 5 (textOffset i)
-    unfolding textToBinary
+    pub text-stranger : i < length s → textToBinary s room ≡ B.Refused (strangerNumber (sextetOf (getD s i 0))) (textOffset i)
+    unfolding textToBinary firstNumber
     text-stranger d = rw e (simp (le-ltb _ _ a, le-ltb _ _ b, lt-ltb _ _ (rw e at d)))
 
     pub text-no-room : length s ≤ i → room < length s / 4 * 3 → textToBinary s room ≡ B.Refused 3 (textOffset 0)

@@ -8,7 +8,7 @@ ghost use mathlib.Core.Path.{_≡_};
 ghost use lib.ListN.{length};
 ghost use Rattle.format.specs.Conversion.{textToBinary, binaryLeft, binaryToText, textLeft};
 
-// Refusals in the order 1, 2, 5, 3; a refused call writes nothing, and bytes behind the answer stay.
+// Refusals in the order 1, 2, 5 or 19, 3; a refused call writes nothing, and bytes behind the answer stay.
 pub fn text_to_binary(src: &[u8], dst: &mut [u8]) -> ToBinary
     ensures { λ r. ⌜ r ≡ textToBinary (now (src .entry)) (length (now (dst .entry))) ⌝ }
     ensures { λ r. ⌜ now (dst .exit) ≡ binaryLeft r (now (src .entry)) (now (dst .entry)) ⌝ }
@@ -22,7 +22,8 @@ pub fn text_to_binary(src: &[u8], dst: &mut [u8]) -> ToBinary
     }
     let bad = convert_pack::to_binary(src, dst);
     if bad < n {
-        return ToBinary::Refused(5, TextOffset(bad));
+        let number = alphabet::number_at(src, bad);
+        return ToBinary::Refused(number, TextOffset(bad));
     }
     let size = offsets::in_binary(TextOffset(n));
     if dst.len() < size.0 {

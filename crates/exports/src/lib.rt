@@ -172,7 +172,7 @@ pub extern "C" fn cesr_read_binary(
     }
 }
 
-// answer: the length written, or the place: for 5 the index among the tag characters.
+// answer: the length written, or the place: for 5 and 19 the index among the tag characters.
 #[no_mangle]
 pub extern "C" fn cesr_write_text(
     chars: u8,
@@ -201,7 +201,7 @@ pub extern "C" fn cesr_write_text(
     }
 }
 
-// answer: the length written, or the place: for 5 the index among the tag characters.
+// answer: the length written, or the place: for 5 and 19 the index among the tag characters.
 #[no_mangle]
 pub extern "C" fn cesr_write_binary(
     chars: u8,

@@ -9,9 +9,17 @@ use Rattle.base.specs.Lists.{upTo}
 abbrev pub within : ℕ → ℕ → ℕ → Bool
 within low high c = pick (leb low c) (leb c high) false
 
--- the value of every character outside the alphabet: the other 192 bytes have none of the 64
+-- 02 j: "`+`, `/` or `=` from the ordinary alphabet"
+abbrev pub isOrdinary : ℕ → Bool
+isOrdinary c = pick (eqb c 43) true (pick (eqb c 47) true (eqb c 61))
+
+-- a character outside the alphabet has none of the 64 values and reads as a mark; "The lookup should tell these three apart from other
+-- strangers"
 abbrev pub stranger : ℕ
 stranger = 64
+
+abbrev pub ordinary : ℕ
+ordinary = 65
 
 unfoldable pub sextetOf : ℕ → ℕ
 sextetOf c =
@@ -20,7 +28,11 @@ sextetOf c =
     (pick (within 48 57 c) (c - 48 + 52)  -- `0`-`9` 52 to 61
     (pick (eqb c 45) 62  -- `-` 62
     (pick (eqb c 95) 63  -- `_` 63
-    stranger))))
+    (pick (isOrdinary c) ordinary stranger)))))
+
+-- the number of a character outside the alphabet, by its mark. 02 j: "report them as number 19 where they would have given 5"
+unfoldable pub strangerNumber : ℕ → ℕ
+strangerNumber v = pick (eqb v ordinary) 19 5
 
 -- the character of a sextet, and 0, which is no character of the alphabet, from 64 on
 unfoldable pub charOf : ℕ → ℕ

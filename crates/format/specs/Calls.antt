@@ -29,7 +29,7 @@ use Rattle.format.specs.declared.InText.the-variants.{At, Past}
 use Rattle.format.specs.Alphabet.{sextetOf, charOf}
 use Rattle.format.specs.Units.{Domain, text, binary, bytesOf, sextetsOf, tripletOf, quadletOf, textSextets, binarySextets}
 use Rattle.format.specs.Offsets.{textOffset, binaryOffset, offsetInBinary, offsetInText}
-use Rattle.format.specs.Conversion.{toBinary, toText, firstStranger, textToBinary, binaryLeft, binaryToText, textLeft}
+use Rattle.format.specs.Conversion.{toBinary, toText, firstStranger, firstNumber, textToBinary, binaryLeft, binaryToText, textLeft}
 use Rattle.format.specs.Report.{refusal, refusalsOf, refusals, be4, verdictByte, rowBytes, refusalBytes, remainderBytes, concat}
 use Rattle.format.specs.Report.{section, report, reportAnswer, reportLeft}
 use Rattle.format.specs.Reading.{codeOf, isPrimitive, tagsOf, primitiveOf, judged, readFramed, reading, from, placeFrom, padded, noTag}
@@ -67,6 +67,10 @@ calls =
     asked (ToBinary (77 ∷ 65 ∷ 65 ∷ []) []) (refused 2 0 []) ∷  -- `MAA`, room 0: 2, then 3
     asked (ToBinary (77 ∷ 65 ∷ 33 ∷ 66 ∷ []) []) (refused 5 2 []) ∷  -- `MA!B`, room 0: 5, then 3
     asked (ToBinary (77 ∷ 65 ∷ 65 ∷ 66 ∷ 77 ∷ 33 ∷ 65 ∷ 33 ∷ []) (9 ∷ 9 ∷ 9 ∷ 9 ∷ 9 ∷ 9 ∷ [])) (refused 5 5 (9 ∷ 9 ∷ 9 ∷ 9 ∷ 9 ∷ 9 ∷ [])) ∷  -- `MAABM!A!`, room 6: 5 at the first bad character
+    asked (ToBinary (77 ∷ 43 ∷ 65 ∷ []) (9 ∷ 9 ∷ 9 ∷ [])) (refused 2 0 (9 ∷ 9 ∷ 9 ∷ [])) ∷  -- `M+A`, room 3: 2, then 19
+    asked (ToBinary (77 ∷ 65 ∷ 61 ∷ 66 ∷ []) []) (refused 19 2 []) ∷  -- `MA=B`, room 0: 19, then 3
+    asked (ToBinary (77 ∷ 65 ∷ 65 ∷ 66 ∷ 77 ∷ 47 ∷ 65 ∷ 33 ∷ []) (9 ∷ 9 ∷ 9 ∷ 9 ∷ 9 ∷ 9 ∷ [])) (refused 19 5 (9 ∷ 9 ∷ 9 ∷ 9 ∷ 9 ∷ 9 ∷ [])) ∷  -- `MAABM/A!`: the first bad character, of whichever kind
+    asked (ToBinary (77 ∷ 65 ∷ 65 ∷ 66 ∷ 77 ∷ 33 ∷ 65 ∷ 47 ∷ []) (9 ∷ 9 ∷ 9 ∷ 9 ∷ 9 ∷ 9 ∷ [])) (refused 5 5 (9 ∷ 9 ∷ 9 ∷ 9 ∷ 9 ∷ 9 ∷ [])) ∷  -- `MAABM!A/`
     asked (ToBinary (77 ∷ 65 ∷ 65 ∷ 66 ∷ []) (9 ∷ 9 ∷ [])) (refused 3 0 (9 ∷ 9 ∷ [])) ∷  -- `MAAB`, room 2: 3
     asked (ToBinary (77 ∷ 65 ∷ 65 ∷ 66 ∷ []) (9 ∷ 9 ∷ 9 ∷ [])) (written 3 (48 ∷ 0 ∷ 1 ∷ [])) ∷  -- `MAAB`, room 3: the exact size
     asked (ToBinary (77 ∷ 65 ∷ 65 ∷ 66 ∷ []) (9 ∷ 9 ∷ 9 ∷ 9 ∷ [])) (written 3 (48 ∷ 0 ∷ 1 ∷ 9 ∷ [])) ∷  -- `MAAB`, room 4: bytes behind it stay
@@ -104,6 +108,11 @@ calls =
     asked (ReadText (77 ∷ 65 ∷ 65 ∷ 66 ∷ 45 ∷ 75 ∷ 65 ∷ 66 ∷ 33 ∷ 33 ∷ 33 ∷ 33 ∷ []) 4 (9 ∷ [])) (refused 14 4 (9 ∷ [])) ∷  -- `MAAB-KAB!!!!` at 4, room 1: 14, then 5
     asked (ReadText (45 ∷ 95 ∷ 65 ∷ 65 ∷ 65 ∷ 66 ∷ 65 ∷ 65 ∷ []) 0 (9 ∷ [])) (refused 14 0 (9 ∷ [])) ∷  -- `-_AAABAA` at 0, room 1: never 7
     asked (ReadText (48 ∷ 72 ∷ 69 ∷ 65 ∷ 65 ∷ 33 ∷ 65 ∷ 65 ∷ []) 0 []) (refused 5 5 []) ∷  -- `0HEAA!AA` at 0, room 0: 5 behind the header, then 8, then 3
+    asked (ReadText (77 ∷ 65 ∷ 65 ∷ 66 ∷ 77 ∷ 43 ∷ 65 ∷ 66 ∷ []) 4 (9 ∷ [])) (refused 19 5 (9 ∷ [])) ∷  -- `MAABM+AB` at 4, room 1: 19 in framing
+    asked (ReadText (43 ∷ 65 ∷ 65 ∷ 33 ∷ []) 0 []) (refused 19 0 []) ∷  -- `+AA!` at 0, room 0: its first bad character
+    asked (ReadText (33 ∷ 65 ∷ 65 ∷ 43 ∷ []) 0 []) (refused 5 0 []) ∷  -- `!AA+` at 0, room 0
+    asked (ReadText (55 ∷ 65 ∷ 65 ∷ 66 ∷ 65 ∷ 65 ∷ 47 ∷ 33 ∷ []) 0 []) (refused 19 6 []) ∷  -- `7AABAA/!` at 0, room 0: 19 of the second unit
+    asked (ReadText (48 ∷ 72 ∷ 69 ∷ 65 ∷ 65 ∷ 61 ∷ 65 ∷ 65 ∷ []) 0 []) (refused 19 5 []) ∷  -- `0HEAA=AA` at 0, room 0: 19 behind the header, then 8, then 3
     asked (ReadText (53 ∷ 66 ∷ 65 ∷ 65 ∷ []) 0 []) (refused 9 0 []) ∷  -- `5BAA` at 0, room 0: 9
     asked (ReadText (77 ∷ 65 ∷ 65 ∷ 66 ∷ 77 ∷ 81 ∷ 65 ∷ 65 ∷ []) 4 []) (refused 8 4 []) ∷  -- `MAABMQAA` at 4, room 0: 8, then 3
     asked (ReadText (77 ∷ 65 ∷ 65 ∷ 66 ∷ 48 ∷ 74 ∷ 65 ∷ 65 ∷ []) 4 []) (refused 10 4 []) ∷  -- `MAAB0JAA` at 4, room 0: 10
@@ -132,6 +141,11 @@ calls =
     asked (WriteText (C.Fixed 1 77) (33 ∷ 33 ∷ 33 ∷ 33 ∷ 33 ∷ 33 ∷ 33 ∷ 33 ∷ 33 ∷ 33 ∷ 33 ∷ []) 12 (0 ∷ 1 ∷ []) (9 ∷ 9 ∷ 9 ∷ 9 ∷ [])) (refused 12 0 (9 ∷ 9 ∷ 9 ∷ 9 ∷ [])) ∷  -- a number above 11 is 12
     asked (WriteText (C.Fixed 1 77) (33 ∷ 33 ∷ 33 ∷ 33 ∷ 33 ∷ 33 ∷ 33 ∷ 33 ∷ 33 ∷ 33 ∷ 33 ∷ []) 0 (0 ∷ 1 ∷ 2 ∷ []) []) (refused 12 0 []) ∷  -- three bytes for `M`: 12, then 3
     asked (WriteText (C.Fixed 1 88) (65 ∷ 33 ∷ 65 ∷ 33 ∷ 33 ∷ 33 ∷ 33 ∷ 33 ∷ 33 ∷ 33 ∷ 33 ∷ []) 3 [] []) (refused 5 1 []) ∷  -- 5 at the index among the tag characters, then 3
+    asked (WriteText (C.Fixed 1 88) (65 ∷ 43 ∷ 33 ∷ 33 ∷ 33 ∷ 33 ∷ 33 ∷ 33 ∷ 33 ∷ 33 ∷ 33 ∷ []) 3 [] []) (refused 19 1 []) ∷  -- 19 at the index among the tag characters, then 3
+    asked (WriteText (C.Fixed 1 88) (65 ∷ 33 ∷ 43 ∷ 33 ∷ 33 ∷ 33 ∷ 33 ∷ 33 ∷ 33 ∷ 33 ∷ 33 ∷ []) 3 [] []) (refused 5 1 []) ∷  -- the first bad character, of whichever kind
+    asked (WriteText (C.Fixed 1 88) (43 ∷ 43 ∷ 43 ∷ 33 ∷ 33 ∷ 33 ∷ 33 ∷ 33 ∷ 33 ∷ 33 ∷ 33 ∷ []) 2 [] []) (refused 12 0 []) ∷  -- 12, then 19
+    asked (WriteText (C.Fixed 1 43) (43 ∷ 43 ∷ 43 ∷ 33 ∷ 33 ∷ 33 ∷ 33 ∷ 33 ∷ 33 ∷ 33 ∷ 33 ∷ []) 3 [] []) (refused 6 0 []) ∷  -- a code named by `+` is no primitive's: 6
+    asked (WriteText (C.Fixed 1 88) (65 ∷ 66 ∷ 67 ∷ 43 ∷ 47 ∷ 61 ∷ 33 ∷ 33 ∷ 33 ∷ 33 ∷ 33 ∷ []) 3 [] (9 ∷ 9 ∷ 9 ∷ 9 ∷ [])) (written 4 (88 ∷ 65 ∷ 66 ∷ 67 ∷ [])) ∷  -- the places behind that number are ignored
     asked (WriteText (C.Fixed 1 77) (33 ∷ 33 ∷ 33 ∷ 33 ∷ 33 ∷ 33 ∷ 33 ∷ 33 ∷ 33 ∷ 33 ∷ 33 ∷ []) 0 (0 ∷ 1 ∷ []) (9 ∷ 9 ∷ 9 ∷ [])) (refused 3 0 (9 ∷ 9 ∷ 9 ∷ [])) ∷  -- 3
     asked (WriteText (C.Fixed 1 77) (33 ∷ 33 ∷ 33 ∷ 33 ∷ 33 ∷ 33 ∷ 33 ∷ 33 ∷ 33 ∷ 33 ∷ 33 ∷ []) 0 (0 ∷ 1 ∷ []) (9 ∷ 9 ∷ 9 ∷ 9 ∷ 9 ∷ [])) (written 4 (77 ∷ 65 ∷ 65 ∷ 66 ∷ 9 ∷ [])) ∷  -- `MAAB`, bytes behind it stay
     asked (WriteText (C.Fixed 1 88) (65 ∷ 66 ∷ 67 ∷ 33 ∷ 33 ∷ 33 ∷ 33 ∷ 33 ∷ 33 ∷ 33 ∷ 33 ∷ []) 3 [] (9 ∷ 9 ∷ 9 ∷ 9 ∷ [])) (written 4 (88 ∷ 65 ∷ 66 ∷ 67 ∷ [])) ∷  -- the places behind that number are ignored
@@ -150,6 +164,7 @@ calls =
     asked (WriteBinary (C.Fixed 1 77) (33 ∷ 33 ∷ 33 ∷ 33 ∷ 33 ∷ 33 ∷ 33 ∷ 33 ∷ 33 ∷ 33 ∷ 33 ∷ []) 0 (0 ∷ 1 ∷ []) (9 ∷ 9 ∷ [])) (refused 3 0 (9 ∷ 9 ∷ [])) ∷  -- 3 in B
     asked (WriteBinary (C.Fixed 1 77) (33 ∷ 33 ∷ 33 ∷ 33 ∷ 33 ∷ 33 ∷ 33 ∷ 33 ∷ 33 ∷ 33 ∷ 33 ∷ []) 0 (0 ∷ 1 ∷ []) (9 ∷ 9 ∷ 9 ∷ 9 ∷ [])) (written 3 (48 ∷ 0 ∷ 1 ∷ 9 ∷ [])) ∷  -- `MAAB` in B
     asked (WriteBinary (C.Fixed 1 88) (65 ∷ 33 ∷ 65 ∷ 33 ∷ 33 ∷ 33 ∷ 33 ∷ 33 ∷ 33 ∷ 33 ∷ 33 ∷ []) 3 [] []) (refused 5 1 []) ∷  -- 5, then 3, in B
+    asked (WriteBinary (C.Fixed 1 88) (65 ∷ 47 ∷ 65 ∷ 33 ∷ 33 ∷ 33 ∷ 33 ∷ 33 ∷ 33 ∷ 33 ∷ 33 ∷ []) 3 [] []) (refused 19 1 []) ∷  -- 19, then 3, in B
     asked (WriteBinary (C.Large 66) (33 ∷ 33 ∷ 33 ∷ 33 ∷ 33 ∷ 33 ∷ 33 ∷ 33 ∷ 33 ∷ 33 ∷ 33 ∷ []) 0 (97 ∷ []) (9 ∷ 9 ∷ 9 ∷ 9 ∷ 9 ∷ 9 ∷ 9 ∷ 9 ∷ [])) (refused 18 0 (9 ∷ 9 ∷ 9 ∷ 9 ∷ 9 ∷ 9 ∷ 9 ∷ 9 ∷ [])) ∷  -- 18, then 3, in B
     []
 
@@ -185,7 +200,7 @@ wroteBinary (BW.Refused m p) left = refused m p left
 
 -- what the definitions answer; to compute it is to open all of them
 unfoldable pub answered : Call → Outcome
-unfolding given toText quadletOf firstStranger textToBinary binaryLeft binaryToText textLeft refusal refusalsOf refusals be4 verdictByte
+unfolding given toText quadletOf firstStranger firstNumber textToBinary binaryLeft binaryToText textLeft refusal refusalsOf refusals be4 verdictByte
     rowBytes refusalBytes remainderBytes concat section report reportAnswer reportLeft codeOf isPrimitive tagsOf primitiveOf judged
     readFramed reading from placeFrom padded noTag textAnswer readText textRaw rawLeft binaryAnswer readBinary partAt W.namedFixed W.named
     W.rawSize W.fitsRow W.rawLimit W.fitsVariable W.leadFor W.countFor W.codeSextets W.rawPrefix W.tagPrefix W.rowPrefix
@@ -210,7 +225,7 @@ pub data Answers : List Asked → Type 0 where
 
 pub calls-hold : Answers calls
 unfolding answered calls
-calls-hold = refl & refl & refl & refl & refl & refl & refl & refl & refl & refl & refl & refl & refl & refl & refl & refl & refl & refl & refl & refl & refl & refl & refl & refl & refl & refl & refl & refl & refl & refl & refl & refl & refl & refl & refl & refl & refl & refl & refl & refl & refl & refl & refl & refl & refl & refl & refl & refl & refl & refl & refl & refl & refl & refl & refl & refl & refl & refl & refl & refl & refl & refl & refl & refl & refl & refl & refl & refl & refl & refl & refl & refl & refl & refl & refl & refl & refl & refl & refl & refl & refl & refl & refl & refl & refl & refl & refl & refl & end
+calls-hold = refl & refl & refl & refl & refl & refl & refl & refl & refl & refl & refl & refl & refl & refl & refl & refl & refl & refl & refl & refl & refl & refl & refl & refl & refl & refl & refl & refl & refl & refl & refl & refl & refl & refl & refl & refl & refl & refl & refl & refl & refl & refl & refl & refl & refl & refl & refl & refl & refl & refl & refl & refl & refl & refl & refl & refl & refl & refl & refl & refl & refl & refl & refl & refl & refl & refl & refl & refl & refl & refl & refl & refl & refl & refl & refl & refl & refl & refl & refl & refl & refl & refl & refl & refl & refl & refl & refl & refl & refl & refl & refl & refl & refl & refl & refl & refl & refl & refl & refl & refl & refl & refl & refl & end
 
 -- ---- 1, which no table shows: "stream longer than 4,194,304 characters or 3,145,728 bytes". One that is longer by one is not whole units,
 -- nor is there room; one of just that length is not refused with it

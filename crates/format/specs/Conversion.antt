@@ -1,12 +1,12 @@
 -- 01, "Numbers a vendor sees": conversion of whole streams. "T to B gives 1, 2, 5, 3; B to T 1, 2, 3. Room asked is the exact
--- size written. An accepted call writes its answer from the buffer's start; bytes behind it stay." Assumes nothing.
+-- size written. An accepted call writes its answer from the buffer's start; bytes behind it stay." 02 j: 19 where 5 stands. Assumes nothing.
 use Prim.Native.Nat.{ℕ, suc, _*_, _/_, _%_}
 use mathlib.Core.List.{List, [], _∷_, _++_}
 use lib.Dec.{ltb}
-use lib.ListN.{length, drop}
+use lib.ListN.{length, getD, drop}
 use Rattle.base.specs.Pick.{pick}
 use Rattle.base.specs.Each.{each}
-use Rattle.format.specs.Alphabet.{sextetOf}
+use Rattle.format.specs.Alphabet.{sextetOf, strangerNumber}
 use Rattle.format.specs.Units.{Domain, text, binary, tripletOf, quadletOf}
 use Rattle.format.specs.Offsets.{textOffset, binaryOffset}
 use Rattle.format.specs.declared.ToBinary.{ToBinary}
@@ -26,13 +26,17 @@ unfoldable pub firstStranger : List ℕ → ℕ
 firstStranger [] = 0
 firstStranger (c ∷ s) = pick (ltb (sextetOf c) 64) (suc (firstStranger s)) 0
 
--- ---- T to B: 1, 2, 5, 3
+-- its number, 5 or 19
+unfoldable pub firstNumber : List ℕ → ℕ
+firstNumber s = strangerNumber (sextetOf (getD s (firstStranger s) 0))
+
+-- ---- T to B: 1, 2, 5 or 19, 3
 
 unfoldable pub textToBinary : List ℕ → ℕ → ToBinary
 textToBinary s room =
     pick (ltb (text .limit) (length s)) (B.Refused 1 (textOffset 0))
     (pick (ltb 0 (length s % 4)) (B.Refused 2 (textOffset 0))
-    (pick (ltb (firstStranger s) (length s)) (B.Refused 5 (textOffset (firstStranger s)))
+    (pick (ltb (firstStranger s) (length s)) (B.Refused (firstNumber s) (textOffset (firstStranger s)))
     (pick (ltb room (length s / 4 * 3)) (B.Refused 3 (textOffset 0))
     (B.Written (binaryOffset (length s / 4 * 3))))))
 

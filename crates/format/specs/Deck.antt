@@ -10,7 +10,7 @@ use Rattle.format.specs.declared.Framed.{Framed}
 use Rattle.format.specs.declared.Framed.the-variants.{Item, Unframed}
 use Rattle.format.specs.declared.Verdict.{Verdict}
 use Rattle.format.specs.declared.Verdict.the-variants.{Accepted, Refused}
-use Rattle.format.specs.Alphabet.{sextetOf, charOf}
+use Rattle.format.specs.Alphabet.{sextetOf, strangerNumber, charOf}
 use Rattle.format.specs.Units.{Domain, text, binary, bytesOf, sextetsOf, tripletOf, textSextets, binarySextets}
 use Rattle.format.specs.Conversion.{toBinary}
 use Rattle.format.specs.Registry.{codes, isType, isGroup, isOpaque, isOverrideable, fixedAmong, fixed, opening, extent}
@@ -109,6 +109,23 @@ order =
     example (45 ∷ 45 ∷ 65 ∷ 65 ∷ 65 ∷ 65 ∷ 65 ∷ 67 ∷ 45 ∷ 95 ∷ 65 ∷ 65 ∷ 65 ∷ 66 ∷ 65 ∷ 65 ∷ []) (refused 18 0) ∷  -- `--AAAAAC-_AAABAA`: an inner 7 too
     example (45 ∷ 45 ∷ 75 ∷ 65 ∷ 65 ∷ 65 ∷ 65 ∷ 66 ∷ 33 ∷ 65 ∷ 65 ∷ 65 ∷ []) (refused 18 0) ∷  -- `--KAAAAB!AAA`: of an opaque group 18, then 5
     example (45 ∷ 75 ∷ 65 ∷ 66 ∷ 65 ∷ 65 ∷ 33 ∷ 65 ∷ []) (refused 5 6) ∷  -- `-KABAA!A`: an opaque group, 5
+    -- 02 j: "report them as number 19 where they would have given 5, at the same place in the same order .. the first bad character is
+    -- reported, of whichever kind"
+    example (77 ∷ 43 ∷ 65 ∷ []) (unframed 4 0) ∷  -- `M+A`: 4 (first unit), then 19
+    example (98 ∷ 43 ∷ 33 ∷ 65 ∷ []) (unframed 19 0) ∷  -- `b+!A`: 19, then 6
+    example (77 ∷ 65 ∷ 43 ∷ 33 ∷ []) (unframed 19 0) ∷  -- `MA+!`: the first is ordinary
+    example (77 ∷ 65 ∷ 33 ∷ 43 ∷ []) (unframed 5 0) ∷  -- `MA!+`: the first is not
+    example (55 ∷ 65 ∷ 65 ∷ 66 ∷ 61 ∷ 65 ∷ 65 ∷ []) (unframed 4 0) ∷  -- `7AAB=AA`: 4 (second unit), then 19
+    example (55 ∷ 65 ∷ 65 ∷ 66 ∷ 43 ∷ 65 ∷ 65 ∷ 66 ∷ []) (unframed 19 0) ∷  -- `7AAB+AAB`: 19 in the second unit, then 4 (extent)
+    example (48 ∷ 72 ∷ 69 ∷ 65 ∷ 65 ∷ 61 ∷ 47 ∷ 33 ∷ []) (refused 19 5) ∷  -- `0HEAA=/!`: 19 behind the header, then 8
+    example (48 ∷ 72 ∷ 68 ∷ 65 ∷ 65 ∷ 33 ∷ 61 ∷ 61 ∷ []) (refused 5 5) ∷  -- `0HDAA!==`: 5, and no 19 behind it
+    example (45 ∷ 75 ∷ 65 ∷ 66 ∷ 65 ∷ 65 ∷ 47 ∷ 65 ∷ []) (refused 19 6) ∷  -- `-KABAA/A`: an opaque group, 19
+    example (45 ∷ 65 ∷ 65 ∷ 66 ∷ 77 ∷ 65 ∷ 65 ∷ 61 ∷ []) (refused 19 7) ∷  -- `-AABMAA=`: an inner 19 is the item's verdict
+    example (77 ∷ 44 ∷ 65 ∷ 65 ∷ []) (unframed 5 0) ∷  -- `M,AA`: the neighbours of the three are other strangers
+    example (77 ∷ 46 ∷ 65 ∷ 65 ∷ []) (unframed 5 0) ∷  -- `M.AA`
+    example (77 ∷ 42 ∷ 65 ∷ 65 ∷ []) (unframed 5 0) ∷  -- `M*AA`
+    example (77 ∷ 60 ∷ 65 ∷ 65 ∷ []) (unframed 5 0) ∷  -- `M<AA`
+    example (77 ∷ 62 ∷ 65 ∷ 65 ∷ []) (unframed 5 0) ∷  -- `M>AA`
     -- `-AACMQAA_AAA`: the first refusal stands, with number and place
     example (45 ∷ 65 ∷ 65 ∷ 67 ∷ 77 ∷ 81 ∷ 65 ∷ 65 ∷ 95 ∷ 65 ∷ 65 ∷ 65 ∷ []) (refused 8 4) ∷
     []
@@ -133,7 +150,7 @@ valueBy e (Unframed n p) s = []
 unfoldable pub given : Domain → List ℕ → Expected → Seen
 unfolding around charOf rows remainder rowsOf remainderOf cut cutF cutBy frameIn judgeIn placed frameRuled frame frameWith ruled
     isOurs headed second known fit opening extent fixed fixedAmong codes isType isGroup isOpaque isOverrideable scale
-    textSextets sextetOf judge judgeBy judgeKind group ownCheck inTurn contents frame4 frameRuled4 andThen shift unless isShortest scan
+    textSextets sextetOf strangerNumber judge judgeBy judgeKind group ownCheck inTurn contents frame4 frameRuled4 andThen shift unless isShortest scan
     behind zeroBits hasLead prepadRight binarySextets sextetsOf bytesOf tripletOf toBinary each rawStart rawOf tagOf bytesIn
 given d xs e = record { items = rowsIn d xs; left = remainderIn d xs; value = valueBy e (frame (d .sextets xs)) (d .sextets xs) }
 
@@ -177,7 +194,7 @@ deck-holds = (
 -- the order, in text: some of its characters are outside the alphabet
 pub order-holds : Holds text (λ s. s) order
 unfolding given order
-order-holds = refl & refl & refl & refl & refl & refl & refl & refl & refl & refl & refl & refl & refl & refl & refl & refl & refl & end
+order-holds = refl & refl & refl & refl & refl & refl & refl & refl & refl & refl & refl & refl & refl & refl & refl & refl & refl & refl & refl & refl & refl & refl & refl & refl & refl & refl & refl & refl & refl & refl & refl & refl & end
 
 -- 02 h: "A large group below 4,096 units is thus 18, and `--AAABAA` with its 4,096 units still passes": the number itself
 pub least-large : (isShortest 2 4095 ≡ false) × (isShortest 2 4096 ≡ true)

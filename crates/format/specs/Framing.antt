@@ -1,5 +1,5 @@
--- 01, "Framing an item: 4 (first unit), 5 (its first bad character), 6, 4 (second unit), 5, 4 (extent)". One rule for both
--- forms, over the first eight sextets from the item's start, `at 0` to `at 7`, and the number of whole units that are left to
+-- 01, "Framing an item: 4 (first unit), 5 (its first bad character), 6, 4 (second unit), 5, 4 (extent)", and by
+-- 02 j 19 where 5 stands, "the first bad character is reported, of whichever kind". One rule for both forms, over the first eight sextets from the item's start, `at 0` to `at 7`, and the number of whole units that are left to
 -- the enclosing end. Sizes in units, places in sextets from the item's start. Assumes nothing.
 use Prim.Native.Nat.{ℕ, _+_, _-_, _*_, _/_}
 use mathlib.Core.List.{List}
@@ -14,25 +14,26 @@ use Rattle.format.specs.declared.Opening.{Opening}
 use Rattle.format.specs.declared.Opening.the-variants.{Unknown, Short, LargeVariable, LargeGroup, Version}
 use Rattle.format.specs.declared.Framed.{Framed}
 use Rattle.format.specs.declared.Framed.the-variants.{Item, Unframed}
+use Rattle.format.specs.Alphabet.{strangerNumber}
 use Rattle.format.specs.Registry.{opening, extent}
 
 -- 4: the full size passes the end
 unfoldable pub fit : Kind → ℕ → ℕ → ℕ → Framed
 fit k head size len = pick (ltb len size) (Unframed 4 0) (Item k head size)
 
--- 5: the first bad character of the unit from sextet i on
+-- 5 or 19: the first bad character of the unit from sextet i on
 unfoldable pub known : (ℕ → ℕ) → ℕ → Framed → Framed
 known at i next =
     pick (ltb (at i) 64)
     (pick (ltb (at (i + 1)) 64)
     (pick (ltb (at (i + 2)) 64)
     (pick (ltb (at (i + 3)) 64) next
-    (Unframed 5 (i + 3)))
-    (Unframed 5 (i + 2)))
-    (Unframed 5 (i + 1)))
-    (Unframed 5 i)
+    (Unframed (strangerNumber (at (i + 3))) (i + 3)))
+    (Unframed (strangerNumber (at (i + 2))) (i + 2)))
+    (Unframed (strangerNumber (at (i + 1))) (i + 1)))
+    (Unframed (strangerNumber (at i)) i)
 
--- 4 (second unit), 5, 4 (extent)
+-- 4 (second unit), 5 or 19, 4 (extent)
 unfoldable pub second : (ℕ → ℕ) → ℕ → Framed → Framed
 second at len next = pick (ltb len 2) (Unframed 4 0) (known at 4 next)
 

@@ -1,7 +1,7 @@
 -- 01, "Judging a framed primitive: 5 behind the header, 9, 8, 10. Judging a group: 11, then its items one by one, each framed
 -- (an inner 7 next), then judged; the first refusal stands, with number and place. An opaque group: 11, then 5." 02 h: 18 "judged directly
--- after 11 for groups, in the walk too, and before 9 for primitives". Over an item's own sextets; places in sextets from its start.
--- Assumes nothing.
+-- after 11 for groups, in the walk too, and before 9 for primitives". 02 j: 19 where 5 stands. Over an item's own sextets; places in
+-- sextets from its start. Assumes nothing.
 use Prim.Native.Nat.{ℕ, zero, suc, _+_, _-_, _*_, _/_, _^_}
 use mathlib.Core.List.{List, [], _∷_}
 use mathlib.Core.Bool.{Bool, true, false}
@@ -15,6 +15,7 @@ use Rattle.format.specs.declared.Framed.{Framed}
 use Rattle.format.specs.declared.Framed.the-variants.{Item, Unframed}
 use Rattle.format.specs.declared.Verdict.{Verdict}
 use Rattle.format.specs.declared.Verdict.the-variants.{Accepted, Refused}
+use Rattle.format.specs.Alphabet.{strangerNumber}
 use Rattle.format.specs.Registry.{isOpaque, isOverrideable, zeroBitsOf, prepadOf}
 use Rattle.format.specs.Framing.{frame, frameRuled, scale, sextet}
 use Rattle.format.specs.Cutting.{Cut, cutBy, cut}
@@ -45,12 +46,12 @@ isShortest h count = pick (eqb h 1) true (leb 4096 count)
 
 -- ---- primitives
 
--- 5: the first character outside the alphabet
+-- 5 or 19: the first character outside the alphabet
 unfoldable pub scan : List ℕ → Verdict
 scan [] = Accepted
-scan (x ∷ xs) = pick (ltb x 64) (shift 1 (scan xs)) (Refused 5 0)
+scan (x ∷ xs) = pick (ltb x 64) (shift 1 (scan xs)) (Refused (strangerNumber x) 0)
 
--- 5 behind a header of h units
+-- 5 or 19 behind a header of h units
 unfoldable pub behind : ℕ → List ℕ → Verdict
 behind h s = shift (4 * h) (scan (drop (4 * h) s))
 
@@ -103,7 +104,7 @@ unfoldable pub contents : Bool → List ℕ → Cut
 contents first [] = done
 contents first (x ∷ s) = cutBy (pick first (frameRuled4 (x ∷ s)) (frame4 (x ∷ s))) (x ∷ s) (cut frame4)
 
--- a group's own check, where l more may be entered: 11, 18, and if opaque 5. The walk makes this one alone
+-- a group's own check, where l more may be entered: 11, 18, and if opaque 5 or 19. The walk makes this one alone
 unfoldable pub ownCheck : ℕ → ℕ → ℕ → List ℕ → Verdict
 ownCheck zero letter h ys = Refused 11 0
 ownCheck (suc l) letter h ys =

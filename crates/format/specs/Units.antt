@@ -36,7 +36,7 @@ pub record Domain : Type 0 where
   pub limit : ℕ  -- number 1: longer ones are refused
   pub sextets : List ℕ → List ℕ  -- a stream's sextets, four to each whole unit
 
--- a character outside the alphabet reads as 64
+-- a character outside the alphabet reads as its mark, 64 or 65
 unfoldable pub textSextets : List ℕ → List ℕ
 textSextets s = map sextetOf s
 

@@ -1,6 +1,7 @@
 -- 01, "Writing, to T or B: 6 (any code that isn't a primitive's), 12, 5 (tags), 3. Codes other than tags take no tag characters
 -- and tags no raw, else 12. For a variable type the caller names small or large, and the lead follows from the raw length; small
--- holds at most 12,285 raw bytes, large 3,145,722." 02 h: 18 "directly after 12". The text written is the binary's text. Assumes nothing.
+-- holds at most 12,285 raw bytes, large 3,145,722." 02 h: 18 "directly after 12". 02 j: 19 where 5 stands. The text written is the
+-- binary's text. Assumes nothing.
 use Prim.Native.Nat.{ℕ, _+_, _-_, _*_, _/_, _%_, _^_}
 use mathlib.Core.List.{List, [], _∷_, _++_, map}
 use mathlib.Core.Bool.{Bool, true, false}
@@ -26,7 +27,7 @@ use Rattle.format.specs.Offsets.{textOffset, binaryOffset}
 use Rattle.format.specs.Registry.{fixed, isType, zeroBitsOf, prepadOf}
 use Rattle.format.specs.Judging.{isShortest}
 use Rattle.format.specs.Values.{rawStart}
-use Rattle.format.specs.Conversion.{toText, firstStranger}
+use Rattle.format.specs.Conversion.{toText, firstStranger, firstNumber}
 
 -- ---- what is to be written
 
@@ -110,7 +111,7 @@ unitsOf unknown raw = 0
 unitsOf (row c) raw = c .size / 4
 unitsOf (variable t h) raw = h + countFor raw
 
--- ---- the call: 6, 12, 18, 5, 3
+-- ---- the call: 6, 12, 18, 5 or 19, 3
 
 pub data Writing : Type 0 where
   refused : ℕ → ℕ → Writing
@@ -138,7 +139,7 @@ writing u n tag tags raw room =
     pick (isNamed n)
     (pick (isFit n tags raw)
     (pick (isShort n raw)
-    (pick (ltb (firstStranger (take tags tag)) tags) (refused 5 (firstStranger (take tags tag)))
+    (pick (ltb (firstStranger (take tags tag)) tags) (refused (firstNumber (take tags tag)) (firstStranger (take tags tag)))
     (pick (ltb room (unitsOf n raw * u)) (refused 3 0)
     (written (unitsOf n raw))))
     (refused 18 0))

@@ -101,8 +101,14 @@ stranger =
     example (48 ∷ 76 ∷ 65 ∷ 65 ∷ 66 ∷ 33 ∷ 68 ∷ 69 ∷ []) (refused 5 5) ∷  -- `0LAAB!DE`: 5, then 10
     example (56 ∷ 65 ∷ 65 ∷ 66 ∷ 65 ∷ 65 ∷ 65 ∷ 66 ∷ 65 ∷ 33 ∷ 104 ∷ 112 ∷ []) (refused 5 9) ∷  -- `8AABAAABA!hp`: behind a header of two units
     example (around 64 (45 ∷ 75 ∷ 65 ∷ 66 ∷ 77 ∷ 33 ∷ 65 ∷ 66 ∷ [])) (refused 11 256) ∷  -- a sixty-fifth group that is opaque: 11, then 5
+    example (77 ∷ 65 ∷ 65 ∷ 61 ∷ []) (unframed 19 0) ∷  -- `MAA=`: 02 j, as `MAA!` above
+    example (45 ∷ 95 ∷ 65 ∷ 43 ∷ 65 ∷ 65 ∷ 65 ∷ 65 ∷ []) (unframed 19 0) ∷  -- `-_A+AAAA`: 19, then 7
+    example (45 ∷ 65 ∷ 65 ∷ 67 ∷ 77 ∷ 65 ∷ 65 ∷ 66 ∷ 77 ∷ 65 ∷ 47 ∷ 66 ∷ []) (refused 19 10) ∷  -- `-AACMAABMA/B`: in the second item
+    example (53 ∷ 66 ∷ 65 ∷ 66 ∷ 81 ∷ 43 ∷ 104 ∷ 112 ∷ []) (refused 19 5) ∷  -- `5BABQ+hp`: then 8
+    example (48 ∷ 76 ∷ 65 ∷ 65 ∷ 66 ∷ 61 ∷ 68 ∷ 69 ∷ []) (refused 19 5) ∷  -- `0LAAB=DE`: 19, then 10
+    example (around 64 (45 ∷ 75 ∷ 65 ∷ 66 ∷ 77 ∷ 43 ∷ 65 ∷ 66 ∷ [])) (refused 11 256) ∷  -- a sixty-fifth group that is opaque: 11, then 19
     []
 
 pub stranger-holds : Holds text (λ s. s) stranger
 unfolding given stranger
-stranger-holds = refl & refl & refl & refl & refl & refl & refl & refl & refl & refl & refl & refl & end
+stranger-holds = refl & refl & refl & refl & refl & refl & refl & refl & refl & refl & refl & refl & refl & refl & refl & refl & refl & refl & end

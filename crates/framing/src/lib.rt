@@ -5,6 +5,8 @@ use format::Kind;
 use format::Opening;
 ghost use mathlib.Core.Path.{_≡_};
 ghost use lib.ListN.{getD};
+ghost use Rattle.format.specs.declared.Framed.the-variants.{Unframed};
+ghost use Rattle.format.specs.Alphabet.{strangerNumber};
 ghost use Rattle.format.specs.Units.{textSextets, binarySextets};
 ghost use Rattle.format.specs.Registry.{opening};
 ghost use Rattle.format.specs.Framing.{fit, known, second, headed, frameWith, isOurs, ruled, frameRuled};
@@ -25,33 +27,29 @@ fn fitted(kind: Kind, head: usize, size: usize, len: usize) -> Framed
     }
 }
 
+// A character outside the alphabet, by its mark: 5 or 19.
+fn strange(v: u8, place: usize) -> Framed
+    ensures { λ r. ⌜ r ≡ Unframed (strangerNumber v) place ⌝ }
+{
+    let number = alphabet::stranger_number(v);
+    Framed::Unframed { number, place }
+}
+
 // The first bad character of the second unit.
 fn known_second(cs: [u8; 12], next: Framed) -> Framed
     ensures { λ r. ⌜ r ≡ known (λ i. getD cs i 0) 4 next ⌝ }
 {
     if cs[4] >= 64 {
-        return Framed::Unframed {
-            number: 5,
-            place: 4,
-        };
+        return strange(cs[4], 4);
     }
     if cs[5] >= 64 {
-        return Framed::Unframed {
-            number: 5,
-            place: 5,
-        };
+        return strange(cs[5], 5);
     }
     if cs[6] >= 64 {
-        return Framed::Unframed {
-            number: 5,
-            place: 6,
-        };
+        return strange(cs[6], 6);
     }
     if cs[7] >= 64 {
-        return Framed::Unframed {
-            number: 5,
-            place: 7,
-        };
+        return strange(cs[7], 7);
     }
     next
 }
@@ -106,28 +104,16 @@ fn known_first(cs: [u8; 12], next: Framed) -> Framed
     ensures { λ r. ⌜ r ≡ known (λ i. getD cs i 0) 0 next ⌝ }
 {
     if cs[0] >= 64 {
-        return Framed::Unframed {
-            number: 5,
-            place: 0,
-        };
+        return strange(cs[0], 0);
     }
     if cs[1] >= 64 {
-        return Framed::Unframed {
-            number: 5,
-            place: 1,
-        };
+        return strange(cs[1], 1);
     }
     if cs[2] >= 64 {
-        return Framed::Unframed {
-            number: 5,
-            place: 2,
-        };
+        return strange(cs[2], 2);
     }
     if cs[3] >= 64 {
-        return Framed::Unframed {
-            number: 5,
-            place: 3,
-        };
+        return strange(cs[3], 3);
     }
     next
 }

@@ -6,8 +6,8 @@ use mathlib.Core.List.{List, [], _∷_}
 use mathlib.Core.Logic.{⊎-elim}
 use Prim.Native.Nat.{ℕ, zero, suc, _+_, _-_, _*_, _/_, _<_, _≤_}
 use native.Mathlib.Omega.{arith}
-use lib.ListN.{length, take, drop, length-drop, length-map, drop-of-length-le}
-use lib.Seq.{take-all, length-take-le}
+use lib.ListN.{length, getD, take, drop, length-drop, length-map, drop-of-length-le}
+use lib.Seq.{getD-drop, take-all, length-take-le}
 use borrow.Author.Tests.{lt-ltb, le-ltb}
 use Rattle.base.specs.Pick.{pick, pick-by}
 use Rattle.base.specs.Cases.{lt-or-ge}
@@ -17,9 +17,9 @@ use Rattle.format.specs.declared.Kind.{Kind}
 use Rattle.format.specs.declared.Kind.the-variants.{Fixed, Variable, Group, Genus}
 use Rattle.format.specs.declared.Verdict.{Verdict}
 use Rattle.format.specs.declared.Verdict.the-variants.{Accepted, Refused}
-use Rattle.format.specs.Alphabet.{sextetOf}
+use Rattle.format.specs.Alphabet.{sextetOf, strangerNumber}
 use Rattle.format.specs.Units.{textSextets, binarySextets}
-use Rattle.format.specs.Conversion.{firstStranger}
+use Rattle.format.specs.Conversion.{firstStranger, firstNumber}
 use Rattle.format.specs.Registry.{isOpaque, zeroBitsOf, prepadOf}
 use Rattle.format.specs.Judging.{shift, andThen, scan, behind, zeroBits, prepadRight, judgeKind, ownCheck}
 use Rattle.laws.specs.Framing.{Shaped}
@@ -32,10 +32,10 @@ use Rattle.framing_head.proofs.Laws.{head-at, within-head}
 use Rattle.judging_header.specs.Checks.{fixedChecks, variableChecks, groupChecks}
 use Rattle.judging.specs.Own.{ownBy}
 
--- ---- 5
+-- ---- 5 or 19
 
-pub scan-bad : (s : List ℕ) → firstStranger s < length s → scan (textSextets s) ≡ Refused 5 (firstStranger s)
-unfolding scan firstStranger textSextets shift
+pub scan-bad : (s : List ℕ) → firstStranger s < length s → scan (textSextets s) ≡ Refused (firstNumber s) (firstStranger s)
+unfolding scan firstStranger firstNumber textSextets shift
 scan-bad [] h = absurd (omega arith)
 scan-bad (c ∷ s) h =
     let z : 1 + firstStranger s ≡ suc (firstStranger s) = omega arith in
@@ -58,10 +58,11 @@ pub to-end : (s : List ℕ) (from : ℕ) → take (length s - from) (drop from s
 to-end s from = take-all (length s - from) (drop from s) (omega (arith, length-drop from s))
 
 module _ (item : List ℕ) (h i : ℕ) (e : i ≡ firstStranger (drop (4 * h) item)) where
-  pub behind-bad : i < length item - 4 * h → Refused 5 (4 * h + i) ≡ behind h (textSextets item)
-  unfolding shift
+  pub behind-bad : i < length item - 4 * h
+      → Refused (strangerNumber (sextetOf (getD item (4 * h + i) 0))) (4 * h + i) ≡ behind h (textSextets item)
+  unfolding shift firstNumber
   behind-bad l =
-      rw (behind-part item h, scan-bad (drop (4 * h) item) (rw (← e, length-drop (4 * h) item) l), ← e)
+      rw (behind-part item h, scan-bad (drop (4 * h) item) (rw (← e, length-drop (4 * h) item) l), ← e, getD-drop (4 * h) item i 0)
 
   pub behind-clean : length item - 4 * h ≤ i → Accepted ≡ behind h (textSextets item)
   unfolding shift

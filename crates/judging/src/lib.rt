@@ -12,7 +12,7 @@ ghost use Rattle.judging.specs.Own.{ownBy, toldBy};
 // How many groups may be open, one in the other: 64 by 02 g.
 pub const MAX_DEPTH: usize = 64;
 
-// ---- 5 behind the header, in text
+// ---- 5 or 19 behind the header, in text
 
 fn behind_text(item: &[u8], h: usize) -> Verdict
     ensures { λ r. ⌜ r ≡ behind h (textSextets (now (item .entry))) ⌝ }
@@ -21,10 +21,9 @@ fn behind_text(item: &[u8], h: usize) -> Verdict
         let from = 4 * h;
         let bad = alphabet::first_stranger(&item[from..]);
         if bad < item.len() - from {
-            return Verdict::Refused {
-                number: 5,
-                place: from + bad,
-            };
+            let place = from + bad;
+            let number = alphabet::number_at(item, place);
+            return Verdict::Refused { number, place };
         }
     }
     Verdict::Accepted

@@ -8,14 +8,15 @@ use borrow.Author.Tests.{lt-leb, le-leb, ne-eqb}
 use lib.Dec.{T, eqb, ltb, leb, eqb→eq, leb→le, ltb→lt, lt→ltb}
 use Rattle.base.specs.Cases.{lt-or-ge}
 use Rattle.base.specs.Below.{all, below, implies, implies-elim}
-use Rattle.format.specs.Alphabet.{sextetOf, charOf}
+use Rattle.base.specs.Pick.{pick-by}
+use Rattle.format.specs.Alphabet.{ordinary, sextetOf, strangerNumber, charOf}
 
 isLow : ℕ → Bool
-isLow c = leb (sextetOf c) 64
+isLow c = leb (sextetOf c) 65
 
-below-low : (c : ℕ) → c < 256 → sextetOf c ≤ 64
+below-low : (c : ℕ) → c < 256 → sextetOf c ≤ 65
 unfolding isLow sextetOf
-below-low c h = leb→le (sextetOf c) 64 (below isLow 256 tt c h)
+below-low c h = leb→le (sextetOf c) 65 (below isLow 256 tt c h)
 
 -- no number past the letters is a character of the alphabet
 pub sextet-past : (c : ℕ) → 123 ≤ c → sextetOf c ≡ 64
@@ -30,10 +31,13 @@ sextet-past c h =
       lt-leb c 57 (omega arith),
       ne-eqb c 45 (λ e. omega arith),
       ne-eqb c 95 (λ e. omega arith),
+      ne-eqb c 43 (λ e. omega arith),
+      ne-eqb c 47 (λ e. omega arith),
+      ne-eqb c 61 (λ e. omega arith),
     )
 
--- no character has a value above 64
-pub sextet-low : (c : ℕ) → sextetOf c ≤ 64
+-- no character has a value above 65, the second mark
+pub sextet-low : (c : ℕ) → sextetOf c ≤ 65
 sextet-low c = ⊎-elim (λ h. below-low c h) (λ h. omega (arith, sextet-past c (omega arith))) (lt-or-ge c 256)
 
 isBack : ℕ → Bool
@@ -79,3 +83,8 @@ char-past v h =
       ne-eqb v 62 (λ e. omega arith),
       ne-eqb v 63 (λ e. omega arith),
     )
+
+-- the number of a mark is one
+pub number-some : (v : ℕ) → 0 < strangerNumber v
+unfolding strangerNumber
+number-some v = pick-by (λ (m : ℕ). 0 < m) (eqb v ordinary) 19 5 (λ _. omega arith) (λ _. omega arith)

@@ -15,8 +15,10 @@ use Rattle.format.specs.declared.Opening.{Opening}
 use Rattle.format.specs.declared.Opening.the-variants.{Unknown, Short, LargeVariable, LargeGroup, Version}
 use Rattle.format.specs.declared.Framed.{Framed}
 use Rattle.format.specs.declared.Framed.the-variants.{Item, Unframed}
+use Rattle.format.specs.Alphabet.{strangerNumber}
 use Rattle.format.specs.Registry.{opening, extent}
 use Rattle.format.specs.Framing.{fit, known, second, digits4, headed, frameWith, isOurs, ruled, sextet, frame, frameRuled, scale}
+use Rattle.laws.specs.Alphabet.{number-some}
 use Rattle.laws.specs.Registry.{Sound, Opens, opening-opens, short-some}
 
 -- ---- what is said of an item
@@ -53,7 +55,7 @@ abbrev pub Known : (ℕ → ℕ) → ℕ → Type 0
 Known at i = (ltb (at i) 64 ≡ true) × (ltb (at (i + 1)) 64 ≡ true) × (ltb (at (i + 2)) 64 ≡ true) × (ltb (at (i + 3)) 64 ≡ true)
 
 pub known-by {ℓ} : (P : Framed → Type ℓ) (at : ℕ → ℕ) (i : ℕ) (next : Framed)
-    → ((j : ℕ) → ltb (at j) 64 ≡ false → P (Unframed 5 j)) → (Known at i → P next) → P (known at i next)
+    → ((j : ℕ) → ltb (at j) 64 ≡ false → P (Unframed (strangerNumber (at j)) j)) → (Known at i → P next) → P (known at i next)
 unfolding known
 known-by P at i next bad f =
     pick-by P (ltb (at i) 64) _ _
@@ -189,8 +191,8 @@ abbrev pub Told : (ℕ → ℕ) → Framed → Type 0
 Told at (Item k h n) = Unit {0}
 Told at (Unframed n p) = (0 < n) × (((i : ℕ) → at i < 64) → p ≡ 0)
 
-bad-told : (at : ℕ → ℕ) (j : ℕ) → ltb (at j) 64 ≡ false → Told at (Unframed 5 j)
-bad-told at j b = (omega arith, λ low. absurd (omega (arith, low j, ltb-false (at j) 64 b)))
+bad-told : (at : ℕ → ℕ) (j : ℕ) → ltb (at j) 64 ≡ false → Told at (Unframed (strangerNumber (at j)) j)
+bad-told at j b = (number-some (at j), λ low. absurd (omega (arith, low j, ltb-false (at j) 64 b)))
 
 fit-told : (at : ℕ → ℕ) (k : Kind) (h n len : ℕ) → Told at (fit k h n len)
 unfolding fit

@@ -16,6 +16,7 @@ use Rattle.format.specs.declared.Framed.{Framed}
 use Rattle.format.specs.declared.Framed.the-variants.{Item, Unframed}
 use Rattle.format.specs.declared.Verdict.{Verdict}
 use Rattle.format.specs.declared.Verdict.the-variants.{Accepted, Refused}
+use Rattle.format.specs.Alphabet.{strangerNumber}
 use Rattle.format.specs.Registry.{opening}
 use Rattle.format.specs.Framing.{frameWith, frame, sextet}
 use Rattle.format.specs.Judging.{shift, andThen, scan, behind, judgeKind, ownCheck}
@@ -62,7 +63,7 @@ unfolding scan
 scan-known [] e = none
 scan-known (x ∷ s) e =
     ⊎-elim (λ l. more l (scan-known s (shift-accepts 1 (scan s) (rw (lt-ltb x 64 l) at e))))
-    (λ g. let q : Refused 5 0 ≡ Accepted = rw (le-ltb x 64 g) at e in let z : _≡_ {A = ℕ} 0 1 = cc in absurd (omega arith)) (lt-or-ge x 64)
+    (λ g. let q : Refused (strangerNumber x) 0 ≡ Accepted = rw (le-ltb x 64 g) at e in let z : _≡_ {A = ℕ} 0 1 = cc in absurd (omega arith)) (lt-or-ge x 64)
 
 behind-known : (k : Kind) (h : ℕ) (s : List ℕ) → isPrimitive k ≡ true → judgeKind k h s (ownCheck 0) ≡ Accepted → Below 64 (drop (4 * h) s)
 unfolding judgeKind isPrimitive behind

@@ -248,12 +248,12 @@ unfolding unless
 passes n true e = refl
 passes n false e = never n 0 e
 
-low-scan : (s : List ℕ) → scan s ≡ Accepted → Below 64 s
+pub low-scan : (s : List ℕ) → scan s ≡ Accepted → Below 64 s
 unfolding scan
 low-scan [] e = none
 low-scan (x ∷ s) e =
     pick-by (λ v. v ≡ Accepted → Below 64 (x ∷ s)) (ltb x 64) _ _
-    (λ t f. more (ltb-true x 64 t) (low-scan s (shifted 1 (scan s) f))) (λ _ f. never 5 0 f) e
+    (λ t f. more (ltb-true x 64 t) (low-scan s (shifted 1 (scan s) f))) (λ _ f. never _ 0 f) e
 
 own-judges : (k : Kind) (h n : ℕ) (s : List ℕ) → Own k h n s → judgeKind k h s (ownCheck 0) ≡ Accepted
 unfolding judgeKind behind shift andThen unless

@@ -32,18 +32,18 @@ use Rattle.roundtrip.specs.Claims.{Given, tagGiven, itemOf, Accepts, Rea
 
 -- ---- what an accepted write says
 
-record Accepted (u : ℕ) (name : Named) (tag : List ℕ) (tags raw room n : ℕ) : Type 0 where
-  known : isNamed name ≡ true
-  fits : isFit name tags raw ≡ true
-  shortest : isShort name raw ≡ true
-  strangers : tags ≤ firstStranger (take tags tag)
-  units : unitsOf name raw ≡ n
-  there : unitsOf name raw * u ≤ room
+pub record Accepted (u : ℕ) (name : Named) (tag : List ℕ) (tags raw room n : ℕ) : Type 0 where
+  pub known : isNamed name ≡ true
+  pub fits : isFit name tags raw ≡ true
+  pub shortest : isShort name raw ≡ true
+  pub strangers : tags ≤ firstStranger (take tags tag)
+  pub units : unitsOf name raw ≡ n
+  pub there : unitsOf name raw * u ≤ room
 
 unwritten {ℓ} : {A : Type ℓ} (m p n : ℕ) → refused m p ≡ written n → A
 unwritten m p n e = let z : _≡_ {A = ℕ} 0 1 = cc in absurd (omega arith)
 
-accepted : (u : ℕ) (name : Named) (tag : List ℕ) (tags raw room n : ℕ) → writing u name tag tags raw room ≡ written n
+pub accepted : (u : ℕ) (name : Named) (tag : List ℕ) (tags raw room n : ℕ) → writing u name tag tags raw room ≡ written n
     → Accepted u name tag tags raw room n
 unfolding writing
 accepted u name tag tags raw room n =
@@ -51,7 +51,7 @@ accepted u name tag tags raw room n =
     pick-by P (isNamed name) _ _
     (λ a. pick-by P (isFit name tags raw) _ _
     (λ b. pick-by P (isShort name raw) _ _
-    (λ s. pick-by P (ltb (firstStranger (take tags tag)) tags) _ _ (λ _. unwritten 5 _ n)
+    (λ s. pick-by P (ltb (firstStranger (take tags tag)) tags) _ _ (λ _. unwritten _ _ n)
     (λ c. pick-by P (ltb room (unitsOf name raw * u)) _ _ (λ _. unwritten 3 0 n)
     (λ r e. record { known = a; fits = b; shortest = s; strangers = ltb-false _ tags c; units = cc; there = ltb-false room _ r })))
     (λ _. unwritten 18 0 n))

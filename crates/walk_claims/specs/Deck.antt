@@ -68,9 +68,14 @@ steps =
     asked text (45 ∷ 75 ∷ 65 ∷ 66 ∷ 77 ∷ 33 ∷ 65 ∷ 66 ∷ []) start (refuses 5 5) ∷  -- `-KABM!AB`: opaque, 5
     asked text (45 ∷ 75 ∷ 65 ∷ 66 ∷ 77 ∷ 33 ∷ 65 ∷ 66 ∷ []) (state (replicate 63 2) 63 0 false) (refuses 5 5) ∷  -- within 63 groups
     asked text (45 ∷ 75 ∷ 65 ∷ 66 ∷ 77 ∷ 33 ∷ 65 ∷ 66 ∷ []) (state (replicate 64 2) 64 0 false) (refuses 11 0) ∷  -- within 64: 11, then 5
+    asked text (45 ∷ 75 ∷ 65 ∷ 66 ∷ 77 ∷ 43 ∷ 33 ∷ 66 ∷ []) start (refuses 19 5) ∷  -- `-KABM+!B`: opaque, 19 (02 j), of the first bad character
+    asked text (45 ∷ 75 ∷ 65 ∷ 66 ∷ 77 ∷ 33 ∷ 43 ∷ 66 ∷ []) start (refuses 5 5) ∷  -- `-KABM!+B`
+    asked text (45 ∷ 75 ∷ 65 ∷ 66 ∷ 77 ∷ 43 ∷ 65 ∷ 66 ∷ []) (state (replicate 64 2) 64 0 false) (refuses 11 0) ∷  -- within 64: 11, then 19
     asked text (45 ∷ 75 ∷ 65 ∷ 66 ∷ 77 ∷ 65 ∷ 65 ∷ 66 ∷ []) (state (replicate 64 1) 64 0 false) (refuses 4 0) ∷  -- 4, which is framing, then 11
     asked text (77 ∷ 65 ∷ 65 ∷ 66 ∷ 77 ∷ 65 ∷ []) (state [] 0 1 false) (refuses 4 4) ∷  -- `MAABMA`: a unit that is not whole
     asked text (77 ∷ 65 ∷ 65 ∷ 66 ∷ 48 ∷ 72 ∷ 69 ∷ 65 ∷ 65 ∷ 33 ∷ 65 ∷ 65 ∷ []) (state [] 0 1 false) (refuses 5 9) ∷  -- 5 behind the header, then 8
+    asked text (77 ∷ 65 ∷ 65 ∷ 66 ∷ 48 ∷ 72 ∷ 69 ∷ 65 ∷ 65 ∷ 61 ∷ 65 ∷ 65 ∷ []) (state [] 0 1 false) (refuses 19 9) ∷  -- 19 behind the header, then 8
+    asked text (77 ∷ 65 ∷ 65 ∷ 66 ∷ 45 ∷ 95 ∷ 65 ∷ 47 ∷ 65 ∷ 65 ∷ 65 ∷ 65 ∷ []) (state [] 0 1 false) (refuses 19 7) ∷  -- `MAAB-_A/AAAA`: 19 in framing, then 7
     asked text (77 ∷ 65 ∷ 65 ∷ 66 ∷ []) (state (1 ∷ []) 1 0 false) (yields 0 4 1 (Fixed (oneLetter 12 4 0 0)) 1 (state [] 0 1 false)) ∷
     asked text (77 ∷ 65 ∷ 65 ∷ 66 ∷ 77 ∷ 65 ∷ 65 ∷ 66 ∷ []) (state (replicate 64 2) 65 0 false) (refuses 13 0) ∷  -- 13: more than 64 open
     asked text (77 ∷ 65 ∷ 65 ∷ 66 ∷ 77 ∷ 65 ∷ 65 ∷ 66 ∷ []) (state (2 ∷ 2 ∷ []) 1 0 false) (refuses 13 0) ∷  -- an unused slot not 0
@@ -83,6 +88,7 @@ steps =
     asked text (77 ∷ 65 ∷ 65 ∷ 66 ∷ 77 ∷ 65 ∷ 65 ∷ 66 ∷ []) (state (2 ∷ 2 ∷ []) 2 0 false) (yields 0 4 2 (Fixed (oneLetter 12 4 0 0)) 1 (state (2 ∷ 2 ∷ []) 2 1 false)) ∷  -- equal ends are fit
     asked text (77 ∷ 65 ∷ 65 ∷ 66 ∷ 77 ∷ 65 ∷ 65 ∷ 66 ∷ []) (state (2 ∷ 2 ∷ []) 2 1 false) (yields 4 4 2 (Fixed (oneLetter 12 4 0 0)) 1 (state [] 0 2 false)) ∷  -- and close together
     asked text (33 ∷ 65 ∷ 65 ∷ 66 ∷ []) (state [] 0 0 true) (refuses 13 0) ∷  -- 13, then 5
+    asked text (43 ∷ 65 ∷ 65 ∷ 66 ∷ []) (state [] 0 0 true) (refuses 13 0) ∷  -- 13, then 19
     []
 
 -- ---- what it means
@@ -107,7 +113,7 @@ pub data Steps : List Asked → Type 0 where
 
 pub steps-hold : Steps steps
 unfolding stepped steps
-steps-hold = refl & refl & refl & refl & refl & refl & refl & refl & refl & refl & refl & refl & refl & refl & refl & refl & refl & refl & refl & refl & refl & refl & refl & refl & refl & refl & refl & refl & refl & refl & refl & refl & refl & refl & refl & refl & refl & refl & refl & refl & refl & refl & end
+steps-hold = refl & refl & refl & refl & refl & refl & refl & refl & refl & refl & refl & refl & refl & refl & refl & refl & refl & refl & refl & refl & refl & refl & refl & refl & refl & refl & refl & refl & refl & refl & refl & refl & refl & refl & refl & refl & refl & refl & refl & refl & refl & refl & refl & refl & refl & refl & refl & refl & end
 
 -- 02 h: "`--AAABAA` with its 4,096 units still passes": it is opened, and marks. Its item is `4B__` and 4,095 units
 pub large-opens : stepped text (45 ∷ 45 ∷ 65 ∷ 65 ∷ 65 ∷ 66 ∷ 65 ∷ 65 ∷ 52 ∷ 66 ∷ 95 ∷ 95 ∷ replicate 16380 65) start

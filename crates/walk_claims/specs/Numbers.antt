@@ -18,6 +18,7 @@ use Rattle.format.specs.declared.Framed.the-variants.{Item, Unframed}
 use Rattle.format.specs.declared.Verdict.{Verdict}
 use Rattle.format.specs.declared.Verdict.the-variants.{Accepted, Refused}
 use Rattle.format.specs.Units.{Domain}
+use Rattle.format.specs.Alphabet.{ordinary, strangerNumber}
 use Rattle.format.specs.Registry.{isOpaque}
 use Rattle.format.specs.Framing.{fit, second, headed, frameWith, isOurs, ruled, sextet, frame, frameRuled}
 use Rattle.format.specs.Judging.{shift, andThen, unless, scan, behind, judgeKind, ownCheck}
@@ -34,6 +35,10 @@ use Rattle.walk_claims.specs.Steps.{asked, step-by, in-by}
 abbrev Own : ℕ → Type 0
 Own n = T (both (ltb 3 n) (not (eqb n 13)))
 
+stranger-own : (v : ℕ) → Own (strangerNumber v)
+unfolding strangerNumber
+stranger-own v = pick-by Own (eqb v ordinary) 19 5 (λ _. tt) (λ _. tt)
+
 -- ---- framing
 
 abbrev Framing : Framed → Type 0
@@ -48,7 +53,7 @@ second-own : (at : ℕ → ℕ) (len : ℕ) (k : Kind) (n : ℕ) → Framing (se
 unfolding second
 second-own at len k n =
     pick-by Framing (ltb len 2) _ _ (λ _. tt)
-    (λ _. known-by Framing at 4 _ (λ j b. tt) (λ _. fit-own k 2 n len))
+    (λ _. known-by Framing at 4 _ (λ j b. stranger-own (at j)) (λ _. fit-own k 2 n len))
 
 headed-own : (o : Opening) (at : ℕ → ℕ) (len : ℕ) → Framing (headed o at len)
 unfolding headed
@@ -62,7 +67,7 @@ frame-own : (s : List ℕ) → Framing (frame s)
 unfolding frame frameWith
 frame-own s =
     pick-by Framing (ltb (length s / 4) 1) _ _ (λ _. tt)
-    (λ _. known-by Framing (sextet s) 0 _ (λ j b. tt) (λ _. headed-own _ (sextet s) _))
+    (λ _. known-by Framing (sextet s) 0 _ (λ j b. stranger-own (sextet s j)) (λ _. headed-own _ (sextet s) _))
 
 ruled-own : (at : ℕ → ℕ) (r : Framed) → Framing r → Framing (ruled at r)
 unfolding ruled
@@ -101,7 +106,7 @@ unless-own n false o = o
 scan-own : (s : List ℕ) → Judging (scan s)
 unfolding scan
 scan-own [] = tt
-scan-own (x ∷ s) = pick-by Judging (ltb x 64) _ _ (λ _. shift-own 1 (scan s) (scan-own s)) (λ _. tt)
+scan-own (x ∷ s) = pick-by Judging (ltb x 64) _ _ (λ _. shift-own 1 (scan s) (scan-own s)) (λ _. stranger-own x)
 
 kind-own : (k : Kind) (h l : ℕ) (s : List ℕ) → Judging (judgeKind k h s (ownCheck l))
 unfolding judgeKind behind ownCheck

@@ -181,12 +181,12 @@ module _ (d : Domain) (R : Reader d) (xs : List ℕ) (w : Walk) where
 -- ---- as claims
 
 abbrev stepNumbers : List ℕ
-stepNumbers = 1 ∷ 13 ∷ 4 ∷ 5 ∷ 6 ∷ 7 ∷ 11 ∷ 18 ∷ 9 ∷ 8 ∷ 10 ∷ []
+stepNumbers = 1 ∷ 13 ∷ 4 ∷ 5 ∷ 19 ∷ 6 ∷ 7 ∷ 11 ∷ 18 ∷ 9 ∷ 8 ∷ 10 ∷ []
 
 own-allowed : (l : ℕ) (k : Kind) (h : ℕ) (s : List ℕ) → Allowed stepNumbers (C.ownRules l k h s)
-own-allowed l (Fixed c) h s = inl tt & inl tt & inl tt & inl tt & inl tt & end
-own-allowed l (Variable t v c) h s = inl tt & inl tt & inl tt & inl tt & inl tt & end
-own-allowed l (Group g) h s = inl tt & inl tt & inl tt & end
+own-allowed l (Fixed c) h s = inl tt & inl tt & inl tt & inl tt & inl tt & inl tt & end
+own-allowed l (Variable t v c) h s = inl tt & inl tt & inl tt & inl tt & inl tt & inl tt & end
+own-allowed l (Group g) h s = inl tt & inl tt & inl tt & inl tt & end
 own-allowed l Genus h s = end
 
 -- 255 is none of them
@@ -213,7 +213,7 @@ module _ (d : Domain) (R : Reader d) (xs : List ℕ) (w : Walk) where
   pub step-refuses : (m p : ℕ) → stepIn d xs w .found ≡ F.Refused m p → Refusal stepNumbers (stepRules d xs w) m
   step-refuses m p e =
       refusal stepNumbers (stepRules d xs w) m (λ z. z)
-      (inl tt & inl tt & inl tt & inl tt & inl tt & inl tt & inl tt & inl tt & inl tt
+      (inl tt & inl tt & inl tt & inl tt & inl tt & inl tt & inl tt & inl tt & inl tt & inl tt & inl tt
       & own-allowed (maxDepth - w .depth) (C.itemKind (aheadOf d xs w)) (C.itemHead (aheadOf d xs w))
       (ownOf d xs w (C.itemSize (aheadOf d xs w))))
       (step-first m p e)

@@ -1,4 +1,4 @@
-// Writing a single primitive as text or as binary into a lent buffer: 6, 12, 5, 3. A refused call writes nothing, exact room
+// Writing a single primitive as text or as binary into a lent buffer: 6, 12, 18, 5 or 19, 3. A refused call writes nothing, exact room
 // suffices, and bytes behind the item stay.
 use format::BinaryOffset;
 use format::BinaryWritten;
@@ -83,7 +83,7 @@ fn text_item(units: usize, head: [u8; 9], raw: &[u8], out: &mut [u8]) -> TextWri
     TextWritten::Written(TextOffset(chars))
 }
 
-// ---- the calls: 6, 12, 5, 3
+// ---- the calls: 6, 12, 18, 5 or 19, 3
 
 // A primitive as binary, from the buffer's start.
 pub fn write_binary(

@@ -5,25 +5,28 @@ use mathlib.Core.Bool.{Bool, true, false}
 use mathlib.Core.Logic.{⊎-elim}
 use Prim.Native.Nat.{ℕ, _<_, _≤_}
 use native.Mathlib.Omega.{arith}
-use borrow.Author.Tests.{lt-ltb, le-ltb}
+use borrow.Author.Tests.{lt-ltb, le-ltb, ne-eqb}
 use lib.Dec.{ltb, eqb}
-use lib.ListN.{take}
+use lib.ListN.{take, getD}
+use lib.Seq.{getD-take}
 use Rattle.base.specs.Pick.{pick}
 use Rattle.base.specs.Cases.{whether}
-use Rattle.format.specs.Conversion.{firstStranger}
+use Rattle.format.specs.Alphabet.{sextetOf, strangerNumber}
+use Rattle.format.specs.Conversion.{firstStranger, firstNumber}
 use Rattle.format.specs.Writing.{Named, isNamed, isFit, isShort, unitsOf, Writing, writing}
 use Rattle.format.specs.Writing.Writing.{refused}
+use Rattle.laws.specs.Alphabet.{number-some}
 use Rattle.writing_plan.specs.Plan.{refusal, refusalOf, roomFor}
 
-by-tests : (a b c d : Bool) (i : ℕ) (w : Writing) →
-    let r = pick a (pick b (pick c (pick d (refusal 5 i) (refusal 0 0)) (refusal 18 0)) (refusal 12 0)) (refusal 6 0) in
-    pick a (pick b (pick c (pick d (refused 5 i) w) (refused 18 0)) (refused 12 0)) (refused 6 0)
+by-tests : (a b c d : Bool) (v i : ℕ) (w : Writing) →
+    let r = pick a (pick b (pick c (pick d (refusal (strangerNumber v) i) (refusal 0 0)) (refusal 18 0)) (refusal 12 0)) (refusal 6 0) in
+    pick a (pick b (pick c (pick d (refused (strangerNumber v) i) w) (refused 18 0)) (refused 12 0)) (refused 6 0)
     ≡ pick (eqb (r .number) 0) w (refused (r .number) (r .place))
-by-tests false b c d i w = refl
-by-tests true false c d i w = refl
-by-tests true true false d i w = refl
-by-tests true true true true i w = refl
-by-tests true true true false i w = refl
+by-tests false b c d v i w = refl
+by-tests true false c d v i w = refl
+by-tests true true false d v i w = refl
+by-tests true true true true v i w = rw (ne-eqb (strangerNumber v) 0 (λ e. omega (arith, number-some v, e)))
+by-tests true true true false v i w = refl
 
 module _ (n : Named) (tag : List ℕ) (tags raw : ℕ) where
   -- ---- case by case
@@ -43,9 +46,9 @@ module _ (n : Named) (tag : List ℕ) (tags raw : ℕ) where
       is-long c = rw (a, b, c)
 
       module _ (c : isShort n raw ≡ true) (i : ℕ) (e : i ≡ firstStranger (take tags tag)) where
-        pub is-strange : i < tags → refusal 5 i ≡ refusalOf n tag tags raw
-        unfolding refusalOf
-        is-strange h = rw (a, b, c, ← e, lt-ltb i tags h)
+        pub is-strange : i < tags → refusal (strangerNumber (sextetOf (getD tag i 0))) i ≡ refusalOf n tag tags raw
+        unfolding refusalOf firstNumber
+        is-strange h = rw (a, b, c, ← e, lt-ltb i tags h, getD-take tags tag i 0 h)
 
         pub is-none : tags ≤ i → refusal 0 0 ≡ refusalOf n tag tags raw
         unfolding refusalOf
@@ -64,5 +67,5 @@ module _ (n : Named) (tag : List ℕ) (tags raw : ℕ) where
   pub by-refusal : (u room : ℕ) → writing u n tag tags raw room
       ≡ pick (eqb (refusalOf n tag tags raw .number) 0) (roomFor u (unitsOf n raw) room)
       (refused (refusalOf n tag tags raw .number) (refusalOf n tag tags raw .place))
-  unfolding writing refusalOf
-  by-refusal u room = by-tests (isNamed n) (isFit n tags raw) (isShort n raw) (ltb (firstStranger (take tags tag)) tags) (firstStranger (take tags tag)) _
+  unfolding writing refusalOf firstNumber
+  by-refusal u room = by-tests (isNamed n) (isFit n tags raw) (isShort n raw) (ltb (firstStranger (take tags tag)) tags) _ (firstStranger (take tags tag)) _

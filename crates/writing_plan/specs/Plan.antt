@@ -4,7 +4,7 @@ use mathlib.Core.List.{List}
 use lib.Dec.{ltb, eqb}
 use lib.ListN.{take, replicate}
 use Rattle.base.specs.Pick.{pick}
-use Rattle.format.specs.Conversion.{firstStranger}
+use Rattle.format.specs.Conversion.{firstStranger, firstNumber}
 use Rattle.format.specs.Writing as F
 use Rattle.writing_head.specs.Heads.{headBytes}
 use Rattle.writing_plan.specs.declared.Refusal.{Refusal}
@@ -14,13 +14,13 @@ use Rattle.writing_plan.specs.declared.Plan.{Plan}
 abbrev pub refusal : ℕ → ℕ → Refusal
 refusal m p = record { number = m; place = p }
 
--- in this order 6, 12, 18, 5; number 0 for none
+-- in this order 6, 12, 18, 5 or 19; number 0 for none
 unfoldable pub refusalOf : F.Named → List ℕ → ℕ → ℕ → Refusal
 refusalOf n tag tags raw =
     pick (F.isNamed n)
     (pick (F.isFit n tags raw)
     (pick (F.isShort n raw)
-    (pick (ltb (firstStranger (take tags tag)) tags) (refusal 5 (firstStranger (take tags tag)))
+    (pick (ltb (firstStranger (take tags tag)) tags) (refusal (firstNumber (take tags tag)) (firstStranger (take tags tag)))
     (refusal 0 0))
     (refusal 18 0))
     (refusal 12 0))

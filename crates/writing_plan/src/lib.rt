@@ -37,7 +37,7 @@ fn tag_stranger(tag: [u8; 11], tags: usize) -> usize
     alphabet::first_stranger(&tag[..tags])
 }
 
-// Why nothing is written, in this order: 6, 12, 18, 5.
+// Why nothing is written, in this order: 6, 12, 18, 5 or 19.
 fn refusal_of(n: Named, tag: [u8; 11], tags: usize, raw: usize) -> Refusal
     ensures { λ r. ⌜ r ≡ refusalOf (asNamed n) tag tags raw ⌝ }
 {
@@ -61,10 +61,8 @@ fn refusal_of(n: Named, tag: [u8; 11], tags: usize, raw: usize) -> Refusal
     }
     let bad = tag_stranger(tag, tags);
     if bad < tags {
-        return Refusal {
-            number: 5,
-            place: bad,
-        };
+        let number = alphabet::number_at(&tag, bad);
+        return Refusal { number, place: bad };
     }
     Refusal {
         number: 0,

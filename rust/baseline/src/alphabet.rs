@@ -7,6 +7,15 @@ const CHARACTERS: &[u8; 64] = b"ABCDEFGHIJKLMNOPQRSTUVWXYZabcdefghijklmnopqrstuv
 /// Stands in `VALUES` for a character outside the alphabet.
 pub const STRANGER: u8 = 255;
 
+/// The number of a character outside the alphabet: 19 for those of ordinary
+/// Base64.
+pub fn number(stranger: u8) -> u8 {
+    match stranger {
+        b'+' | b'/' | b'=' => 19,
+        _ => 5,
+    }
+}
+
 /// The value of every character.
 pub static VALUES: [u8; 256] = values();
 

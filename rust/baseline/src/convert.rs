@@ -1,10 +1,10 @@
 //! Whole-stream conversion, as fast as tables go: twelve bits at a lookup, and
 //! loads and stores of eight bytes that reach over where the next one begins.
 
-use crate::alphabet::{first_stranger, PAIRS, TWINS};
+use crate::alphabet::{first_stranger, number, PAIRS, TWINS};
 use crate::{Refusal, BINARY_LIMIT, TEXT_LIMIT};
 
-/// Text to binary: 1, 2, 5, 3, else the number of bytes written.
+/// Text to binary: 1, 2, 5 or 19, 3, else the number of bytes written.
 pub fn to_binary(text: &[u8], out: &mut [u8]) -> Result<usize, Refusal> {
     if text.len() > TEXT_LIMIT {
         return Err(Refusal::new(1, 0));
@@ -13,7 +13,7 @@ pub fn to_binary(text: &[u8], out: &mut [u8]) -> Result<usize, Refusal> {
         return Err(Refusal::new(2, 0));
     }
     if let Some(place) = first_stranger(text, 0) {
-        return Err(Refusal::new(5, place));
+        return Err(Refusal::new(number(text[place]), place));
     }
     let length = text.len() / 4 * 3;
     let Some(out) = out.get_mut(..length) else {

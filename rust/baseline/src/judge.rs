@@ -3,7 +3,8 @@
 //! In text the caller knows where the next character outside the alphabet
 //! stands, and all in front of it is clean. So a 5 is a comparison of numbers
 //! (`CAREFUL`), and a stretch without such a character needs none. Binary is
-//! such a stretch from its start to its end.
+//! such a stretch from its start to its end. Where the character is one of
+//! ordinary Base64, the caller says 19 for the 5.
 
 use crate::alphabet::PAIRS;
 use crate::codes::{self, Class, Row};

@@ -2,10 +2,10 @@
 //! four to three at a time, with a look at the whole text first so that a
 //! refused call writes nothing.
 
-use crate::alphabet::{LETTERS, STRANGER, VALUES};
+use crate::alphabet::{number, LETTERS, STRANGER, VALUES};
 use crate::{Refusal, BINARY_LIMIT, TEXT_LIMIT};
 
-/// Text to binary: 1, 2, 5, 3, else the number of bytes written.
+/// Text to binary: 1, 2, 5 or 19, 3, else the number of bytes written.
 pub fn plain_to_binary(text: &[u8], out: &mut [u8]) -> Result<usize, Refusal> {
     if text.len() > TEXT_LIMIT {
         return Err(Refusal::new(1, 0));
@@ -15,7 +15,7 @@ pub fn plain_to_binary(text: &[u8], out: &mut [u8]) -> Result<usize, Refusal> {
     }
     for (place, character) in text.iter().enumerate() {
         if VALUES[usize::from(*character)] == STRANGER {
-            return Err(Refusal::new(5, place));
+            return Err(Refusal::new(number(*character), place));
         }
     }
     let length = text.len() / 4 * 3;

@@ -6,7 +6,7 @@
 //! step, so that the processor need not wait for each header to know where
 //! the next one is.
 
-use crate::alphabet::first_stranger;
+use crate::alphabet::{self, first_stranger};
 use crate::codes::{Class, Row as Code};
 use crate::judge::{contents, frame, primitive, Around, Frame, Refused, Unit};
 use crate::{Form, Refusal, BINARY_LIMIT, TEXT_LIMIT};
@@ -58,6 +58,14 @@ impl Strangers<'_> {
             self.next = first_stranger(self.text, at * U::SIZE).unwrap_or(usize::MAX);
         }
         self.next / U::SIZE
+    }
+
+    /// A number as it is told: a 5 by the character that is known.
+    fn told(&self, number: u8) -> u8 {
+        match (number, self.text.get(self.next)) {
+            (5, Some(stranger)) => alphabet::number(*stranger),
+            _ => number,
+        }
     }
 }
 
@@ -130,14 +138,14 @@ fn item_row<U: Unit>(at: usize, size: usize, verdict: u8) -> Row {
     [a, b, c, d, e, f, g, h, verdict]
 }
 
-fn refusal_row<U: Unit>(index: usize, refused: Refused, stranger: usize) -> Row {
+fn refusal_row<U: Unit>(index: usize, refused: Refused, strangers: &Strangers) -> Row {
     let [a, b, c, d] = four(index);
     let place = match refused.number {
-        5 => stranger,
+        5 => strangers.next,
         _ => refused.place * U::SIZE,
     };
     let [e, f, g, h] = four(place);
-    [a, b, c, d, refused.number, e, f, g, h]
+    [a, b, c, d, strangers.told(refused.number), e, f, g, h]
 }
 
 /// Frames and judges the top-level items of whole units.
@@ -151,7 +159,7 @@ fn judge_all<U: Unit>(units: &[U], mut strangers: Strangers) -> Rows {
         let item = match top_level(left, bad - at) {
             Ok(item) => item,
             Err(number) => {
-                rows.remainder = Some((at * U::SIZE, number));
+                rows.remainder = Some((at * U::SIZE, strangers.told(number)));
                 break;
             }
         };
@@ -163,7 +171,7 @@ fn judge_all<U: Unit>(units: &[U], mut strangers: Strangers) -> Rows {
         };
         match verdict {
             Ok(()) => rows.items.push(item_row::<U>(at, item.size, 0)),
-            Err(refused) => rows.refuse::<U>(at, &item, refused, strangers.next),
+            Err(refused) => rows.refuse::<U>(at, &item, refused, &strangers),
         }
         at += item.size;
         if matches!(item.class, Class::Plain | Class::FourZero) {
@@ -176,11 +184,11 @@ fn judge_all<U: Unit>(units: &[U], mut strangers: Strangers) -> Rows {
 
 impl Rows {
     /// The two rows of a refused item.
-    fn refuse<U: Unit>(&mut self, at: usize, item: &Frame, refused: Refused, stranger: usize) {
-        let row = refusal_row::<U>(self.items.len(), refused, stranger);
+    fn refuse<U: Unit>(&mut self, at: usize, item: &Frame, refused: Refused, known: &Strangers) {
+        let row = refusal_row::<U>(self.items.len(), refused, known);
         self.refusals.push(row);
-        self.items
-            .push(item_row::<U>(at, item.size, refused.number));
+        let verdict = known.told(refused.number);
+        self.items.push(item_row::<U>(at, item.size, verdict));
     }
 
     /// The rows of the accepted primitives like `item` that follow from `at`

@@ -18,7 +18,7 @@ use streams::{Form, Item, Random};
 /// 01, "The deck we check by" and "Errors we have seen shipped", and the
 /// streams of docs/DECISIONS.md.
 #[rustfmt::skip]
-const DECK: [&str; 69] = [
+const DECK: [&str; 78] = [
     "", "MAAB", "MP__", "MQAA", "0HD_____", "0HEAAAAA", "VABh", "WGhp", "1AAM", "4BAA", "5BAA",
     "5BABAGhp", "6BABAABh", "5BABAPAA", "5BABAQAA", "0J_A", "0JAA", "-0AA", "-AAA", "-AABMAAB",
     "-AACMAAB", "-AAC-_AAABAA", "-JAC-_AAABAA", "-AAB0AAAMAAB", "--AAABAA",
@@ -30,7 +30,8 @@ const DECK: [&str; 69] = [
     "--AAAAAC-_AAABAA", "0HEAA!AA", "VQAA", "VBAA", "VAEA", "X___", "-HAB_AAA", "-KAB_A!A",
     "-LAB____", "8AABAAAA", "9AABAAABAAEA", "-AABMAABMAAB!", "--KAAAAB_AA!",
     "--AAAAAA", "7AABAAAA", "9AABAAABAABh", "9AABAAAB!ABh", "-AAC--JAAAAAMAAB", "-AADMQAA--JAAAAA",
-    "-JAD8AAHAAABAAAA",
+    "-JAD8AAHAAABAAAA", "MA!+", "MA+!", "7AAB+__!", "7AAB!__+", "0HEAA/!A", "0HEAA!/A",
+    "-AABMA=!", "-KAB_A=!", "WGhpWGg=",
 ];
 
 #[test]
@@ -201,8 +202,8 @@ fn on_noise() {
 
 #[test]
 fn the_streams_meet_every_number() {
-    // D44: a verdict is 4 to 11 or 18, a remainder's number 4 to 7; 5 in text
-    // only.
+    // D44: a verdict is 4 to 11, 18 or 19, a remainder's number 4 to 7 or 19; 5
+    // and 19 in text only.
     let mut random = Random::new(0xA11);
     for (form, judge) in [(Form::Text, Judge::Text), (Form::Binary, Judge::Binary)] {
         let (mut verdicts, mut remainders) = ([0; 256], [0; 256]);
@@ -216,10 +217,10 @@ fn the_streams_meet_every_number() {
             rest.into_iter()
                 .for_each(|n| remainders[usize::from(n)] += 1);
         }
-        for number in (4..12).chain([18]) {
-            let possible = number != 5 || form == Form::Text;
+        for number in (4..12).chain([18, 19]) {
+            let possible = ![5, 19].contains(&number) || form == Form::Text;
             assert_eq!(verdicts[number] > 0, possible, "{form:?} verdict {number}");
-            let possible = possible && number < 8;
+            let possible = possible && ![8, 9, 10, 11, 18].contains(&number);
             assert_eq!(remainders[number] > 0, possible, "{form:?} rest {number}");
         }
     }

@@ -2,13 +2,16 @@
 
 use crate::{Form, Refusal};
 
-/// A text as binary: refused 1, 2 or 5.
+/// A text as binary: refused 1, 2, or 5 or 19 at the first character outside
+/// the alphabet.
 ///
 /// ```
 /// use cesr::{to_binary, Number};
 /// assert_eq!(to_binary(b"1AAM"), Ok(vec![0xD4, 0x00, 0x0C]));
 /// let refusal = to_binary(b"MAA!").unwrap_err();
 /// assert_eq!((refusal.number, refusal.place), (Number::CHARACTER, 3));
+/// let refusal = to_binary(b"MA/!").unwrap_err();
+/// assert_eq!((refusal.number, refusal.place), (Number::ORDINARY_BASE64, 2));
 /// ```
 pub fn to_binary(text: &[u8]) -> Result<Vec<u8>, Refusal> {
     grown(Form::Text, text, to_binary_into)
@@ -25,8 +28,8 @@ pub fn to_text(binary: &[u8]) -> Result<Vec<u8>, Refusal> {
     grown(Form::Binary, binary, to_text_into)
 }
 
-/// A text as binary at the start of `out`: refused 1, 2, 5 or 3, else the
-/// bytes written. Refused, `out` stays as it was.
+/// A text as binary at the start of `out`: refused as [`to_binary`], then 3,
+/// else the bytes written. Refused, `out` stays as it was.
 pub fn to_binary_into(text: &[u8], out: &mut [u8]) -> Result<usize, Refusal> {
     Ok(proved::to_binary(text, out)?)
 }

@@ -164,8 +164,8 @@ fn told(form: Form, characters: [u8; MOST_TAGS], info: proved::Info, raw: &[u8])
 
 /// Writes a primitive: refused 6 for a code that is no primitive's, 12 for a
 /// raw length or number of tag characters unfit for the code, 18 for a large
-/// code where the small one holds the raw value, 5 for a tag character, its
-/// place the index among them. For variables [`write_variable`] takes the code
+/// code where the small one holds the raw value, 5 or 19 for a tag character,
+/// its place the index among them. For variables [`write_variable`] takes the code
 /// that fits.
 ///
 /// ```

@@ -2,7 +2,7 @@
 
 use std::fmt;
 
-/// Why something was refused, as a number: 1 to 14, or 18.
+/// Why something was refused, as a number: 1 to 14, 18 or 19.
 ///
 /// ```
 /// use cesr::Number;
@@ -23,8 +23,8 @@ impl Number {
     pub const ROOM: Number = Number(3);
     /// Header or full size passes the end of stream or enclosing group.
     pub const PAST_END: Number = Number(4);
-    /// Character outside the alphabet (in text, or a tag character given to a
-    /// writer).
+    /// Character outside the alphabet but `+`, `/`, `=` (in text, or a tag
+    /// character given to a writer).
     pub const CHARACTER: Number = Number(5);
     /// Code unknown or reserved.
     pub const UNKNOWN_CODE: Number = Number(6);
@@ -46,11 +46,14 @@ impl Number {
     pub const NOT_A_PRIMITIVE: Number = Number(14);
     /// Large variable code or large group whose size fits the small code.
     pub const NOT_SHORT: Number = Number(18);
+    /// `+`, `/` or `=` of ordinary Base64 (in text, or a tag character given to
+    /// a writer).
+    pub const ORDINARY_BASE64: Number = Number(19);
 
     /// The number with this value; none for a value that is no number.
     pub const fn new(value: u8) -> Option<Number> {
         match value {
-            1..=14 | 18 => Some(Number(value)),
+            1..=14 | 18 | 19 => Some(Number(value)),
             _ => None,
         }
     }
@@ -65,6 +68,11 @@ impl Number {
         Number(value)
     }
 
+    /// Is it a character's, so that its place is that character: 5 or 19?
+    pub const fn is_of_a_character(self) -> bool {
+        matches!(self, Number::CHARACTER | Number::ORDINARY_BASE64)
+    }
+
     /// The number's value.
     pub const fn get(self) -> u8 {
         self.0
@@ -77,7 +85,7 @@ impl Number {
             2 => "whole-stream conversion: not whole units",
             3 => "output room too small",
             4 => "header or full size passes the end of stream or enclosing group",
-            5 => "character outside the alphabet (in T, or a tag character given to a writer)",
+            5 => "character outside the alphabet but `+`, `/`, `=` (in T, or a tag character given to a writer)",
             6 => "code unknown or reserved",
             7 => "genus/version required but not `AAACAA`",
             8 => "pad bit or lead byte not zero",
@@ -88,6 +96,7 @@ impl Number {
             13 => "walk state unfit for the stream",
             14 => "primitive asked for, group or genus/version found",
             18 => "large variable code or large group whose size fits the small code",
+            19 => "`+`, `/` or `=` of ordinary Base64 (in T, or a tag character given to a writer)",
             _ => "a number that the papers do not have",
         }
     }
@@ -101,9 +110,9 @@ impl fmt::Display for Number {
 
 /// A refusal: its number, and the place in characters or bytes.
 ///
-/// The place is the character for 5, else the item's start; 0 for 1, 2, 3, 12,
-/// 13 and for a writer's 6 and 18, and for a writer's 5 the index among the tag
-/// characters.
+/// The place is the character for 5 and 19, else the item's start; 0 for 1, 2,
+/// 3, 12, 13 and for a writer's 6 and 18, and for a writer's 5 and 19 the index
+/// among the tag characters.
 #[derive(Clone, Copy, Debug, PartialEq, Eq, Hash)]
 pub struct Refusal {
     /// Why.

@@ -259,8 +259,8 @@ pub struct Remainder {
 }
 
 impl Remainder {
-    /// The refusal with its place, which for 5 is the character and stands in
-    /// no report: the walk is asked from the remainder's start on. With
+    /// The refusal with its place, which for 5 and 19 is the character and
+    /// stands in no report: the walk is asked from the remainder's start on. With
     /// another stream than the report's the place is that start.
     ///
     /// ```

@@ -95,13 +95,16 @@ fn every_byte_lies_in_an_item_or_the_remainder() {
         assert_eq!(start, end);
         if let Some(rest) = report.remainder() {
             let refusal = rest.refusal(form, stream);
-            let told = match refusal.number {
-                Number::CHARACTER => rest.offset..rest.offset + 8,
-                _ => rest.offset..rest.offset + 1,
+            let told = match refusal.number.is_of_a_character() {
+                true => rest.offset..rest.offset + 8,
+                false => rest.offset..rest.offset + 1,
             };
             assert!(told.contains(&refusal.place));
-            if refusal.number == Number::CHARACTER {
-                assert!(!stream[refusal.place].is_ascii_alphanumeric());
+            let character = stream[refusal.place];
+            match refusal.number {
+                Number::CHARACTER => assert!(!character.is_ascii_alphanumeric()),
+                Number::ORDINARY_BASE64 => assert!(b"+/=".contains(&character)),
+                _ => {}
             }
         }
         let clean = report.refused() == 0 && report.remainder().is_none();
@@ -276,7 +279,8 @@ fn what_a_writer_refuses() {
         (tag, b"ab", b"", Number::UNFIT_LENGTH, 0),
         (tag, b"abcdefghijklm", b"", Number::UNFIT_LENGTH, 0),
         (tag, b"abc", b"1", Number::UNFIT_LENGTH, 0),
-        (tag, b"a+c", b"", Number::CHARACTER, 1),
+        (tag, b"a!+", b"", Number::CHARACTER, 1),
+        (tag, b"a+!", b"", Number::ORDINARY_BASE64, 1),
     ] {
         let refusal = write(Form::Binary, code, tags, raw).unwrap_err();
         assert_eq!((refusal.number, refusal.place), (number, place), "{code:?}");

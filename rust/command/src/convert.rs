@@ -7,7 +7,7 @@ use crate::name::shown;
 use crate::standing::Standing;
 use crate::terminal::Progress;
 use crate::{complain, excerpt, memory, readable, replace, words};
-use cesr::{Form, Number, Refusal};
+use cesr::{Form, Refusal};
 use std::io::{self, IsTerminal, Write};
 use std::path::Path;
 
@@ -71,7 +71,7 @@ fn to_file(path: &Path, converted: &[u8]) -> io::Result<Standing> {
 fn explained(input: &Input, refusal: Refusal) -> String {
     let mut text = refusal.to_string();
     let mut place = input.bytes.len().saturating_sub(1);
-    if refusal.number == Number::CHARACTER {
+    if refusal.number.is_of_a_character() {
         place = refusal.place;
         let lines = excerpt::at(input.form, &input.bytes, 0..0, place);
         text.push('\n');

@@ -189,6 +189,7 @@ pub fn note(input: &Input, number: Number, place: usize) -> Option<String> {
                 "the byte at {place} is {byte:02X} hexadecimal{kind}"
             ))
         }
+        (Number::ORDINARY_BASE64, _) => Some(format!("{} at {place}", url_safe(byte)?)),
         (Number::NOT_SHORT, form) => {
             let short = short_header(form, input.bytes.get(place..)?)?;
             Some(format!("the small code's header is {short}"))
@@ -223,7 +224,16 @@ fn kind_of(byte: u8) -> &'static str {
         b'\n' => ", a line feed",
         b'\r' => ", a carriage return",
         b' ' => ", a space",
-        b'+' | b'/' | b'=' => ", of ordinary Base64",
         _ => "",
+    }
+}
+
+/// What stands in a stream for a character of ordinary Base64.
+fn url_safe(ordinary: u8) -> Option<&'static str> {
+    match ordinary {
+        b'+' => Some("URL-safe Base64 has - for the +"),
+        b'/' => Some("URL-safe Base64 has _ for the /"),
+        b'=' => Some("a stream has no padding: nothing stands for the ="),
+        _ => None,
     }
 }

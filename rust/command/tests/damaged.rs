@@ -112,7 +112,6 @@ fn strangers_by_name() {
         (b"\n", "0A hexadecimal, a line feed\n"),
         (b"\r", "0D hexadecimal, a carriage return\n"),
         (b" ", "20 hexadecimal, a space\n"),
-        (b"=", "3D hexadecimal, of ordinary Base64\n"),
         (b"\x00", "00 hexadecimal\n"),
         (b"\xFF", "FF hexadecimal\n"),
     ] {
@@ -121,6 +120,16 @@ fn strangers_by_name() {
             1,
             &format!("the byte at 123 is {kind}"),
         );
+    }
+    for (byte, note) in [
+        (b"+", "URL-safe Base64 has - for the + at 123\n"),
+        (b"/", "URL-safe Base64 has _ for the / at 123\n"),
+        (
+            b"=",
+            "a stream has no padding: nothing stands for the = at 123\n",
+        ),
+    ] {
+        told(&damaged(123, byte), 1, note);
     }
 }
 

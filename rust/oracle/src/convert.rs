@@ -21,7 +21,7 @@ pub fn unit_to_text(bytes: [u8; 3]) -> [u8; 4] {
     [18, 12, 6, 0].map(|shift| alphabet::character((bits >> shift) as u8 & 63))
 }
 
-/// Text to binary: 1, 2, 5, 3, else the number of bytes written.
+/// Text to binary: 1, 2, 5 or 19, 3, else the number of bytes written.
 pub fn to_binary(text: &[u8], out: &mut [u8]) -> Result<usize, Refusal> {
     Form::Text.check_length(text)?;
     if !text.len().is_multiple_of(4) {
@@ -115,6 +115,11 @@ mod tests {
         // 2 before 5, 5 before 3; the place of 5 is the character.
         assert_eq!(refused(b"MAA!A", 9), Err((2, 0)));
         assert_eq!(refused(b"MAABMA!!", 0), Err((5, 6)));
+        assert_eq!(refused(b"MAABMA!=", 0), Err((5, 6)));
+        assert_eq!(refused(b"MAABMA=!", 0), Err((19, 6)));
+        assert_eq!(refused(b"MAA+A", 9), Err((2, 0)));
+        // RFC 4648: `Zg==` is `f` in ordinary Base64.
+        assert_eq!(refused(b"Zg==", 9), Err((19, 2)));
         assert_eq!(refused(b"MAABMAAB", 5), Err((3, 0)));
         // 1 before 2: one character too many is not whole units either.
         assert_eq!(refused(&vec![b'!'; 4_194_305], 0), Err((1, 0)));

@@ -1,7 +1,7 @@
 //! The two forms of a stream, and how sextets and bits are read out of each.
 
 use crate::alphabet;
-use crate::refusal::{Refusal, CHARACTER, TOO_LONG};
+use crate::refusal::{Refusal, TOO_LONG};
 
 /// Text (T) or binary (B). "B has the same rules, read on its sextets."
 #[derive(Clone, Copy, Debug, PartialEq, Eq)]
@@ -36,15 +36,15 @@ impl Form {
         Ok(())
     }
 
-    /// 5: the first character outside the alphabet in `from..to`. Binary has
-    /// no characters, so nothing there can be outside.
+    /// 5 or 19: the first character outside the alphabet in `from..to`. Binary
+    /// has no characters, so nothing there can be outside.
     pub fn check_alphabet(self, stream: &[u8], from: usize, to: usize) -> Result<(), Refusal> {
         if self == Form::Binary {
             return Ok(());
         }
         let part = stream.get(from..to).unwrap_or(&[]);
-        match part.iter().position(|c| alphabet::value(*c).is_none()) {
-            Some(index) => Err(Refusal::new(CHARACTER, from + index)),
+        match alphabet::first_stranger(part) {
+            Some((index, number)) => Err(Refusal::new(number, from + index)),
             None => Ok(()),
         }
     }
@@ -139,6 +139,8 @@ mod tests {
         let refused = Form::Text.check_alphabet(b"AA!A=", 0, 5);
         assert_eq!(refused, Err(Refusal::new(5, 2)));
         assert_eq!(Form::Text.check_alphabet(b"AA!A=", 3, 4), Ok(()));
+        let refused = Form::Text.check_alphabet(b"AA!A=", 3, 5);
+        assert_eq!(refused, Err(Refusal::new(19, 4)));
         assert_eq!(Form::Binary.check_alphabet(b"!!!", 0, 3), Ok(()));
     }
 }

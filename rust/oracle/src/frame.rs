@@ -153,8 +153,11 @@ mod tests {
         assert_eq!(text("MAA!"), Err((5, 3)));
         assert_eq!(text("0A?!"), Err((5, 2)));
         assert_eq!(text("b!!A"), Err((5, 1)));
-        assert_eq!(text("_AA="), Err((5, 3)));
-        assert_eq!(text("=AAA"), Err((5, 0)));
+        assert_eq!(text("_AA="), Err((19, 3)));
+        assert_eq!(text("=AAA"), Err((19, 0)));
+        // 02 j: the first bad character decides.
+        assert_eq!(text("MA!+"), Err((5, 2)));
+        assert_eq!(text("MA+!"), Err((19, 2)));
     }
 
     #[test]
@@ -174,6 +177,9 @@ mod tests {
         assert_eq!(text("7AAB!__!"), Err((5, 4)));
         assert_eq!(text("--A__!__"), Err((5, 5)));
         assert_eq!(text("-_AAABA!"), Err((5, 7)));
+        assert_eq!(text("7AAB+__!"), Err((19, 4)));
+        assert_eq!(text("--A__!_/"), Err((5, 5)));
+        assert_eq!(text("-_AAABA/"), Err((19, 7)));
         assert_eq!(text("7AAB____"), Err((4, 0)));
     }
 

@@ -8,6 +8,8 @@
 //! 02 h: "Large variable codes and large groups whose size fits the small code
 //! are refused with new number 18, judged directly after 11 for groups, in the
 //! walk too, and before 9 for primitives."
+//!
+//! 02 j: where 5 stands, `+`, `/` and `=` are 19.
 
 use crate::form::Form;
 use crate::frame::{frame, require_genus_version, Frame};
@@ -36,7 +38,7 @@ fn check_short(framed: &Frame) -> Result<(), Refusal> {
     Ok(())
 }
 
-/// 5 behind the header, 18, 9, 8, 10.
+/// 5 or 19 behind the header, 18, 9, 8, 10.
 pub fn judge_primitive(stream: &[u8], form: Form, framed: &Frame) -> Result<(), Refusal> {
     form.check_alphabet(stream, framed.behind_header(), framed.end())?;
     check_short(framed)?;
@@ -58,7 +60,8 @@ pub fn judge_primitive(stream: &[u8], form: Form, framed: &Frame) -> Result<(), 
     Ok(())
 }
 
-/// What is judged of a group itself, before its items: 11, 18, then 5 if opaque.
+/// What is judged of a group itself, before its items: 11, 18, then 5 or 19 if
+/// opaque.
 pub fn judge_group_itself(
     stream: &[u8],
     form: Form,
@@ -190,6 +193,7 @@ mod tests {
         }
         assert_eq!(text("9AABAAABAAEA"), Err((18, 0)));
         assert_eq!(text("9AABAAAB!AEA"), Err((5, 8)));
+        assert_eq!(text("9AABAAAB=AEA"), Err((19, 8)));
         // From 4,096 units on it is 8 as with the small code.
         assert_eq!(text(&large('8', 4096, "AQAA")), Err((8, 0)));
         assert_eq!(text(&large('9', 4096, "AAEA")), Err((8, 0)));
@@ -241,7 +245,8 @@ mod tests {
     fn five_over_the_whole_item_comes_first() {
         // D16.
         assert_eq!(text("0HEAA!AA"), Err((5, 5)));
-        assert_eq!(text("0LAAA=AA"), Err((5, 5)));
+        assert_eq!(text("0LAAA!=A"), Err((5, 5)));
+        assert_eq!(text("0LAAA=!A"), Err((19, 5)));
     }
 
     #[test]
@@ -250,6 +255,7 @@ mod tests {
         assert_eq!(text("-AACMQAA_AAA"), Err((8, 4)));
         assert_eq!(text("-AACMAAB_AAA"), Err((6, 8)));
         assert_eq!(text("-AACMAABMA!A"), Err((5, 10)));
+        assert_eq!(text("-AACMAABMA+A"), Err((19, 10)));
         assert_eq!(text("-AAB0AAA"), Err((4, 4)));
     }
 
@@ -262,6 +268,7 @@ mod tests {
         assert_eq!(text(&large.replacen("_AAA", "_A!A", 1)), Err((5, 10)));
         assert_eq!(text("-HAB_AAA"), Err((6, 4)));
         assert_eq!(text("-KAB_A!A"), Err((5, 6)));
+        assert_eq!(text("-KAB_A/!"), Err((19, 6)));
     }
 
     #[test]

@@ -6,7 +6,7 @@ use crate::form::Form;
 use crate::frame::{frame, Frame};
 use crate::judge::judge_primitive;
 use crate::refusal::{
-    Refusal, CHARACTER, NOT_A_PRIMITIVE, NOT_SHORT, PAST_END, ROOM, UNFIT_LENGTH, UNKNOWN_CODE,
+    Refusal, NOT_A_PRIMITIVE, NOT_SHORT, PAST_END, ROOM, UNFIT_LENGTH, UNKNOWN_CODE,
 };
 use crate::registry::{self, Code, Fixed};
 
@@ -124,7 +124,7 @@ pub enum Named<'a> {
     Variable { letter: u8, large: bool },
 }
 
-/// Writes one primitive to text or binary: 6, 12, 18, 5, 3, else the size
+/// Writes one primitive to text or binary: 6, 12, 18, 5 or 19, 3, else the size
 /// written. 02 h: "the primitive writer refuses them directly after 12, with
 /// place 0".
 pub fn write(
@@ -144,7 +144,7 @@ pub fn write(
     }
 }
 
-/// A fixed item's bytes: 6, 12, 5.
+/// A fixed item's bytes: 6, 12, 5 or 19.
 fn fixed_item(characters: &[u8], tag: &Tag, raw: &[u8]) -> Result<Vec<u8>, Refusal> {
     let Some(row) = registry::fixed(characters) else {
         return Err(Refusal::new(UNKNOWN_CODE, 0));
@@ -154,9 +154,8 @@ fn fixed_item(characters: &[u8], tag: &Tag, raw: &[u8]) -> Result<Vec<u8>, Refus
         return Err(Refusal::new(UNFIT_LENGTH, 0));
     }
     let given = &tag.characters[..row.tag];
-    let bad = given.iter().position(|c| alphabet::value(*c).is_none());
-    if let Some(index) = bad {
-        return Err(Refusal::new(CHARACTER, index));
+    if let Some((index, number)) = alphabet::first_stranger(given) {
+        return Err(Refusal::new(number, index));
     }
     let mut head = row.code.as_bytes().to_vec();
     if row.prepad {
@@ -281,7 +280,9 @@ mod tests {
         assert_eq!(read("MAAB", 400), Err((4, 400)));
         assert_eq!(read("", 0), Err((4, 0)));
         assert_eq!(read("MAABMA!B", 4), Err((5, 6)));
-        assert_eq!(read("MAAB0HAAA=AA", 4), Err((5, 9)));
+        assert_eq!(read("MAAB0HAAA!=A", 4), Err((5, 9)));
+        assert_eq!(read("MAAB0HAAA=!A", 4), Err((19, 9)));
+        assert_eq!(read("MAABM+!B", 4), Err((19, 5)));
         assert_eq!(read("MAABbAAA", 4), Err((6, 4)));
         assert_eq!(read("MAABMQAA", 4), Err((8, 4)));
         assert_eq!(read("5BAA", 0), Err((9, 0)));
@@ -395,6 +396,9 @@ mod tests {
         assert_eq!(fixed("X", "!!", &[]), Err((12, 0)));
         assert_eq!(fixed("Z", "AAAAAAAAAAAA", &[]), Err((12, 0)));
         assert_eq!(fixed("X", "A!=", &[]), Err((5, 1)));
+        assert_eq!(fixed("X", "A=!", &[]), Err((19, 1)));
+        assert_eq!(fixed("X", "+/=", &[]), Err((19, 0)));
+        assert_eq!(fixed("X", "+/", &[]), Err((12, 0)));
         let refused = write(
             Named::Fixed(b"X"),
             &Tag::of(b"A!="),

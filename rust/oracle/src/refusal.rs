@@ -21,7 +21,7 @@ pub const NOT_WHOLE_UNITS: u8 = 2;
 pub const ROOM: u8 = 3;
 /// Header or full size passes the end of stream or enclosing group.
 pub const PAST_END: u8 = 4;
-/// Character outside the alphabet.
+/// Character outside the alphabet but `+`, `/`, `=`.
 pub const CHARACTER: u8 = 5;
 /// Code unknown or reserved.
 pub const UNKNOWN_CODE: u8 = 6;
@@ -43,6 +43,8 @@ pub const UNFIT_STATE: u8 = 13;
 pub const NOT_A_PRIMITIVE: u8 = 14;
 /// 02 h: large variable code or large group whose size fits the small code.
 pub const NOT_SHORT: u8 = 18;
+/// 02 j: `+`, `/` or `=` of the ordinary alphabet.
+pub const ORDINARY_BASE64: u8 = 19;
 
 #[cfg(test)]
 mod tests {
@@ -67,6 +69,6 @@ mod tests {
             NOT_A_PRIMITIVE,
         ];
         assert!(numbers.iter().copied().eq(1..=14));
-        assert_eq!(NOT_SHORT, 18);
+        assert_eq!([NOT_SHORT, ORDINARY_BASE64], [18, 19]);
     }
 }

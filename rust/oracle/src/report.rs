@@ -23,7 +23,7 @@ pub struct RefusalRow {
 }
 
 /// Where the items end before the stream does, and why. The offset is the
-/// start of the item that could not be framed, for 5 too (D43).
+/// start of the item that could not be framed, for 5 and 19 too (D43).
 #[derive(Clone, Copy, Debug, PartialEq, Eq)]
 pub struct Remainder {
     pub offset: usize,
@@ -160,6 +160,23 @@ mod tests {
         assert_eq!(report.items, [item(0, 4, 0)]);
         assert_eq!(report.remainder, remainder(4, 5));
         assert!(report.refusals.is_empty());
+    }
+
+    #[test]
+    fn the_first_bad_character_is_of_either_kind() {
+        // 02 j, in a remainder and in a verdict.
+        for (stream, number) in [("MAABMA!+", 5), ("MAABMA+!", 19), ("MAABMAA=", 19)] {
+            let report = report(stream.as_bytes(), Form::Text).unwrap();
+            assert_eq!(report.remainder, remainder(4, number));
+        }
+        let report = report(b"0HAA+!AA0HAA!+AA", Form::Text).unwrap();
+        assert_eq!(report.items, [item(0, 8, 19), item(8, 8, 5)]);
+        let places: Vec<_> = report
+            .refusals
+            .iter()
+            .map(|r| (r.number, r.place))
+            .collect();
+        assert_eq!(places, [(19, 4), (5, 12)]);
     }
 
     #[test]

@@ -225,6 +225,7 @@ mod tests {
         let (behind, _) = after(Walk::start(), "-KAB_AAAMAAB");
         assert_eq!(behind, state(&[], 8, false));
         assert_eq!(refused(Walk::start(), "-KAB_A!A"), (5, 6));
+        assert_eq!(refused(Walk::start(), "-KAB_A+A"), (19, 6));
         // As first item it clears the mark (D12).
         let (behind, _) = after(state(&[16], 4, true), "-AAD-KAA-_AAABAA");
         assert_eq!(behind, state(&[16], 8, false));
@@ -247,6 +248,7 @@ mod tests {
         let (inside, _) = after(Walk::start(), "-JAB!!!!");
         assert_eq!(inside, state(&[8], 4, false));
         assert_eq!(refused(inside, "-JAB!!!!"), (5, 4));
+        assert_eq!(refused(inside, "-JAB=!!!"), (19, 4));
     }
 
     #[test]

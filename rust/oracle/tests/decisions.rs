@@ -87,6 +87,8 @@ fn d6_in_text_a_character_is_a_byte() {
     assert_eq!(stream.len(), 8);
     rows_of(stream, Form::Text, &[(0, 8, 5)], &[(0, 5, 4)], None);
     rows_of(&[0x80; 4], Form::Text, &[], &[], Some((0, 5)));
+    let stream = "0HAA=éA".as_bytes();
+    rows_of(stream, Form::Text, &[(0, 8, 19)], &[(0, 19, 4)], None);
 }
 
 #[test]

@@ -197,6 +197,41 @@ fn deck_only_the_short_form() {
     }
 }
 
+/// 02 j: "`+`, `/` or `=` from the ordinary alphabet ... number 19 where they
+/// would have given 5, at the same place in the same order ... the first bad
+/// character is reported, of whichever kind."
+#[test]
+fn deck_the_wrong_base64() {
+    for character in ['+', '/', '='] {
+        let with = |text: &str| text.replace('*', &character.to_string());
+        // A first unit, a second one: framing, so a remainder.
+        for text in [
+            "*AAB", "M*AB", "MA*!", "_AA*", "7AAB*__!", "--JAA*!A", "-_AAABA*",
+        ] {
+            rows(&with(text), &[], &[], Some((0, 19)));
+        }
+        for text in ["!*AB", "MA!*", "7AAB!__*"] {
+            rows(&with(text), &[], &[], Some((0, 5)));
+        }
+        // Behind the header, in a tag, in a group, in an opaque one.
+        rows(&with("0HEAA*AA"), &[(0, 8, 19)], &[(0, 19, 5)], None);
+        rows(&with("0HEA!*AA"), &[(0, 8, 5)], &[(0, 5, 4)], None);
+        rows(&with("0LAAA*!A"), &[(0, 8, 19)], &[(0, 19, 5)], None);
+        rows(&with("-AABMA*!"), &[(0, 8, 19)], &[(0, 19, 6)], None);
+        rows(&with("-KAB_A*!"), &[(0, 8, 19)], &[(0, 19, 6)], None);
+        rows(&with("-LAB_A!*"), &[(0, 8, 5)], &[(0, 5, 6)], None);
+        // 4 before it, in a unit that is not whole.
+        rows(&with("MAABMA*"), &[(0, 4, 0)], &[], Some((4, 4)));
+        // 18 before an opaque group's, and behind a variable's.
+        rows(&with("--KAAAAB_A*A"), &[(0, 12, 18)], &[(0, 18, 0)], None);
+        rows(&with("8AABAAAB*AAA"), &[(0, 12, 19)], &[(0, 19, 8)], None);
+    }
+    // RFC 4648: padded, and what 62 and 63 are there.
+    rows("WGhpWGg=", &[(0, 4, 0)], &[], Some((4, 19)));
+    rows("0HD/////", &[], &[], Some((0, 19)));
+    rows("0HD_//__", &[(0, 8, 19)], &[(0, 19, 4)], None);
+}
+
 /// 02 h: "for accepted primitives equal type and raw value ... mean equal
 /// text". Of the two spellings that a value has, each form accepts one.
 #[test]
@@ -686,9 +721,11 @@ fn a_second_item_goes_behind_the_first() {
 #[test]
 fn conversion_refuses_before_it_writes() {
     let mut out = [9; 6];
-    let refused = to_binary(b"MAABMA=A", &mut out);
-    assert_eq!(refused.map_err(|r| (r.number, r.place)), Err((5, 6)));
-    assert_eq!(out, [9; 6]);
+    for (stream, number) in [(b"MAABMA!=", 5), (b"MAABMA=!", 19)] {
+        let refused = to_binary(stream, &mut out);
+        assert_eq!(refused.map_err(|r| (r.number, r.place)), Err((number, 6)));
+        assert_eq!(out, [9; 6]);
+    }
 }
 
 #[test]

@@ -14,10 +14,11 @@ use oracle::walk::{step, Found, Walk};
 
 /// Accepted and refused items, and what cannot be framed.
 #[rustfmt::skip]
-const PIECES: [&str; 25] = [
+const PIECES: [&str; 27] = [
     "MAAB", "MQAA", "0HD_____", "0HEAAAAA", "VABh", "VBAA", "1AAM", "4BAA", "5BAA", "5BABAGhp",
     "6BABAABh", "0J_A", "0JAA", "-_AAACAA", "-_AAABAA", "7AABAAABAAAA", "XABC", "-0AA", "-AAA",
-    "-KAA", "bAAA", "1AAK", "MA!A", "0HAA==AA", "9AABAAAA",
+    "-KAA", "bAAA", "1AAK", "MA!A", "0HAA==AA", "9AABAAAA", "MA+A",
+    "0HAA!/AA",
 ];
 
 /// Marsaglia's xorshift with 64 bits.
@@ -193,7 +194,7 @@ fn nothing_panics_on_likely_streams() {
 
 #[test]
 fn the_noise_meets_every_number() {
-    // D44: a verdict is 4 to 11 or 18, a remainder's number 4 to 7.
+    // D44: a verdict is 4 to 11, 18 or 19, a remainder's number 4 to 7 or 19.
     let mut noise = Noise(0xDEAD_BEEF_0BAD_F00D);
     let (mut verdicts, mut remainders) = ([0; 256], [0; 256]);
     for _ in 0..8000 {
@@ -208,9 +209,9 @@ fn the_noise_meets_every_number() {
         }
     }
     for number in 0..256 {
-        let verdict = matches!(number, 0 | 4..=11 | 18);
+        let verdict = matches!(number, 0 | 4..=11 | 18 | 19);
         assert_eq!(verdicts[number] > 0, verdict, "verdict {number}");
-        let remainder = (4..=7).contains(&number);
+        let remainder = matches!(number, 4..=7 | 19);
         assert_eq!(remainders[number] > 0, remainder, "remainder {number}");
     }
 }
@@ -240,8 +241,56 @@ fn what_is_not_11_under_a_lower_limit_is_the_same() {
     assert!(met, "{kept:?} {deeper}");
 }
 
+/// 02 j: "number 19 where they would have given 5, at the same place in the
+/// same order". With `!` for each `+`, `/`, `=` every answer is the same but for
+/// the number, which is 19 exactly where one of the three stood at the place.
+#[test]
+fn only_the_number_tells_the_ordinary_alphabet() {
+    let mut noise = Noise(0x19);
+    let mut met = [0; 2];
+    for _ in 0..8000 {
+        let pieces = noise.below(12);
+        let mut stream = noise.likely(pieces).into_bytes();
+        for _ in 0..noise.below(4).min(stream.len()) {
+            let place = noise.below(stream.len());
+            stream[place] = b"+/=!\n "[noise.below(6)];
+        }
+        let plain = masked(&stream);
+        let number = |number: u8, place: usize| match (number, stream[place]) {
+            (5, b'+' | b'/' | b'=') => 19,
+            (number, _) => number,
+        };
+        let told = report(&stream, Form::Text).unwrap();
+        let mut same = report(&plain, Form::Text).unwrap();
+        for row in &mut same.refusals {
+            row.number = number(row.number, row.place);
+            same.items[row.index].verdict = row.number;
+            met[usize::from(row.number == 19)] += 1;
+        }
+        // A remainder has no place: the first stranger of its header.
+        if let Some(rest) = &mut same.remainder {
+            let stranger = plain[rest.offset..]
+                .iter()
+                .position(|c| b"!\n ".contains(c));
+            let place = rest.offset + stranger.unwrap_or(0);
+            rest.number = number(rest.number, place);
+        }
+        assert_eq!(told, same, "{}", String::from_utf8_lossy(&stream));
+        let room = stream.len();
+        let [ours, theirs] = [&stream, &plain].map(|s| to_binary(s, &mut vec![0; room]));
+        let theirs = theirs.map_err(|r| (number(r.number, r.place), r.place));
+        assert_eq!(ours.map_err(|r| (r.number, r.place)), theirs);
+    }
+    assert!(met.iter().all(|times| *times > 1000), "{met:?}");
+}
+
+fn masked(stream: &[u8]) -> Vec<u8> {
+    let mask = |c: &u8| if b"+/=".contains(c) { b'!' } else { *c };
+    stream.iter().map(mask).collect()
+}
+
 /// Text measures as binary ones: four characters are three bytes. Odd places
-/// are none of an item's, and 5, which has them, is not in binary.
+/// are none of an item's, and 5 and 19, which have them, are not in binary.
 fn in_bytes(report: &Report) -> Report {
     let mut same = report.clone();
     for row in &mut same.items {
@@ -266,7 +315,7 @@ fn text_and_binary_reports_agree() {
         } else {
             noise.characters(4 * pieces)
         };
-        if stream.contains(['!', '=']) {
+        if stream.contains(['!', '=', '+', '/']) {
             continue;
         }
         let text = report(stream.as_bytes(), Form::Text).unwrap();

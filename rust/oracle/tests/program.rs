@@ -56,6 +56,7 @@ fn conversions() {
     answered(&["convert", "to-binary"], b"1AAM", &[0xD4, 0, 0x0C]);
     answered(&["convert", "to-text"], &[0xD4, 0, 0x0C], b"1AAM");
     refused(&["convert", "to-binary"], b"1AA!", "", "5 3");
+    refused(&["convert", "to-binary"], b"1A+!", "", "19 2");
     refused(&["convert", "to-binary"], b"1AA", "", "2 0");
     refused(&["convert", "to-text", "--room", "3"], &[0; 3], "", "3 0");
 }
@@ -96,6 +97,7 @@ fn writes() {
     refused(&["write", "text", "-A"], b"", "", "6 0");
     refused(&["write", "text", "small", "G"], b"", "", "6 0");
     refused(&["write", "text", "X", "--tag", "A!A"], b"", "", "5 1");
+    refused(&["write", "text", "X", "--tag", "A/A"], b"", "", "19 1");
     refused(
         &["write", "text", "Z", "--tag", "AAAAAAAAAAAA"],
         b"",

@@ -436,6 +436,33 @@ fn only_short(records: &mut Vec<Record>) {
     records.push(Record::new(REPORT_BINARY, 35, &less));
 }
 
+/// 02 j: 19 and 5 in every kind of place, each first and each behind the other.
+fn ordinary(records: &mut Vec<Record>) {
+    for text in [
+        &b"+AAB"[..],
+        b"M/AB",
+        b"MA=!",
+        b"MA!=",
+        b"7AAB+!__",
+        b"7AAB!/__",
+        b"-_AAAC=A",
+        b"0HEAA/!A",
+        b"0HEAA!/A",
+        b"0L_ab=cd",
+        b"-AACMAABMA+!",
+        b"-KAB_A=!",
+        b"-LAB_A!=",
+        b"8AABAAAB+AAA",
+        b"WGhpWGg=",
+        b"WGhpWA==",
+        b"MAABMA=",
+    ] {
+        report_both(records, 53, text);
+        read_both(records, 0, 8, text);
+        walk_both(records, [0; STATE], text);
+    }
+}
+
 /// Streams of items and noise from a fixed sequence.
 fn noise(records: &mut Vec<Record>) {
     let mut state: u32 = 20_240_601;
@@ -545,6 +572,7 @@ fn unwritten(records: &mut Vec<Record>) {
         b"AB=",
         b"A!=",
         b"+AA",
+        b"A/!",
         b"AAAAAAAAAAAA",
     ] {
         write_both(records, (1, b'X'), tag, b"");
@@ -701,6 +729,7 @@ fn records() -> Vec<Record> {
     unwritten(&mut records);
     reads(&mut records);
     walks(&mut records);
+    ordinary(&mut records);
     examples(&mut records);
     records
 }

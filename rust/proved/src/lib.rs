@@ -29,7 +29,7 @@ pub type Tag = [u8; 11];
 /// characters.
 pub type Info = [usize; 6];
 
-/// Text to binary: 1, 2, 5, 3, else the number of bytes written.
+/// Text to binary: 1, 2, 5 or 19, 3, else the number of bytes written.
 pub fn to_binary(text: &[u8], out: &mut [u8]) -> Result<usize, Refusal> {
     lent(declared::cesr_text_to_binary, text, out)
 }
@@ -119,12 +119,14 @@ pub struct Primitive<'a> {
     pub raw: &'a [u8],
 }
 
-/// Writes a primitive as text: 6, 12, 18, 5, 3, else the length written.
+/// Writes a primitive as text: 6, 12, 18, 5 or 19, 3, else the length
+/// written.
 pub fn write_text(item: &Primitive, out: &mut [u8]) -> Result<usize, Refusal> {
     write(declared::cesr_write_text, item, out)
 }
 
-/// Writes a primitive as binary: 6, 12, 18, 5, 3, else the length written.
+/// Writes a primitive as binary: 6, 12, 18, 5 or 19, 3, else the length
+/// written.
 pub fn write_binary(item: &Primitive, out: &mut [u8]) -> Result<usize, Refusal> {
     write(declared::cesr_write_binary, item, out)
 }

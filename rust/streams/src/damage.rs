@@ -13,10 +13,11 @@ use crate::table::{GROUPS, HEADS, MOST_SMALL};
 pub type Operator = fn(&mut Random, Form, &mut Vec<u8>);
 
 /// All of them, with a name for messages.
-pub const OPERATORS: [(&str, Operator); 15] = [
+pub const OPERATORS: [(&str, Operator); 16] = [
     ("flip a bit", flip_bit),
     ("any byte", any_byte),
     ("wrong alphabet", wrong_alphabet),
+    ("ordinary Base64", ordinary_base64),
     ("truncate", truncate),
     ("remove bytes", remove_bytes),
     ("remove units", remove_units),
@@ -90,14 +91,40 @@ fn any_byte(random: &mut Random, _: Form, stream: &mut Vec<u8>) {
     }
 }
 
-/// Characters next to the alphabet's, and those of the ordinary one.
-pub const STRANGERS: &[u8] = b"+/=\n \t.,!@[^`{/:;\x00\x0D\x7F\x80\xC1\xFF";
+/// Those of the ordinary alphabet, and others: next to the alphabet's, next to
+/// these three, and far off.
+pub const ORDINARY: &[u8; 3] = b"+/=";
+pub const STRANGERS: &[u8] = b"+/=\n \t.,*<>!@[^`{:;\x00\x0D\x7F\x80\xC1\xFF";
 
+/// One stranger, or two near each other, of either kind.
 fn wrong_alphabet(random: &mut Random, _: Form, stream: &mut Vec<u8>) {
-    let place = random.below(stream.len());
-    if let Some(byte) = stream.get_mut(place) {
-        *byte = *random.pick(STRANGERS);
+    let mut place = random.below(stream.len());
+    for _ in 0..1 + random.below(2) {
+        let strangers = *random.pick(&[STRANGERS, ORDINARY]);
+        if let Some(byte) = stream.get_mut(place) {
+            *byte = *random.pick(strangers);
+        }
+        place += random.below(6);
     }
+}
+
+/// A stretch as ordinary Base64 has it: `+` for `-`, `/` for `_`, `=` at its end.
+fn ordinary_base64(random: &mut Random, _: Form, stream: &mut Vec<u8>) {
+    let from = random.below(stream.len());
+    let to = (from + 1 + random.below(60)).min(stream.len());
+    let padded = random.below(3);
+    let Some(stretch) = stream.get_mut(from..to) else {
+        return;
+    };
+    for character in &mut *stretch {
+        *character = match *character {
+            b'-' => b'+',
+            b'_' => b'/',
+            known => known,
+        };
+    }
+    let last = stretch.iter_mut().rev().take(padded);
+    last.for_each(|character| *character = b'=');
 }
 
 fn truncate(random: &mut Random, _: Form, stream: &mut Vec<u8>) {

@@ -1,12 +1,14 @@
 -- `text_to_binary` meets its contract. Assumes nothing.
 use mathlib.Core.Path.{refl, ap, sym, _∙_}
+use Prim.Native.Nat.{ℕ}
 use native.Mathlib.Omega.{arith}
 use Rattle.format.specs.declared.ToBinary.the-variants as B
-use Rattle.format.specs.Offsets.{offsetInBinary}
+use Rattle.format.specs.Offsets.{textOffset, offsetInBinary}
 use Rattle.format.specs.Conversion.{binaryLeft}
 use Rattle.laws.specs.Offsets.{in-binary-is}
 use Rattle.convert_pack.proofs.Left.{stranger-left, no-room-left, written-left}
 use Rattle.convert.proofs.Answers.{text-long, text-torn, text-stranger, text-no-room, text-converted}
+use Rattle.alphabet.proofs.number_at.Reads as number-at-reads
 use borrow.Author.Needs.{needs}
 use Rattle.convert.proofs.text_to_binary.Statement.{statement}
 use Rattle.convert.proofs.text_to_binary.Tie as tie
@@ -22,14 +24,19 @@ returns-2 c = (sym (text-torn _ _ (omega arith) (omega arith)), refl)
 to-binary-requires : tie.Need-to-binary-requires
 to-binary-requires c κs = search needs
 
+number-at-requires : tie.Need-number-at-requires
+number-at-requires c κs = search needs
+
 same-length : tie.Need-same-length
 same-length c = search needs
 
 returns-3 : tie.Need-returns-3
 unfolding binaryLeft
 returns-3 c =
-    let b = c .before .before .before .to-binary in
-    (sym (text-stranger _ _ (omega arith) (omega arith) _ (b .ensures .0) (omega arith)), b .ensures .1 ∙ stranger-left _ _ (omega arith))
+    let b = c .before .before .before .before .to-binary in (
+      ap (λ (m : ℕ). B.Refused m (textOffset (b .result))) (c .number-at .ensures) ∙ sym (text-stranger _ _ (omega arith) (omega arith) _ (b .ensures .0) (omega arith)),
+      b .ensures .1 ∙ stranger-left _ _ (omega arith),
+    )
 
 in-binary-requires : tie.Need-in-binary-requires
 in-binary-requires c κs = search needs
@@ -65,6 +72,7 @@ text-to-binary-spec =
     returns
     returns-2
     to-binary-requires
+    number-at-requires
     same-length
     returns-3
     in-binary-requires

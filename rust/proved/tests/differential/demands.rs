@@ -1,4 +1,4 @@
-//! Demands 2 and 3 as properties of the library alone.
+//! Demands 2 and 3, and 02 j, as properties of the library alone.
 
 use crate::judges::{same, Check};
 use streams::{Form, Random};
@@ -96,6 +96,24 @@ pub fn damaged(stream: &[u8], form: Form, seed: u64) -> Check {
     same("remainder", &after.remainder, &before.remainder)?;
     each_by_itself(stream, form, &before)?;
     each_by_itself(&changed, form, &after)
+}
+
+/// 02 j: with `!` for each `+`, `/`, `=` of a text the report is the same but
+/// that its 19s are 5s, and 19 is told where one of the three stands.
+pub fn masked(text: &[u8]) -> Check {
+    let mask = |c: &u8| if b"+/=".contains(c) { b'!' } else { *c };
+    let plain: Vec<u8> = text.iter().map(mask).collect();
+    let mut told = rows(text, Form::Text);
+    for [_, number, place] in &told.refusals {
+        let ordinary = b"+/=".contains(&text[*place]);
+        let right = *number == 19 && ordinary || *number != 19 && !(*number == 5 && ordinary);
+        same("19 by its character", right, true)?;
+    }
+    let five = |number: &mut usize| *number = if *number == 19 { 5 } else { *number };
+    told.items.iter_mut().for_each(|row| five(&mut row[2]));
+    told.refusals.iter_mut().for_each(|row| five(&mut row[1]));
+    told.remainder.iter_mut().for_each(|row| five(&mut row[1]));
+    same("with ! for + / =", rows(&plain, Form::Text), told)
 }
 
 /// The header's length: two units for `7` `8` `9`, `--` and `-_`.

@@ -59,8 +59,9 @@ fn one_case(seed: u64, form: Form) {
     demand(&made, form, |s| judges::alike_in_short(s, form, seed));
     demand(&made, form, |s| walks::from_made_up(s, form, seed));
     demand(&made, form, |s| demands::damaged(s, form, seed));
-    if form == Form::Binary {
-        demand(&made, form, demands::converted);
+    match form {
+        Form::Binary => demand(&made, form, demands::converted),
+        Form::Text => demand(&made, form, demands::masked),
     }
     if whole {
         // Made small it would be another stream, and rightly refused.
@@ -137,13 +138,13 @@ fn every_number_is_met() {
             .for_each(|row| remainders[row[1]] += 1);
     }
     for number in 0..20 {
-        let is_verdict = matches!(number, 0 | 4..=11 | 18);
+        let is_verdict = matches!(number, 0 | 4..=11 | 18 | 19);
         assert_eq!(
             verdicts[number] > 20,
             is_verdict,
             "{number} of {verdicts:?}"
         );
-        let is_remainder = matches!(number, 4..=7);
+        let is_remainder = matches!(number, 4..=7 | 19);
         assert_eq!(
             remainders[number] > 20,
             is_remainder,

@@ -1,5 +1,6 @@
 //! Every byte in every place where a character is turned into its value, by
-//! whichever way the library goes there: 64 have a value, 192 none.
+//! whichever way the library goes there: 64 have a value, 3 are of ordinary
+//! Base64, 189 are neither.
 
 use crate::{demand, judges, writes};
 use streams::Form;
@@ -10,7 +11,8 @@ const ALPHABET: &[u8; 64] = b"ABCDEFGHIJKLMNOPQRSTUVWXYZabcdefghijklmnopqrstuvwx
 /// What a text of `A`s with one other byte is in binary.
 fn told(byte: u8, place: usize, size: usize) -> Result<Vec<u8>, (u8, usize)> {
     let value = ALPHABET.iter().position(|known| *known == byte);
-    let value = value.ok_or((5, place))? << (6 * (3 - place % 4));
+    let number = if b"+/=".contains(&byte) { 19 } else { 5 };
+    let value = value.ok_or((number, place))? << (6 * (3 - place % 4));
     let mut binary = vec![0; size];
     let unit = place / 4 * 3;
     binary[unit..unit + 3].copy_from_slice(&value.to_be_bytes()[5..]);

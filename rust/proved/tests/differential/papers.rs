@@ -2,7 +2,7 @@
 //! in every place; and what 01 itself answers.
 
 use crate::{deck, demand, demands, judges};
-use streams::damage::{GENUS_CODES, STRANGERS};
+use streams::damage::{GENUS_CODES, ORDINARY, STRANGERS};
 use streams::form::FORMS;
 use streams::generate::{any_deck, large_code, nested, LARGE_CODES};
 use streams::item::{stream, Item};
@@ -55,13 +55,28 @@ fn every_bit_flipped() {
     }
 }
 
+/// One of ordinary Base64 and one of the others, alone and each behind the
+/// other one.
 #[test]
 fn a_stranger_in_every_place() {
     for text in texts() {
         for place in 0..text.len() {
             let mut made = text.clone();
-            made[place] = STRANGERS[place % STRANGERS.len()];
-            demand(&made, Form::Text, |s| judges::alike(s, Form::Text));
+            let strangers = [
+                ORDINARY[place % ORDINARY.len()],
+                STRANGERS[3 + place % (STRANGERS.len() - 3)],
+            ];
+            for (first, second) in [(0, 1), (1, 0)] {
+                made[place] = strangers[first];
+                demand(&made, Form::Text, |s| judges::alike(s, Form::Text));
+                if let Some(next) = made.get_mut(place + 1) {
+                    let known = std::mem::replace(next, strangers[second]);
+                    demand(&made, Form::Text, |s| {
+                        judges::alike_in_short(s, Form::Text, 1)
+                    });
+                    made[place + 1] = known;
+                }
+            }
         }
     }
 }

@@ -3,6 +3,7 @@
 use crate::judges::{by_oracle, by_proved, lent, Check};
 use oracle::primitive::{write, Named};
 use proved::{Primitive, Tag};
+use streams::damage::{ORDINARY, STRANGERS};
 use streams::table::{FIXED, TYPES};
 use streams::Random;
 
@@ -114,7 +115,12 @@ fn raw_of(random: &mut Random, length: usize) -> Vec<u8> {
 fn any_tag(random: &mut Random) -> Tag {
     let mut tag = [0; 11];
     tag.fill_with(|| random.character());
-    if random.once_in(3) {
+    for strangers in [STRANGERS, ORDINARY] {
+        if random.once_in(4) {
+            tag[random.below(11)] = *random.pick(strangers);
+        }
+    }
+    if random.once_in(6) {
         tag[random.below(11)] = random.byte();
     }
     tag

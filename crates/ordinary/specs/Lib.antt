@@ -1,0 +1,11 @@
+pub mod Words
+pub mod Claims
+pub mod Marks
+pub mod Framed
+pub mod Judged
+pub mod Reports
+pub mod Calls
+pub mod Walks
+pub mod Places
+pub mod Exact
+pub mod Proved
