@@ -1,0 +1,16 @@
+use borrow.Author.Needs.{needs}
+use mathlib.Core.Path.{refl}
+use mathlib.Core.Logic.{inl, inr}
+use Rattle.expectation.proofs.least.Statement.{statement}
+use Rattle.expectation.proofs.least.Tie as tie
+use Rattle.expectation.proofs.least.Reads as reads
+use Rattle.expectation.proofs.least.Lts as lts
+
+returns : tie.Need-returns
+returns c = record { first = search needs; second = search needs; one = inl refl }
+
+returns-2 : tie.Need-returns-2
+returns-2 c = record { first = search needs; second = search needs; one = inr refl }
+
+pub least-spec : {M : Type 1} → statement M
+least-spec = tie.close (tie.spec returns returns-2)

@@ -1,0 +1,4 @@
+pub mod Expectation
+pub mod Words
+pub mod Bytes
+pub mod Counts

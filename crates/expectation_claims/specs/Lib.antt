@@ -1,0 +1,6 @@
+pub mod Words
+pub mod Claims
+pub mod Sections
+pub mod Malformed
+pub mod Own
+pub mod Proved
