@@ -7,7 +7,7 @@ use mathlib.Core.Logic.{_⊎_, inl, inr, ⊎-elim}
 use native.Mathlib.Omega.{arith}
 use native.Mathlib.Nat.{mul-le-mul-right}
 use lib.ListN.{length, getD, take, drop, length-drop}
-use lib.Dec.{ltb, eqb}
+use lib.Dec.{ltb}
 use lib.Seq.{drop-drop, getD-take, getD-drop}
 use borrow.Author.Tests.{lt-ltb, le-ltb, eq-eqb, ne-eqb}
 use Rattle.base.specs.Each.{take4}
@@ -20,7 +20,7 @@ use Rattle.expectation.specs.declared.Laid.{Laid}
 use Rattle.expectation.specs.declared.Laid.the-variants as L
 use Rattle.expectation.specs.declared.Said.{Said}
 use Rattle.expectation.specs.declared.Said.the-variants as S
-use Rattle.expectation.specs.Expectation.{Section, short, rows, countAt, sectionOf, Verdicts, malformed, verdicts, ending, column}
+use Rattle.expectation.specs.Expectation.{short, rows, countAt, sectionOf, Verdicts, malformed, verdicts, ending, column}
 use Rattle.expectation.specs.Expectation.{expectedBy, expected, behindItems, reportedBy, reported}
 use Rattle.expectation.specs.Expectation.{passed, failed, agree, counted, refused, comparedBy, compared}
 use Rattle.expectation.specs.Words.{count, passes}

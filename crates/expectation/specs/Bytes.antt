@@ -11,7 +11,7 @@ use Rattle.expectation.specs.declared.Laid.the-variants as L
 use Rattle.expectation.specs.declared.Said.{Said}
 use Rattle.expectation.specs.declared.Said.the-variants as S
 use Rattle.expectation.specs.Words.{count}
-use Rattle.expectation.specs.Expectation.{Verdicts, malformed, verdicts, Section, short, rows, sectionOf, ending, column}
+use Rattle.expectation.specs.Expectation.{Verdicts, malformed, verdicts, short, rows, sectionOf, ending, column}
 
 -- the verdict expected at an index, against the one reported
 abbrev pub alike : List ℕ → List ℕ → ℕ → Bool

@@ -2,14 +2,13 @@
 -- below the words in quotes. What the words mean is in Words and in expectation/Words. Proved in Proved. Assumes nothing.
 use Prim.Native.Nat.{ℕ, suc, _+_, _*_, _%_, _≤_, _<_}
 use mathlib.Core.Path.{_≡_}
-use mathlib.Core.List.{List, [], _∷_, _++_}
-use mathlib.Core.Bool.{Bool, true, false}
+use mathlib.Core.List.{List, [], _++_}
+use mathlib.Core.Bool.{true}
 use mathlib.Core.Logic.{_⊎_, _↔_}
-use lib.ListN.{length, getD, take}
+use lib.ListN.{length, getD}
 use Rattle.format.specs.Units.{Domain, text, binary}
 use Rattle.format.specs.Report.{rowsIn, be4, report}
-use Rattle.expectation.specs.declared.Compared.{Compared}
-use Rattle.expectation.specs.Expectation.{malformed, verdicts, expected, reported, passed, failed, notReached, beyond, agree}
+use Rattle.expectation.specs.Expectation.{verdicts, expected, reported, passed, failed, notReached, beyond, agree}
 use Rattle.expectation.specs.Expectation.{counted, refused, compared}
 use Rattle.expectation.specs.Words.{count, passes, fails, misses}
 use Rattle.expectation_claims.specs.Words.{BadFile, BadReport, fileOf, verdictsIn, leftIn, ownFile, SameCounts, OneOff, OneFailed}

@@ -1,19 +1,15 @@
 -- 20 by the bytes alone: a section from a place on is there or cut, and so with the file and the report. Assumes nothing.
-use Prim.Native.Nat.{ℕ, zero, suc, _+_, _-_, _*_, _%_, _≤_, _<_}
-use mathlib.Core.Path.{_≡_, refl, sym, ap, _∙_}
+use Prim.Native.Nat.{ℕ, suc, _+_, _-_, _*_, _%_, _≤_, _<_}
+use mathlib.Core.Path.{_≡_, refl}
 use mathlib.Core.List.{List, [], _∷_, _++_}
-use mathlib.Core.Bool.{Bool, true, false}
 use mathlib.Core.Logic.{_⊎_, inl, inr, ⊎-elim}
 use native.Mathlib.Omega.{arith}
-use lib.Dec.{ltb}
 use lib.ListN.{length, take, drop, length-drop, length-append}
 use lib.Seq.{drop-drop}
-use borrow.Author.Tests.{ltb-true, ltb-false, lt-ltb, le-ltb}
-use Rattle.base.specs.Pick.{pick}
+use borrow.Author.Tests.{lt-ltb, le-ltb}
 use Rattle.base.specs.Cases.{lt-or-ge}
 use Rattle.format.specs.Report.{be4}
-use Rattle.expectation.specs.declared.Compared.{Compared}
-use Rattle.expectation.specs.Expectation.{Section, short, rows, countAt, sectionOf, Verdicts, malformed, verdicts, ending, column}
+use Rattle.expectation.specs.Expectation.{short, rows, countAt, sectionOf, Verdicts, malformed, verdicts, ending}
 use Rattle.expectation.specs.Expectation.{expectedBy, expected, behindItems, reportedBy, reported, refused, comparedBy, compared}
 use Rattle.expectation_claims.specs.Words.{endOf, Cut, BadEnd, BadFile, BadReport}
 use Rattle.expectation_claims.specs.Sections.{four, count-of}

@@ -2,14 +2,10 @@
 use Prim.Native.Nat.{ℕ, zero, suc, _+_, _-_, _*_, _≤_, _<_}
 use mathlib.Core.Path.{_≡_, refl, sym, ap, _∙_, subst}
 use mathlib.Core.List.{List, [], _∷_, _++_, map, append-nil}
-use mathlib.Core.Bool.{Bool, true, false}
-use mathlib.Core.Logic.{⊎-elim}
+use mathlib.Core.Bool.{Bool, true}
 use native.Mathlib.Omega.{arith}
-use lib.Dec.{eqb}
 use lib.ListN.{length, getD, length-drop}
 use borrow.Author.Tests.{le-ltb, eq-eqb, ne-eqb}
-use Rattle.base.specs.Pick.{pick}
-use Rattle.base.specs.Cases.{lt-or-ge}
 use Rattle.format.specs.Units.{Domain}
 use Rattle.format.specs.Report.{ItemRow, RefusalRow, RemainderRow, rows, rowsIn, refusalsIn, remainderIn, verdictByte}
 use Rattle.format.specs.Report.{be4, rowBytes, refusalBytes, remainderBytes, concat, section, report}
@@ -17,7 +13,6 @@ use Rattle.laws.specs.Domains.{Reader}
 use Rattle.laws.specs.Frames.{frames}
 use Rattle.laws.specs.Items.{rowsAt, by-items, rows-nil, rows-refused, rows-item}
 use Rattle.claims.specs.Claims.{Demand3}
-use Rattle.expectation.specs.declared.Compared.{Compared}
 use Rattle.expectation.specs.Expectation as E
 use Rattle.expectation.specs.Expectation.{sectionOf, verdicts, ending, expectedBy, expected, behindItems, reportedBy, reported}
 use Rattle.expectation.specs.Expectation.{passed, failed, agree, counted, comparedBy, compared}

@@ -1,15 +1,14 @@
 -- The claims on a comparison hold. Assumes nothing.
-use Prim.Native.Nat.{ℕ, zero, suc, _+_, _≤_, _<_}
-use mathlib.Core.Path.{_≡_, refl, sym, ap, _∙_}
+use Prim.Native.Nat.{ℕ, suc, _+_, _≤_, _<_}
+use mathlib.Core.Path.{_≡_, refl, ap, _∙_}
 use mathlib.Core.List.{List, [], _∷_, _++_}
 use mathlib.Core.Bool.{Bool, true, false}
-use mathlib.Core.Logic.{_⊎_, inl, inr, _↔_}
+use mathlib.Core.Logic.{_↔_}
 use native.Mathlib.Omega.{arith}
 use lib.Dec.{ltb, eqb}
 use lib.ListN.{length, getD}
 use borrow.Author.Tests.{ltb-true, eqb-true, eq-eqb}
 use Rattle.base.specs.Pick.{pick}
-use Rattle.base.specs.Cases.{whether}
 use Rattle.format.specs.Units.{Domain, text, binary}
 use Rattle.laws.specs.Domains.{Reader, text-reader, binary-reader}
 use Rattle.claims.specs.Claims.{Demand3}
@@ -20,7 +19,7 @@ use Rattle.expectation.specs.Counts.{passes-are, fails-are, misses-are, sum, it
 use Rattle.expectation_claims.specs.Words.{fileOf, SameCounts}
 use Rattle.expectation_claims.specs.Malformed.{twenty, only-twenty, wider}
 use Rattle.expectation_claims.specs.Own.{sees-by, reads, file-one-off, compares-by, own-by, one-off-by}
-use Rattle.expectation_claims.specs.Claims.{CountClaims, RemainderClaims, MalformedClaims, OwnClaims, FileClaims, ExpectationClaims}
+use Rattle.expectation_claims.specs.Claims.{OwnClaims, ExpectationClaims}
 
 -- ---- verdicts
 

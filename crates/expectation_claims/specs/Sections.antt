@@ -1,16 +1,14 @@
 -- Sections read back from their bytes. Assumes nothing.
-use Prim.Native.Nat.{ℕ, zero, suc, _+_, _-_, _*_, _/_, _%_, _≤_, _<_}
-use mathlib.Core.Path.{_≡_, refl, sym, ap, _∙_, subst}
+use Prim.Native.Nat.{ℕ, suc, _+_, _*_, _/_, _%_, _<_}
+use mathlib.Core.Path.{_≡_, refl, ap, _∙_}
 use mathlib.Core.List.{List, [], _∷_, _++_, map, append-assoc}
 use native.Mathlib.Omega.{arith}
-use lib.Dec.{ltb}
-use lib.ListN.{length, getD, take, drop, length-append, List·getD-append}
+use lib.ListN.{length, getD, drop, length-append, List·getD-append}
 use lib.Seq.{take-at, drop-at}
 use borrow.Author.Tests.{le-ltb}
-use Rattle.base.specs.Pick.{pick}
 use Rattle.base.specs.Digits.{numberOf}
-use Rattle.format.specs.Report.{be4, concat, section}
-use Rattle.expectation.specs.Expectation.{Section, rows, countAt, sectionOf, column}
+use Rattle.format.specs.Report.{be4, concat}
+use Rattle.expectation.specs.Expectation.{rows, countAt, sectionOf, column}
 
 -- four digits
 count-back : (n : ℕ) → n < 4294967296 → numberOf 256 (be4 n) ≡ n

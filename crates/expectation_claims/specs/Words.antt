@@ -6,7 +6,7 @@ use mathlib.Core.List.{List, _++_, map}
 use mathlib.Core.Logic.{_⊎_}
 use lib.ListN.{length, getD, drop}
 use Rattle.format.specs.Units.{Domain}
-use Rattle.format.specs.Report.{ItemRow, RemainderRow, rowsIn, remainderIn, verdictByte, be4}
+use Rattle.format.specs.Report.{rowsIn, remainderIn, verdictByte, be4}
 use Rattle.expectation.specs.declared.Compared.{Compared}
 use Rattle.expectation.specs.Expectation.{countAt}
 

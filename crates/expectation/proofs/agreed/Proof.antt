@@ -1,9 +1,8 @@
+-- `agreed` meets its contract. Assumes nothing.
 use Rattle.expectation.proofs.Laws.{not-left}
 use Rattle.expectation.specs.Expectation.{agree}
 use Rattle.expectation.proofs.agreed.Statement.{statement}
 use Rattle.expectation.proofs.agreed.Tie as tie
-use Rattle.expectation.proofs.agreed.Reads as reads
-use Rattle.expectation.proofs.agreed.Lts as lts
 
 returns : tie.Need-returns
 unfolding agree

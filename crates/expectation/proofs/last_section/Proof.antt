@@ -1,10 +1,8 @@
+-- `last_section` meets its contract. Assumes nothing.
 use Rattle.expectation.proofs.Laws.{end-short, bytes-left, too-many, none-left, one-left, last-byte, last-within}
 use borrow.Author.Needs.{needs}
 use Rattle.expectation.proofs.last_section.Statement.{statement}
 use Rattle.expectation.proofs.last_section.Tie as tie
-use Rattle.expectation.proofs.last_section.Reads as reads
-use Rattle.expectation.proofs.last_section.Lts as lts
-use Rattle.expectation.proofs.section_at.Reads as section-at-reads
 
 section-at-requires : tie.Need-section-at-requires
 section-at-requires c κs = search needs

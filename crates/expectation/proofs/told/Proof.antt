@@ -1,11 +1,8 @@
+-- `told` meets its contract. Assumes nothing.
 use Rattle.expectation.proofs.Laws.{items-short, items-within, refusals-short, refusals-within, report-says}
 use borrow.Author.Needs.{needs}
 use Rattle.expectation.proofs.told.Statement.{statement}
 use Rattle.expectation.proofs.told.Tie as tie
-use Rattle.expectation.proofs.told.Reads as reads
-use Rattle.expectation.proofs.told.Lts as lts
-use Rattle.expectation.proofs.last_section.Reads as last-section-reads
-use Rattle.expectation.proofs.section_at.Reads as section-at-reads
 
 section-at-requires : tie.Need-section-at-requires
 section-at-requires c κs = search needs
