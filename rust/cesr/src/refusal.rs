@@ -2,7 +2,7 @@
 
 use std::fmt;
 
-/// Why something was refused, as a number from 1 to 14.
+/// Why something was refused: a number from 1 to 14, or 20.
 ///
 /// ```
 /// use cesr::Number;
@@ -44,18 +44,21 @@ impl Number {
     pub const UNFIT_STATE: Number = Number(13);
     /// Primitive asked for, group or genus/version found.
     pub const NOT_A_PRIMITIVE: Number = Number(14);
+    /// Expectation file or report: missing count, short section, remainder
+    /// count above 1 or bytes left over.
+    pub const MALFORMED: Number = Number(20);
 
-    /// The number with this value; none outside 1 to 14.
+    /// The number with this value; none outside 1 to 14 and 20.
     pub const fn new(value: u8) -> Option<Number> {
         match value {
-            1..=14 => Some(Number(value)),
+            1..=14 | 20 => Some(Number(value)),
             _ => None,
         }
     }
 
-    /// All numbers, from 1 to 14.
+    /// All numbers, from 1 to 14 and 20.
     pub fn all() -> impl Iterator<Item = Number> {
-        (1..=14).map(Number)
+        (1..=14).chain([20]).map(Number)
     }
 
     /// As the library answered it.
@@ -85,6 +88,10 @@ impl Number {
             12 => "writer: raw length or tag length unfit for the code",
             13 => "walk state unfit for the stream",
             14 => "primitive asked for, group or genus/version found",
+            20 => {
+                "expectation file or report: missing count, short section, \
+                 remainder count above 1 or bytes left over"
+            }
             _ => "a number that the paper on scope does not have",
         }
     }
@@ -99,7 +106,7 @@ impl fmt::Display for Number {
 /// A refusal: its number, and the place in characters or bytes.
 ///
 /// The place is the character for 5, else the item's start; 0 for 1, 2, 3, 12,
-/// 13 and for a writer's 6, and for a writer's 5 the index among the tag
+/// 13, 20 and for a writer's 6, and for a writer's 5 the index among the tag
 /// characters.
 #[derive(Clone, Copy, Debug, PartialEq, Eq, Hash)]
 pub struct Refusal {

@@ -11,6 +11,7 @@
 #![forbid(unsafe_code)]
 
 pub mod alphabet;
+pub mod compare;
 pub mod convert;
 pub mod form;
 pub mod frame;

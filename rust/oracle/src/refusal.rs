@@ -41,6 +41,9 @@ pub const UNFIT_LENGTH: u8 = 12;
 pub const UNFIT_STATE: u8 = 13;
 /// Primitive asked for, group or genus/version found.
 pub const NOT_A_PRIMITIVE: u8 = 14;
+/// Expectation file or report: a missing count, a section shorter than its
+/// count says, a remainder count above 1, or bytes left over (02, n).
+pub const MALFORMED: u8 = 20;
 
 #[cfg(test)]
 mod tests {
