@@ -35,7 +35,8 @@ enum cesr_number {
     CESR_UNFIT_LENGTH = 12,       /* writer: raw length or tag length unfit for the code */
     CESR_UNFIT_STATE = 13,        /* walk state unfit for the stream */
     CESR_NOT_A_PRIMITIVE = 14,    /* primitive asked for, group or genus/version found */
-    CESR_MALFORMED = 20,          /* expectation file or report: missing count, short section, remainder count above 1 or bytes left over */
+    CESR_MALFORMED = 20,          /* expectation file or report with a missing count, a section shorter than its count says, a remainder
+                                   * count above 1, or bytes left over */
     CESR_END = 255                /* the walk alone: the end of the stream */
 };
 

@@ -44,8 +44,8 @@ impl Number {
     pub const UNFIT_STATE: Number = Number(13);
     /// Primitive asked for, group or genus/version found.
     pub const NOT_A_PRIMITIVE: Number = Number(14);
-    /// Expectation file or report: missing count, short section, remainder
-    /// count above 1 or bytes left over.
+    /// Expectation file or report with a missing count, a section shorter than
+    /// its count says, a remainder count above 1, or bytes left over.
     pub const MALFORMED: Number = Number(20);
 
     /// The number with this value; none outside 1 to 14 and 20.
@@ -89,8 +89,8 @@ impl Number {
             13 => "walk state unfit for the stream",
             14 => "primitive asked for, group or genus/version found",
             20 => {
-                "expectation file or report: missing count, short section, \
-                 remainder count above 1 or bytes left over"
+                "expectation file or report with a missing count, a section shorter than \
+                 its count says, a remainder count above 1, or bytes left over"
             }
             _ => "a number that the paper on scope does not have",
         }
