@@ -20,7 +20,7 @@ const NO_ITEM: [u8; 12] = [0; 12];
 enum Found {
     Compared(Comparison),
     /// Nothing was expected, and nothing is there.
-    Nothing,
+    Nothing(Comparison),
     Refused(Refusal),
     /// In words, why nothing was compared.
     Unread(String),
@@ -55,7 +55,7 @@ fn compared(task: &Compare, expected: &[u8], report: &[u8]) -> Found {
             complain(&format!(
                 "{name}: nothing was expected, and no item is there"
             ));
-            Found::Nothing
+            Found::Nothing(counts)
         }
         Ok(counts) => Found::Compared(counts),
         Err(refusal) => {
@@ -94,7 +94,7 @@ fn standing(found: &Found) -> Standing {
     match found {
         Found::Compared(counts) if counts.is_as_expected() => Standing::Passed,
         Found::Compared(_) => Standing::Failed,
-        Found::Nothing => Standing::Empty,
+        Found::Nothing(_) => Standing::Empty,
         Found::Refused(_) | Found::Unread(_) => Standing::Error,
     }
 }
@@ -140,8 +140,7 @@ fn object(out: &mut dyn Write, task: &Compare, found: &Found) -> io::Result<()> 
     let mut line = format!("{{\"expected\":{expected},\"report\":{report}");
     line.push_str(&format!(",\"outcome\":{}", quoted(word(found))));
     match found {
-        Found::Compared(counts) => line.push_str(&numbers(counts)),
-        Found::Nothing => {}
+        Found::Compared(counts) | Found::Nothing(counts) => line.push_str(&numbers(counts)),
         Found::Refused(Refusal { number, place }) => {
             let why = why(*number);
             line.push_str(&format!(",\"refusal\":{{{why},\"place\":{place}}}"));

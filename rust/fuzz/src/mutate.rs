@@ -106,8 +106,9 @@ fn another_state(random: &mut Random, form: Form, stream: &[u8]) -> Vec<u8> {
 fn another_compare(random: &mut Random, input: &mut [u8], size: usize) -> Option<usize> {
     let there = verdicts(random, 20);
     let wanted = varied(random, &there);
-    let mut expected = file(&wanted, &[4][..random.below(2)]);
-    let mut told = report(random, &there, &[4][..random.below(2)]);
+    let (left, over) = (random.below(2), random.below(2));
+    let mut expected = file(&wanted, &[4][..left]);
+    let mut told = report(random, &there, &[4][..over]);
     match random.below(4) {
         0 => expected = spoilt(random, &FILE, &expected),
         1 => told = spoilt(random, &REPORT, &told),
