@@ -1,27 +1,14 @@
--- What the functions below the call answer, where a section lies and which bytes are compared. Assumes nothing.
+-- What is answered of a file's bytes: where a section lies, and what the file says. Assumes nothing.
 use Prim.Native.Nat.{ℕ, suc, _+_, _*_, _≤_, _<_}
 use mathlib.Core.Path.{_≡_}
 use mathlib.Core.List.{List, [], _∷_}
 use mathlib.Core.Bool.{Bool, true, false}
-use mathlib.Core.Logic.{_⊎_}
-use lib.Dec.{eqb}
-use lib.ListN.{length, getD, take, drop}
+use lib.ListN.{length, take, drop}
 use Rattle.expectation.specs.declared.Laid.{Laid}
 use Rattle.expectation.specs.declared.Laid.the-variants as L
 use Rattle.expectation.specs.declared.Said.{Said}
 use Rattle.expectation.specs.declared.Said.the-variants as S
-use Rattle.expectation.specs.Words.{count}
 use Rattle.expectation.specs.Expectation.{Verdicts, malformed, verdicts, short, rows, sectionOf, ending, column}
-
--- the verdict expected at an index, against the one reported
-abbrev pub alike : List ℕ → List ℕ → ℕ → Bool
-alike file rep i = eqb (getD file (4 + i) 0) (getD rep (12 + 9 * i) 0)
-
--- of the first i of n verdicts, k are as expected
-pub record Passing (file rep : List ℕ) (n i k : ℕ) : Type 0 where
-  pub within : i ≤ n
-  pub few : k ≤ i
-  pub counts : k ≡ count (alike file rep) i
 
 -- the section from a position on
 abbrev pub At : List ℕ → ℕ → ℕ → Laid → Type 0
@@ -44,9 +31,3 @@ EndAt s from width items (S.Verdicts n left number) = (n ≡ items)
 abbrev pub Says : Verdicts → List ℕ → ℕ → ℕ → Said → Type 0
 Says told s width j S.Malformed = told ≡ malformed
 Says told s width j (S.Verdicts n left number) = (4 + width * n ≤ length s) × (told ≡ verdicts (column width j n (drop 4 s)) (numberIf left number))
-
--- the lesser of two
-pub record Least (x y r : ℕ) : Type 0 where
-  pub first : r ≤ x
-  pub second : r ≤ y
-  pub one : (r ≡ x) ⊎ (r ≡ y)

@@ -1,12 +1,11 @@
-// An expectation file compared with a report. Both are read as bytes; nothing here knows of a stream.
+// What an expectation file says, and what a report does. Both are read as bytes; nothing here knows of a stream.
 ghost use mathlib.Core.Path.{_≡_};
 ghost use Prim.Native.Nat.{_+_, _*_, _<_, _≤_};
 ghost use mathlib.Core.List.{[], _∷_};
 ghost use lib.ListN.{length, drop};
 ghost use Rattle.base.specs.Digits.{numberOf};
-ghost use Rattle.expectation.specs.Expectation.{countAt, column, expected, reported, agree, counted, refused, compared};
-ghost use Rattle.expectation.specs.Words.{count};
-ghost use Rattle.expectation.specs.Bytes.{alike, numberIf, At, EndAt, Says, Least};
+ghost use Rattle.expectation.specs.Expectation.{countAt, expected, reported};
+ghost use Rattle.expectation.specs.Bytes.{At, EndAt, Says};
 
 // What a comparison answers: 0, or 20 and its place; of the verdicts expected those that passed, failed or were not reached; the items
 // beyond them; and whether the remainders agree.
@@ -71,7 +70,7 @@ fn section_at(s: &[u8], from: usize, width: usize) -> Laid
 // ---- what a file says
 
 // How many verdicts, and whether there is a remainder and its number.
-enum Said {
+pub enum Said {
     Malformed,
     Verdicts {
         items: usize,
@@ -112,7 +111,7 @@ fn last_section(s: &[u8], from: usize, width: usize, items: usize) -> Said
 }
 
 // An expectation file: verdicts of one byte, then a remainder's number.
-fn expectation(file: &[u8]) -> Said
+pub fn of_file(file: &[u8]) -> Said
     ensures { λ r. ⌜ Says (expected (now (file .entry))) (now (file .entry)) 1 0 r ⌝ }
 {
     let laid = section_at(file, 0, 1);
@@ -123,7 +122,7 @@ fn expectation(file: &[u8]) -> Said
 }
 
 // A report: items of nine bytes with the verdict last, refusals of nine, a remainder of five with the number last.
-fn told(report: &[u8]) -> Said
+pub fn of_report(report: &[u8]) -> Said
     ensures { λ r. ⌜ Says (reported (now (report .entry))) (now (report .entry)) 9 8 r ⌝ }
 {
     let laid = section_at(report, 0, 9);
@@ -139,102 +138,5 @@ fn told(report: &[u8]) -> Said
                 } => last_section(report, behind, 5, count),
             }
         }
-    }
-}
-
-// ---- compared
-
-// How many of the first n verdicts are as expected.
-fn passes(file: &[u8], report: &[u8], n: usize) -> usize
-    requires { ⌜ (4 + n ≤ length (now file)) × (4 + 9 * n ≤ length (now report)) ⌝ }
-    ensures { λ r. ⌜ (r ≡ count (alike (now (file .entry)) (now (report .entry))) n) × (r ≤ n) ⌝ }
-{
-    let mut i: usize = 0;
-    let mut k: usize = 0;
-    while i < n {
-        if file[4 + i] == report[12 + 9 * i] {
-            k = k + 1;
-        }
-        i = i + 1;
-    }
-    k
-}
-
-fn agreed(left: bool, number: u8, over: bool, found: u8) -> bool
-    ensures { λ r. ⌜ r ≡ agree (numberIf left number) (numberIf over found) ⌝ }
-{
-    if left {
-        if over {
-            return number == found;
-        }
-        return false;
-    }
-    !over
-}
-
-fn least(x: usize, y: usize) -> usize
-    ensures { λ r. ⌜ Least x y r ⌝ }
-{
-    if x < y {
-        return x;
-    }
-    y
-}
-
-// Verdicts compared: so many expected and so many reported, and whether the remainders agree.
-fn counts(file: &[u8], report: &[u8], items: usize, there: usize, agree: bool) -> Compared
-    requires { ⌜ (4 + 1 * items ≤ length (now file)) × (4 + 9 * there ≤ length (now report)) ⌝ }
-    ensures { λ r. ⌜ r ≡ counted (column 1 0 items (drop 4 (now (file .entry)))) (column 9 8 there (drop 4 (now (report .entry)))) agree ⌝ }
-{
-    let both = least(items, there);
-    let passed = passes(file, report, both);
-    Compared {
-        number: 0,
-        place: 0,
-        passed,
-        failed: both - passed,
-        unreached: items - both,
-        beyond: there - both,
-        agree,
-    }
-}
-
-fn malformed() -> Compared
-    ensures { λ r. ⌜ r ≡ refused ⌝ }
-{
-    Compared {
-        number: 20,
-        place: 0,
-        passed: 0,
-        failed: 0,
-        unreached: 0,
-        beyond: 0,
-        agree: false,
-    }
-}
-
-// An expectation file compared with a report.
-pub fn compare(file: &[u8], report: &[u8]) -> Compared
-    ensures { λ r. ⌜ r ≡ compared (now (file .entry)) (now (report .entry)) ⌝ }
-{
-    let wanted = expectation(file);
-    let found = told(report);
-    match wanted {
-        Said::Malformed => malformed(),
-        Said::Verdicts {
-            items,
-            left,
-            number,
-        } => match found {
-            Said::Malformed => malformed(),
-            Said::Verdicts {
-                items: there,
-                left: over,
-                number: last,
-            } => {
-                let agree = agreed(left, number, over, last);
-                counts(file, report, items, there, agree)
-            }
-        },
     }
 }

@@ -326,7 +326,7 @@ pub extern "C" fn cesr_compare(expected: &[u8], report: &[u8], answer: &mut [usi
     ensures { λ r. ⌜ r ≡ compared (now (expected .entry)) (now (report .entry)) .number ⌝ }
     ensures { λ r. ⌜ now (answer .exit) ≡ countsOf (compared (now (expected .entry)) (now (report .entry))) ⌝ }
 {
-    let found = expectation::compare(expected, report);
+    let found = comparison::compare(expected, report);
     let counts = exports_values::counts_of(found);
     *answer = counts;
     found.number

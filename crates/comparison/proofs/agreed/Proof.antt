@@ -1,8 +1,8 @@
 -- `agreed` meets its contract. Assumes nothing.
-use Rattle.expectation.proofs.Laws.{not-left}
+use Rattle.comparison.proofs.Laws.{not-left}
 use Rattle.expectation.specs.Expectation.{agree}
-use Rattle.expectation.proofs.agreed.Statement.{statement}
-use Rattle.expectation.proofs.agreed.Tie as tie
+use Rattle.comparison.proofs.agreed.Statement.{statement}
+use Rattle.comparison.proofs.agreed.Tie as tie
 
 returns : tie.Need-returns
 unfolding agree

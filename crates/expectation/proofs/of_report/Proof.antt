@@ -1,8 +1,8 @@
--- `told` meets its contract. Assumes nothing.
+-- `of_report` meets its contract. Assumes nothing.
 use Rattle.expectation.proofs.Laws.{items-short, items-within, refusals-short, refusals-within, report-says}
 use borrow.Author.Needs.{needs}
-use Rattle.expectation.proofs.told.Statement.{statement}
-use Rattle.expectation.proofs.told.Tie as tie
+use Rattle.expectation.proofs.of_report.Statement.{statement}
+use Rattle.expectation.proofs.of_report.Tie as tie
 
 section-at-requires : tie.Need-section-at-requires
 section-at-requires c κs = search needs
@@ -34,8 +34,8 @@ returns-2 c = search refusals-short
 returns-3 : tie.Need-returns-3
 returns-3 c = search report-says
 
-pub told-spec : {M : Type 1} → statement M
-told-spec =
+pub of-report-spec : {M : Type 1} → statement M
+of-report-spec =
     tie.close
     (tie.spec
     section-at-requires

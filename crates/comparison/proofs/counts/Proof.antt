@@ -1,8 +1,8 @@
 -- `counts` meets its contract. Assumes nothing.
-use Rattle.expectation.proofs.Laws.{counts-are}
+use Rattle.comparison.proofs.Laws.{counts-are}
 use borrow.Author.Needs.{needs}
-use Rattle.expectation.proofs.counts.Statement.{statement}
-use Rattle.expectation.proofs.counts.Tie as tie
+use Rattle.comparison.proofs.counts.Statement.{statement}
+use Rattle.comparison.proofs.counts.Tie as tie
 
 least-requires : tie.Need-least-requires
 least-requires c κs = search needs

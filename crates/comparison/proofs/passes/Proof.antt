@@ -1,11 +1,11 @@
 -- `passes` meets its contract. Assumes nothing.
 use Prim.Native.Nat.{_-_}
 use mathlib.Core.Logic.{⊎-elim}
-use Rattle.expectation.specs.Bytes.{Passing}
-use Rattle.expectation.proofs.Laws.{none-passing, hit-passing, miss-passing, all-passing}
+use Rattle.comparison.specs.Passing.{Passing}
+use Rattle.comparison.proofs.Laws.{none-passing, hit-passing, miss-passing, all-passing}
 use borrow.Author.Needs.{needs}
-use Rattle.expectation.proofs.passes.Statement.{statement}
-use Rattle.expectation.proofs.passes.Tie as tie
+use Rattle.comparison.proofs.passes.Statement.{statement}
+use Rattle.comparison.proofs.passes.Tie as tie
 
 abbrev Inv-loop : tie.InvT-loop
 Inv-loop file report n i₀ k₀ i k = Passing file report n i k

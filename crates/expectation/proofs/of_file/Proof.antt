@@ -1,8 +1,8 @@
--- `expectation` meets its contract. Assumes nothing.
+-- `of_file` meets its contract. Assumes nothing.
 use Rattle.expectation.proofs.Laws.{file-short, file-within, file-says}
 use borrow.Author.Needs.{needs}
-use Rattle.expectation.proofs.expectation.Statement.{statement}
-use Rattle.expectation.proofs.expectation.Tie as tie
+use Rattle.expectation.proofs.of_file.Statement.{statement}
+use Rattle.expectation.proofs.of_file.Tie as tie
 
 section-at-requires : tie.Need-section-at-requires
 section-at-requires c κs = search needs
@@ -22,8 +22,8 @@ returns c = search file-short
 returns-2 : tie.Need-returns-2
 returns-2 c = search file-says
 
-pub expectation-spec : {M : Type 1} → statement M
-expectation-spec =
+pub of-file-spec : {M : Type 1} → statement M
+of-file-spec =
     tie.close
     (tie.spec
     section-at-requires

@@ -2,8 +2,8 @@
 use borrow.Author.Needs.{needs}
 use mathlib.Core.Path.{refl}
 use mathlib.Core.Logic.{inl, inr}
-use Rattle.expectation.proofs.least.Statement.{statement}
-use Rattle.expectation.proofs.least.Tie as tie
+use Rattle.comparison.proofs.least.Statement.{statement}
+use Rattle.comparison.proofs.least.Tie as tie
 
 returns : tie.Need-returns
 returns c = record { first = search needs; second = search needs; one = inl refl }

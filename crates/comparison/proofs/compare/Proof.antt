@@ -1,14 +1,14 @@
 -- `compare` meets its contract. Assumes nothing.
-use Rattle.expectation.proofs.Laws.{no-file, no-report, long-enough, both-say}
+use Rattle.comparison.proofs.Laws.{no-file, no-report, long-enough, both-say}
 use borrow.Author.Needs.{needs}
-use Rattle.expectation.proofs.compare.Statement.{statement}
-use Rattle.expectation.proofs.compare.Tie as tie
+use Rattle.comparison.proofs.compare.Statement.{statement}
+use Rattle.comparison.proofs.compare.Tie as tie
 
-expectation-requires : tie.Need-expectation-requires
-expectation-requires c κs = search needs
+of-file-requires : tie.Need-of-file-requires
+of-file-requires c κs = search needs
 
-told-requires : tie.Need-told-requires
-told-requires c κs = search needs
+of-report-requires : tie.Need-of-report-requires
+of-report-requires c κs = search needs
 
 enum-told : tie.Need-enum-told
 enum-told c = search needs
@@ -47,8 +47,8 @@ pub compare-spec : {M : Type 1} → statement M
 compare-spec =
     tie.close
     (tie.spec
-    expectation-requires
-    told-requires
+    of-file-requires
+    of-report-requires
     enum-told
     malformed-requires
     enum-known-wanted
