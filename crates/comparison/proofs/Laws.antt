@@ -10,16 +10,16 @@ use lib.Seq.{getD-drop}
 use borrow.Author.Tests.{lt-ltb, le-ltb, eq-eqb, ne-eqb}
 use Rattle.base.specs.Pick.{pick}
 use Rattle.base.specs.Cases.{lt-or-ge}
-use Rattle.expectation.specs.declared.Compared.{Compared}
+use Rattle.comparison.specs.declared.Compared.{Compared}
 use Rattle.expectation.specs.declared.Said.{Said}
 use Rattle.expectation.specs.declared.Said.the-variants as S
 use Rattle.expectation.specs.Expectation.{Verdicts, malformed, verdicts, column}
 use Rattle.expectation.specs.Expectation.{expected, reported}
-use Rattle.expectation.specs.Expectation.{passed, failed, agree, counted, refused, comparedBy, compared}
-use Rattle.expectation.specs.Words.{count, passes}
+use Rattle.comparison.specs.Comparing.{passed, failed, agree, counted, refused, comparedBy, compared}
+use Rattle.comparison.specs.Words.{count, passes}
 use Rattle.expectation.specs.Bytes.{numberIf, Says}
 use Rattle.comparison.specs.Passing.{alike, Passing, Least}
-use Rattle.expectation.specs.Counts.{passes-are, sum, column-length}
+use Rattle.comparison.specs.Counts.{passes-are, sum, column-length}
 
 -- ---- columns
 

@@ -6,7 +6,7 @@ use mathlib.Core.Bool.{Bool}
 use mathlib.Core.Logic.{_⊎_}
 use lib.Dec.{eqb}
 use lib.ListN.{getD}
-use Rattle.expectation.specs.Words.{count}
+use Rattle.comparison.specs.Words.{count}
 
 -- the verdict expected at an index, against the one reported
 abbrev pub alike : List ℕ → List ℕ → ℕ → Bool

@@ -1,13 +1,25 @@
 // An expectation file compared with a report: verdicts counted, remainders on their own, and the call.
-use expectation::Compared;
 use expectation::Said;
 ghost use mathlib.Core.Path.{_≡_};
 ghost use Prim.Native.Nat.{_+_, _*_, _≤_};
 ghost use lib.ListN.{length, drop};
-ghost use Rattle.expectation.specs.Expectation.{column, agree, counted, refused, compared};
-ghost use Rattle.expectation.specs.Words.{count};
+ghost use Rattle.expectation.specs.Expectation.{column};
+ghost use Rattle.comparison.specs.Comparing.{agree, counted, refused, compared};
+ghost use Rattle.comparison.specs.Words.{count};
 ghost use Rattle.expectation.specs.Bytes.{numberIf};
 ghost use Rattle.comparison.specs.Passing.{alike, Least};
+
+// What a comparison answers: 0, or 20 and its place; of the verdicts expected those that passed, failed or were not reached; the items
+// beyond them; and whether the remainders agree.
+pub struct Compared {
+    pub number: u8,
+    pub place: usize,
+    pub passed: usize,
+    pub failed: usize,
+    pub unreached: usize,
+    pub beyond: usize,
+    pub agree: bool,
+}
 
 // How many of the first n verdicts are as expected.
 fn passes(file: &[u8], report: &[u8], n: usize) -> usize

@@ -1,4 +1,2 @@
 pub mod Expectation
-pub mod Words
 pub mod Bytes
-pub mod Counts

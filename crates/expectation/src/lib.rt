@@ -7,18 +7,6 @@ ghost use Rattle.base.specs.Digits.{numberOf};
 ghost use Rattle.expectation.specs.Expectation.{countAt, expected, reported};
 ghost use Rattle.expectation.specs.Bytes.{At, EndAt, Says};
 
-// What a comparison answers: 0, or 20 and its place; of the verdicts expected those that passed, failed or were not reached; the items
-// beyond them; and whether the remainders agree.
-pub struct Compared {
-    pub number: u8,
-    pub place: usize,
-    pub passed: usize,
-    pub failed: usize,
-    pub unreached: usize,
-    pub beyond: usize,
-    pub agree: bool,
-}
-
 // ---- sections
 
 // How many rows a section has, and where it ends.

@@ -3,14 +3,15 @@
 use Prim.Native.Nat.{ℕ, suc, _+_, _*_, _%_, _≤_, _<_}
 use mathlib.Core.Path.{_≡_}
 use mathlib.Core.List.{List, [], _++_}
-use mathlib.Core.Bool.{true}
+use mathlib.Core.Bool.{true, false}
 use mathlib.Core.Logic.{_⊎_, _↔_}
 use lib.ListN.{length, getD}
 use Rattle.format.specs.Units.{Domain, text, binary}
 use Rattle.format.specs.Report.{rowsIn, be4, report}
-use Rattle.expectation.specs.Expectation.{verdicts, expected, reported, passed, failed, notReached, beyond, agree}
-use Rattle.expectation.specs.Expectation.{counted, refused, compared}
-use Rattle.expectation.specs.Words.{count, passes, fails, misses}
+use Rattle.expectation.specs.Expectation.{countAt, verdicts, expected, reported}
+use Rattle.comparison.specs.Comparing.{passed, failed, notReached, beyond, agree}
+use Rattle.comparison.specs.Comparing.{counted, refused, compared}
+use Rattle.comparison.specs.Words.{count, passes, fails, misses}
 use Rattle.expectation_claims.specs.Words.{BadFile, BadReport, fileOf, verdictsIn, leftIn, ownFile, SameCounts, OneOff, OneFailed}
 
 -- ---- verdicts: es expected, vs of the report's items
@@ -31,6 +32,12 @@ pub record CountClaims : Type 0 where
   -- "a refused item only if its very number was expected"
   pub by-number : (es vs : List ℕ) (i n : ℕ) → getD vs i 0 ≡ suc n → passes es vs i ≡ true → (i < length vs) × (getD es i 0 ≡ suc n)
 
+-- ---- the answer, of any two byte strings: where it is not 20, the number expected is the file's first count, that of the items the report's
+
+pub record AnswerClaims : Type 0 where
+  pub sum : (file rep : List ℕ) → let c = compared file rep in c .number ≡ 0 → c .passed + c .failed + c .unreached ≡ countAt file
+  pub items : (file rep : List ℕ) → let c = compared file rep in c .number ≡ 0 → c .passed + c .failed + c .beyond ≡ countAt rep
+
 -- ---- remainders
 
 pub record RemainderClaims : Type 0 where
@@ -47,7 +54,8 @@ pub record RemainderClaims : Type 0 where
 pub record MalformedClaims : Type 0 where
   -- "A file or report with a missing count, a section shorter than its count says, a remainder count above 1, or bytes left over is
   -- refused with new number 20, place 0; all counts are 0 and the remainders are answered as not agreeing."
-  pub twenty : (file rep : List ℕ) → BadFile file ⊎ BadReport rep → compared file rep ≡ refused
+  pub twenty : (file rep : List ℕ) → BadFile file ⊎ BadReport rep → compared file rep
+      ≡ record { number = 20; place = 0; passed = 0; failed = 0; unreached = 0; beyond = 0; agree = false }
   -- and nothing else is: the number is 0 or 20, and 20 is for these alone
   pub only-twenty : (file rep : List ℕ) (n : ℕ) → compared file rep .number ≡ suc n → BadFile file ⊎ BadReport rep
   -- "It reads only 01's report": rows of items that are a byte wider, n of them, are 20 by their length, unless n is 0, 4 or 5 more than
@@ -84,6 +92,7 @@ pub record FileClaims : Type 0 where
 
 pub record ExpectationClaims : Type 0 where
   pub counts : CountClaims
+  pub answers : AnswerClaims
   pub remainders : RemainderClaims
   pub malformed-files : MalformedClaims
   pub files : FileClaims

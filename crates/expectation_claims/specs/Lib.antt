@@ -2,5 +2,6 @@ pub mod Words
 pub mod Claims
 pub mod Sections
 pub mod Malformed
+pub mod Answers
 pub mod Own
 pub mod Proved

@@ -10,7 +10,8 @@ use borrow.Author.Tests.{lt-ltb, le-ltb}
 use Rattle.base.specs.Cases.{lt-or-ge}
 use Rattle.format.specs.Report.{be4}
 use Rattle.expectation.specs.Expectation.{short, rows, countAt, sectionOf, Verdicts, malformed, verdicts, ending}
-use Rattle.expectation.specs.Expectation.{expectedBy, expected, behindItems, reportedBy, reported, refused, comparedBy, compared}
+use Rattle.expectation.specs.Expectation.{expectedBy, expected, behindItems, reportedBy, reported}
+use Rattle.comparison.specs.Comparing.{refused, comparedBy, compared}
 use Rattle.expectation_claims.specs.Words.{endOf, Cut, BadEnd, BadFile, BadReport}
 use Rattle.expectation_claims.specs.Sections.{four, count-of}
 

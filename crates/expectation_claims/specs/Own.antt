@@ -1,10 +1,10 @@
 -- What a comparison sees of the judge's own report, and a stream's own expectation against it. Assumes nothing.
 use Prim.Native.Nat.{ℕ, zero, suc, _+_, _-_, _*_, _≤_, _<_}
 use mathlib.Core.Path.{_≡_, refl, sym, ap, _∙_, subst}
-use mathlib.Core.List.{List, [], _∷_, _++_, map, append-nil}
+use mathlib.Core.List.{List, [], _∷_, _++_, append-nil}
 use mathlib.Core.Bool.{Bool, true}
 use native.Mathlib.Omega.{arith}
-use lib.ListN.{length, getD, length-drop}
+use lib.ListN.{length, getD, length-drop, length-map}
 use borrow.Author.Tests.{le-ltb, eq-eqb, ne-eqb}
 use Rattle.format.specs.Units.{Domain}
 use Rattle.format.specs.Report.{ItemRow, RefusalRow, RemainderRow, rows, rowsIn, refusalsIn, remainderIn, verdictByte}
@@ -15,8 +15,8 @@ use Rattle.laws.specs.Items.{rowsAt, by-items, rows-nil, rows-refused, rows-ite
 use Rattle.claims.specs.Claims.{Demand3}
 use Rattle.expectation.specs.Expectation as E
 use Rattle.expectation.specs.Expectation.{sectionOf, verdicts, ending, expectedBy, expected, behindItems, reportedBy, reported}
-use Rattle.expectation.specs.Expectation.{passed, failed, agree, counted, comparedBy, compared}
-use Rattle.expectation.specs.Counts.{sum}
+use Rattle.comparison.specs.Comparing.{passed, failed, agree, counted, comparedBy, compared}
+use Rattle.comparison.specs.Counts.{sum}
 use Rattle.expectation_claims.specs.Words.{fileOf, verdictsIn, leftIn, ownFile, OneOff, OneFailed}
 use Rattle.expectation_claims.specs.Sections.{reads-section, reads-column, concat-size, column-self}
 
@@ -154,16 +154,12 @@ file-one-off es left vs over rep few one e o = rw (reads es left few one, e) (on
 
 -- ---- the judge's own report
 
-map-length : {A : Type 0} (f : A → ℕ) (l : List A) → length (map f l) ≡ length l
-map-length f [] = refl
-map-length f (a ∷ l) = ap suc (map-length f l)
-
 module _ (d : Domain) (R : Reader d) (D : Demand3 d) (few : d .limit ≤ 4194304) where
   few-verdicts : (xs : List ℕ) → length xs ≤ d .limit → length (verdictsIn d xs) < 4294967296
-  few-verdicts xs l = omega (arith, map-length (λ (r : ItemRow). verdictByte (r .verdict)) (rowsIn d xs), few-rows d R xs)
+  few-verdicts xs l = omega (arith, length-map (rowsIn d xs) (λ (r : ItemRow). verdictByte (r .verdict)), few-rows d R xs)
 
   one-left : (xs : List ℕ) → length (leftIn d xs) ≤ 1
-  one-left xs = omega (arith, map-length (λ (r : RemainderRow). r .number) (remainderIn d xs), D .apart xs)
+  one-left xs = omega (arith, length-map (remainderIn d xs) (λ (r : RemainderRow). r .number), D .apart xs)
 
   pub compares-by : (xs es left : List ℕ) → length xs ≤ d .limit → length es < 4294967296 → length left ≤ 1
       → compared (fileOf es left) (report d xs) ≡ counted es (verdictsIn d xs) (agree left (leftIn d xs))
@@ -177,10 +173,10 @@ module _ (d : Domain) (R : Reader d) (D : Demand3 d) (few : d .limit ≤ 4194304
       let p = passed-self vs in
       let z : length vs - length vs ≡ 0 = omega arith in
       compares-by xs vs (leftIn d xs) l (few-verdicts xs l) (one-left xs)
-      ∙ rw (p .0, p .1, agree-self (leftIn d xs), z, map-length (λ (r : ItemRow). verdictByte (r .verdict)) (rowsIn d xs))
+      ∙ rw (p .0, p .1, agree-self (leftIn d xs), z, length-map (rowsIn d xs) (λ (r : ItemRow). verdictByte (r .verdict)))
 
   pub one-off-by : (xs vs over rep : List ℕ) → length xs ≤ d .limit → reported rep ≡ verdicts vs over → OneOff (verdictsIn d xs) vs
       → OneFailed (length (rowsIn d xs)) (compared (ownFile d xs) rep)
   one-off-by xs vs over rep l e o =
-      subst (λ (n : ℕ). OneFailed n (compared (ownFile d xs) rep)) (map-length (λ (r : ItemRow). verdictByte (r .verdict)) (rowsIn d xs))
+      subst (λ (n : ℕ). OneFailed n (compared (ownFile d xs) rep)) (length-map (rowsIn d xs) (λ (r : ItemRow). verdictByte (r .verdict)))
       (file-one-off (verdictsIn d xs) (leftIn d xs) vs over rep (few-verdicts xs l) (one-left xs) e o)

@@ -13,10 +13,12 @@ use Rattle.format.specs.Units.{Domain, text, binary}
 use Rattle.laws.specs.Domains.{Reader, text-reader, binary-reader}
 use Rattle.claims.specs.Claims.{Demand3}
 use Rattle.claims.specs.Demand3.{text-demand3, binary-demand3}
-use Rattle.expectation.specs.Expectation.{Verdicts, malformed, verdicts, expected, reported, passed, agree, comparedBy, compared}
-use Rattle.expectation.specs.Words.{passes}
-use Rattle.expectation.specs.Counts.{passes-are, fails-are, misses-are, sum, items}
+use Rattle.expectation.specs.Expectation.{Verdicts, malformed, verdicts, expected, reported}
+use Rattle.comparison.specs.Comparing.{passed, agree, comparedBy, compared}
+use Rattle.comparison.specs.Words.{passes}
+use Rattle.comparison.specs.Counts.{passes-are, fails-are, misses-are, sum, items}
 use Rattle.expectation_claims.specs.Words.{fileOf, SameCounts}
+use Rattle.expectation_claims.specs.Answers.{sums}
 use Rattle.expectation_claims.specs.Malformed.{twenty, only-twenty, wider}
 use Rattle.expectation_claims.specs.Own.{sees-by, reads, file-one-off, compares-by, own-by, one-off-by}
 use Rattle.expectation_claims.specs.Claims.{OwnClaims, ExpectationClaims}
@@ -95,6 +97,7 @@ proved = record {
     nothing-there = none-passed;
     by-number = by-number;
   };
+  answers = record { sum = λ file rep e. sums file rep e .0; items = λ file rep e. sums file rep e .1 };
   remainders = record { agree-exactly = agree-by; expected-apart = expected-apart; reported-apart = reported-apart };
   malformed-files = record { twenty = twenty; only-twenty = only-twenty; wider = wider };
   files = record { reads = reads; one-off = file-one-off };

@@ -7,7 +7,7 @@ use mathlib.Core.Logic.{_⊎_}
 use lib.ListN.{length, getD, drop}
 use Rattle.format.specs.Units.{Domain}
 use Rattle.format.specs.Report.{rowsIn, remainderIn, verdictByte, be4}
-use Rattle.expectation.specs.declared.Compared.{Compared}
+use Rattle.comparison.specs.declared.Compared.{Compared}
 use Rattle.expectation.specs.Expectation.{countAt}
 
 -- ---- files that are not well made, by their bytes alone

@@ -24,7 +24,7 @@ ghost use Rattle.exports_values.specs.Answers.{textFoundNumber, textFoundValue,
 ghost use Rattle.exports_values.specs.Answers.{binaryFoundNumber, binaryFoundValue, binaryTagLeft, binaryInfoLeft};
 ghost use Rattle.exports_values.specs.Answers.{textWrittenNumber, textWrittenValue, binaryWrittenNumber, binaryWrittenValue};
 ghost use Rattle.format.specs.Report.{reportAnswer, reportNumber, reportValue, reportLeft};
-ghost use Rattle.expectation.specs.Expectation.{compared};
+ghost use Rattle.comparison.specs.Comparing.{compared};
 ghost use Rattle.exports_values.specs.Counts.{countsOf};
 ghost use Rattle.exports_values.specs.Lent.{walkOf};
 ghost use Rattle.exports_values.specs.Lent.{textStepNumber, textStepValue, textYieldLeft, textStateLeft};

@@ -20,7 +20,7 @@ use Rattle.walk_state.specs.Walking.{start, textStep, binaryStep}
 use Rattle.walk_claims.specs.Words.{after}
 use Rattle.exports_values.specs.Answers.{textFoundNumber, textTagLeft, textInfoLeft, binaryFoundNumber, binaryTagLeft, binaryInfoLeft}
 use Rattle.exports_values.specs.Answers.{textWrittenNumber, binaryWrittenNumber}
-use Rattle.expectation.specs.Expectation.{compared}
+use Rattle.comparison.specs.Comparing.{compared}
 use Rattle.expectation_claims.specs.Words.{BadFile, BadReport}
 use Rattle.exports_values.specs.Counts.{countsOf}
 use Rattle.exports_values.specs.Lent.{stateSize, walkOf, stateOf}

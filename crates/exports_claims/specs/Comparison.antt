@@ -5,7 +5,7 @@ use mathlib.Core.List.{List}
 use mathlib.Core.Logic.{_⊎_}
 use native.Mathlib.Omega.{arith}
 use lib.ListN.{replicate}
-use Rattle.expectation.specs.Expectation.{compared}
+use Rattle.comparison.specs.Comparing.{compared}
 use Rattle.expectation_claims.specs.Words.{BadFile, BadReport}
 use Rattle.expectation_claims.specs.Proved as E
 use Rattle.exports_values.specs.Counts.{countsOf}

@@ -3,7 +3,7 @@
 use Prim.Native.Nat.{ℕ}
 use mathlib.Core.List.{List, [], _∷_}
 use Rattle.base.specs.Pick.{pick}
-use Rattle.expectation.specs.declared.Compared.{Compared}
+use Rattle.comparison.specs.declared.Compared.{Compared}
 
 -- passed, failed, not reached, beyond, and 1 where the remainders agree, else 0
 unfoldable pub countsOf : Compared → List ℕ

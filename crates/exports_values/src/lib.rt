@@ -1,6 +1,6 @@
 // Numbers for C: a code's and a primitive's, an item's, those of a walk's state, which C lends, and a comparison's. Nothing is decided
 // here.
-use expectation::Compared;
+use comparison::Compared;
 use format::Code;
 use format::Kind;
 use format::Primitive;

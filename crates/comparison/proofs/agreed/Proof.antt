@@ -1,6 +1,6 @@
 -- `agreed` meets its contract. Assumes nothing.
 use Rattle.comparison.proofs.Laws.{not-left}
-use Rattle.expectation.specs.Expectation.{agree}
+use Rattle.comparison.specs.Comparing.{agree}
 use Rattle.comparison.proofs.agreed.Statement.{statement}
 use Rattle.comparison.proofs.agreed.Tie as tie
 

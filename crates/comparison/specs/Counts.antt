@@ -10,8 +10,9 @@ use lib.ListN.{length, drop}
 use borrow.Author.Tests.{lt-ltb, le-ltb}
 use Rattle.base.specs.Pick.{pick}
 use Rattle.base.specs.Cases.{lt-or-ge}
-use Rattle.expectation.specs.Expectation.{column, passed, failed, notReached, beyond}
-use Rattle.expectation.specs.Words.{count, passes, fails, misses}
+use Rattle.expectation.specs.Expectation.{column}
+use Rattle.comparison.specs.Comparing.{passed, failed, notReached, beyond}
+use Rattle.comparison.specs.Words.{count, passes, fails, misses}
 
 -- ---- counting
 
