@@ -137,8 +137,9 @@ fn wider_rows() {
     }
 }
 
-/// 1,215 accepted groups with 889 refusals behind them, a byte wider each, can
-/// be read as 01's report: no rule of 02 tells them apart.
+/// 1,215 items a byte wider with 889 refusals behind them, number 1,093 an
+/// accepted group of 4 characters, are a report of 01 with 1,024 refusals: no
+/// rule of 02 tells them apart (D119).
 #[test]
 fn wider_rows_that_are_a_report() {
     let mut bytes = 1215_u32.to_be_bytes().to_vec();
