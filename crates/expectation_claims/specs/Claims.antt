@@ -1,5 +1,5 @@
--- What 02, request n, and the issue under it ask of a comparison, over the definitions that its contract cites. Statements only, each
--- below the words in quotes. What the words mean is in Words and in expectation/Words. Proved in Proved. Assumes nothing.
+-- What 02, request n, asks of a comparison, and what its users were promised besides, over the definitions that its contract cites.
+-- Statements only, each below the words in quotes. What the words mean is in Words and in expectation/Words. Proved in Proved. Assumes nothing.
 use Prim.Native.Nat.{ℕ, suc, _+_, _*_, _%_, _≤_, _<_}
 use mathlib.Core.Path.{_≡_}
 use mathlib.Core.List.{List, [], _++_}
