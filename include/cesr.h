@@ -2,10 +2,10 @@
  *
  * Terms. T is text, in characters of URL-safe Base64; B is binary, in bytes. A unit is 4 characters in T, 3 bytes in B. Every call
  * returns a number: 0 for accepted, or one of the numbers below for refused. A refused call writes to no buffer, tag, info, item or
- * state: it writes only the place behind `answer`. An accepted call writes its answer from the buffer's start; bytes behind it stay.
- * The place is the character for 5 and 19, else the item's start; 0 for 1, 2, 3, 12, 13 and for a writer's 6 and 18, and for a writer's
- * 5 and 19 the index among the tag characters. Places, offsets and lengths count characters in T and bytes in B. Where 5 stands in the
- * order of a call, the first character outside the alphabet gives 5 or 19.
+ * state: it writes only the place behind `answer`, and a comparison its five zeros. An accepted call writes its answer from the buffer's
+ * start; bytes behind it stay. The place is the character for 5 and 19, else the item's start; 0 for 1, 2, 3, 12, 13, 20 and for a writer's
+ * 6 and 18, and for a writer's 5 and 19 the index among the tag characters. Places, offsets and lengths count characters in T and bytes in
+ * B. Where 5 stands in the order of a call, the first character outside the alphabet gives 5 or 19.
  *
  * What the caller ensures: no pointer is null, also where its length is 0; what is written (buffer, tag, info, item, state, answer)
  * overlaps nothing else that the call is given; each length is that of the memory behind its pointer. The library keeps nothing
@@ -38,6 +38,8 @@ enum cesr_number {
     CESR_NOT_A_PRIMITIVE = 14,    /* primitive asked for, group or genus/version found */
     CESR_NOT_SHORT = 18,          /* large variable code or large group whose size fits the small code */
     CESR_ORDINARY_BASE64 = 19,    /* + / or = of ordinary Base64 (in T, or a tag character given to a writer) */
+    CESR_MALFORMED = 20,          /* expectation file or report with a missing count, a section shorter than its count says, a remainder
+                                   * count above 1, or bytes left over */
     CESR_END = 255                /* the walk alone: the end of the stream */
 };
 
@@ -120,6 +122,21 @@ uint8_t cesr_walk_text(const uint8_t *stream, size_t stream_len, size_t state[CE
 
 /* The same over a binary. */
 uint8_t cesr_walk_binary(const uint8_t *stream, size_t stream_len, size_t state[CESR_STATE], size_t item[6], size_t *answer);
+
+/* What answer holds after a comparison; refused, all of it is 0. */
+enum cesr_compared {
+    CESR_COMPARED_PASSED = 0,      /* an item with the case's index exists and has that verdict */
+    CESR_COMPARED_FAILED = 1,      /* the item exists with another */
+    CESR_COMPARED_NOT_REACHED = 2, /* there is no such item; the three sum to the number expected */
+    CESR_COMPARED_BEYOND = 3,      /* items beyond the number expected */
+    CESR_COMPARED_AGREE = 4        /* 1 where both remainders are absent or have the same number, else 0; never added to passed */
+};
+
+/* Compares an expectation file with a report: 20. The file has two sections, each after its count in 4 bytes, big-endian: expected verdicts
+ * (one byte an item), then the number of the remainder that is expected (one byte, count 0 or 1). The report is that of cesr_report_text
+ * or cesr_report_binary; only its counts, its verdicts and its remainder's number are looked at. Equal remainders and no count of failed,
+ * not reached or beyond say that all is as expected, unless nothing was. */
+uint8_t cesr_compare(const uint8_t *expected, size_t expected_len, const uint8_t *report, size_t report_len, size_t answer[5]);
 
 #ifdef __cplusplus
 }

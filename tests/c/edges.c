@@ -307,6 +307,28 @@ static void limits(void) {
     write_to(cesr_write_binary, 6, 3145723, BINARY_LIMIT, CESR_UNFIT_LENGTH, 0);
 }
 
+/* ---- expected verdicts and a report */
+
+/* Each beginning of both, the whole of them, and one byte more: 0 for the whole alone. */
+static void comparing(void) {
+    static const uint8_t expected[] = {0, 0, 0, 1, 8, 0, 0, 0, 1, 4, 0};
+    static const uint8_t report[] = {0, 0, 0, 1, 0, 0, 0, 0, 0, 0, 0, 4, 8, 0, 0, 0, 0, 0, 0, 0, 1, 0, 0, 0, 4, 4, 0};
+    for (size_t length = 0; length <= sizeof expected; length++) {
+        for (size_t size = 0; size <= sizeof report; size++) {
+            uint8_t *file = copied(expected, length), *told = copied(report, size);
+            size_t *answer = exact(5 * sizeof *answer);
+            int whole = length == sizeof expected - 1 && size == sizeof report - 1;
+            calls++;
+            check(cesr_compare(file, length, told, size, answer) == (whole ? 0 : 20), "0 or 20", length * 100 + size);
+            check(answer[0] == (whole ? 1 : 0) && answer[4] == (whole ? 1 : 0), "passed and agree", length * 100 + size);
+            check(memcmp(file, expected, length) == 0 && memcmp(told, report, size) == 0, "read only", length * 100 + size);
+            free(file);
+            free(told);
+            free(answer);
+        }
+    }
+}
+
 int main(void) {
     for (size_t items = 0; items < 40; items++) {
         streams_of(items);
@@ -320,6 +342,7 @@ int main(void) {
     reading_binary();
     writing();
     limits();
+    comparing();
     printf("%d calls, %d checks, %d failed\n", calls, checks, failures);
     return failures != 0;
 }

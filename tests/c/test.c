@@ -312,6 +312,44 @@ static void binary_walk(void) {
     check(cesr_walk_binary(stream, 6, state, item, &answer) == CESR_END && item[0] == 3, "end", "300001");
 }
 
+/* ---- expected verdicts and a report */
+
+/* Two verdicts, 4 and 0, and no remainder; the same with remainder 6; and the empty stream's. */
+static const uint8_t TWO[] = {0, 0, 0, 2, 4, 0, 0, 0, 0, 0};
+static const uint8_t TWO_AND_6[] = {0, 0, 0, 2, 4, 0, 0, 0, 0, 1, 6};
+static const uint8_t NONE[8] = {0};
+
+static void compare(const uint8_t *expected, size_t length, const uint8_t *report, size_t size, const size_t told[5]) {
+    size_t answer[5] = {7, 7, 7, 7, 7};
+    check(cesr_compare(expected, length, report, size, answer) == 0, "compared", "compare");
+    check(memcmp(answer, told, sizeof answer) == 0, "passed, failed, not reached, beyond, agree", "compare");
+}
+
+static void malformed(const uint8_t *expected, size_t length, const uint8_t *report, size_t size) {
+    size_t answer[5] = {7, 7, 7, 7, 7};
+    check(cesr_compare(expected, length, report, size, answer) == CESR_MALFORMED, "20", "compare");
+    check(all(answer, 5, 0), "all of it 0", "compare");
+}
+
+static void comparing(void) {
+    static const uint8_t two_remainders[] = {0, 0, 0, 0, 0, 0, 0, 2, 6, 6};
+    compare(TWO, sizeof TWO, LONG, sizeof LONG, (const size_t[]){2, 0, 0, 0, 1});
+    compare(TWO_AND_6, sizeof TWO_AND_6, LONG, sizeof LONG, (const size_t[]){2, 0, 0, 0, 0});
+    compare(TWO, sizeof TWO, ACCEPTED, sizeof ACCEPTED, (const size_t[]){0, 1, 1, 0, 1});
+    compare(TWO, sizeof TWO, NOTHING, sizeof NOTHING, (const size_t[]){0, 0, 2, 0, 1});
+    compare(NONE, sizeof NONE, LONG, sizeof LONG, (const size_t[]){0, 0, 0, 2, 1});
+    compare(TWO_AND_6, sizeof TWO_AND_6, REST_6, sizeof REST_6, (const size_t[]){0, 0, 2, 0, 1});
+    compare(TWO_AND_6, sizeof TWO_AND_6, REST_4, sizeof REST_4, (const size_t[]){0, 0, 2, 0, 0});
+    for (size_t length = 0; length < sizeof TWO; length++) {
+        malformed(TWO, length, LONG, sizeof LONG);
+    }
+    for (size_t size = 0; size < sizeof LONG; size++) {
+        malformed(TWO, sizeof TWO, LONG, size);
+    }
+    malformed(two_remainders, sizeof two_remainders, LONG, sizeof LONG);
+    malformed(LONG, sizeof LONG, TWO, sizeof TWO);
+}
+
 int main(void) {
     reports();
     binary_report();
@@ -323,6 +361,7 @@ int main(void) {
     binary_walk();
     depths();
     sizes();
+    comparing();
     printf("%d checks, %d failed\n", checks, failures);
     return failures != 0;
 }

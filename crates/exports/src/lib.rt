@@ -24,6 +24,8 @@ ghost use Rattle.exports_values.specs.Answers.{textFoundNumber, textFoundValue,
 ghost use Rattle.exports_values.specs.Answers.{binaryFoundNumber, binaryFoundValue, binaryTagLeft, binaryInfoLeft};
 ghost use Rattle.exports_values.specs.Answers.{textWrittenNumber, textWrittenValue, binaryWrittenNumber, binaryWrittenValue};
 ghost use Rattle.format.specs.Report.{reportAnswer, reportNumber, reportValue, reportLeft};
+ghost use Rattle.comparison.specs.Comparing.{compared};
+ghost use Rattle.exports_values.specs.Counts.{countsOf};
 ghost use Rattle.exports_values.specs.Lent.{walkOf};
 ghost use Rattle.exports_values.specs.Lent.{textStepNumber, textStepValue, textYieldLeft, textStateLeft};
 ghost use Rattle.exports_values.specs.Lent.{binaryStepNumber, binaryStepValue, binaryYieldLeft, binaryStateLeft};
@@ -314,4 +316,18 @@ pub extern "C" fn cesr_walk_binary(
             255
         }
     }
+}
+
+// ---- expected verdicts and a report
+
+// answer: passed, failed, not reached, beyond, and 1 where the remainders agree; for 20 all are 0.
+#[no_mangle]
+pub extern "C" fn cesr_compare(expected: &[u8], report: &[u8], answer: &mut [usize; 5]) -> u8
+    ensures { λ r. ⌜ r ≡ compared (now (expected .entry)) (now (report .entry)) .number ⌝ }
+    ensures { λ r. ⌜ now (answer .exit) ≡ countsOf (compared (now (expected .entry)) (now (report .entry))) ⌝ }
+{
+    let found = comparison::compare(expected, report);
+    let counts = exports_values::counts_of(found);
+    *answer = counts;
+    found.number
 }

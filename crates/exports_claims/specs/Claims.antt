@@ -4,7 +4,7 @@
 use Prim.Native.Nat.{ℕ}
 use mathlib.Core.Path.{_≡_}
 use mathlib.Core.List.{List}
-use mathlib.Core.Logic.{_↔_}
+use mathlib.Core.Logic.{_⊎_, _↔_}
 use lib.ListN.{length, replicate}
 use Rattle.format.specs.declared.Code.{Code}
 use Rattle.format.specs.Units.{Domain, text, binary}
@@ -20,6 +20,9 @@ use Rattle.walk_state.specs.Walking.{start, textStep, binaryStep}
 use Rattle.walk_claims.specs.Words.{after}
 use Rattle.exports_values.specs.Answers.{textFoundNumber, textTagLeft, textInfoLeft, binaryFoundNumber, binaryTagLeft, binaryInfoLeft}
 use Rattle.exports_values.specs.Answers.{textWrittenNumber, binaryWrittenNumber}
+use Rattle.comparison.specs.Comparing.{compared}
+use Rattle.expectation_claims.specs.Words.{BadFile, BadReport}
+use Rattle.exports_values.specs.Counts.{countsOf}
 use Rattle.exports_values.specs.Lent.{stateSize, walkOf, stateOf}
 use Rattle.exports_values.specs.Lent.{textStepNumber, textYieldLeft, textStateLeft, binaryStepNumber, binaryYieldLeft, binaryStateLeft}
 use Rattle.exports_claims.specs.Words.{InBinary, InText, Report, ReadText, ReadBinary, WroteText, WroteBinary, YieldsText, YieldsBinary}
@@ -76,9 +79,18 @@ pub record LentClaims : Type 0 where
   pub text-walk : (xs : List ℕ) (k : ℕ) → walkOf (textLent xs k) ≡ after text xs k
   pub binary-walk : (xs : List ℕ) (k : ℕ) → walkOf (binaryLent xs k) ≡ after binary xs k
 
+-- ---- a comparison: its five numbers are the answer, so that a refused call writes them too
+
+pub record ComparedClaims : Type 0 where
+  -- 0 is answered exactly where both the file and the report are well made
+  pub zero-accepted : (file rep : List ℕ) → (compared file rep .number ≡ 0) ↔ (BadFile file ⊎ BadReport rep → ⊥)
+  -- "all counts are 0 and the remainders are answered as not agreeing", and the place is 0
+  pub refused-zeros : (file rep : List ℕ) → (compared file rep .number ≡ 0 → ⊥) → countsOf (compared file rep) ≡ replicate 5 0
+
 -- ---- all of it
 
 pub record ExportsClaims : Type 0 where
   pub zero-accepted : ZeroClaims
   pub refused-kept : KeepClaims
   pub lent : LentClaims
+  pub comparison : ComparedClaims

@@ -2,4 +2,5 @@ pub mod Words
 pub mod Claims
 pub mod Numbers
 pub mod Lent
+pub mod Comparison
 pub mod Proved

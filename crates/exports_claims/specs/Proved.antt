@@ -2,6 +2,7 @@
 use Rattle.exports_claims.specs.Claims.{ExportsClaims}
 use Rattle.exports_claims.specs.Numbers.{zero-claims, keep-claims}
 use Rattle.exports_claims.specs.Lent.{lent-claims}
+use Rattle.exports_claims.specs.Comparison.{compared-claims}
 
 pub proved : ExportsClaims
-proved = record { zero-accepted = zero-claims; refused-kept = keep-claims; lent = lent-claims }
+proved = record { zero-accepted = zero-claims; refused-kept = keep-claims; lent = lent-claims; comparison = compared-claims }

@@ -1,4 +1,6 @@
-// Numbers for C: a code's and a primitive's, an item's, and those of a walk's state, which C lends. Nothing is decided here.
+// Numbers for C: a code's and a primitive's, an item's, those of a walk's state, which C lends, and a comparison's. Nothing is decided
+// here.
+use comparison::Compared;
 use format::Code;
 use format::Kind;
 use format::Primitive;
@@ -15,6 +17,7 @@ ghost use Rattle.format.specs.Alphabet.{charOf};
 ghost use Rattle.format.specs.Judging.{maxDepth};
 ghost use Rattle.walk_state.specs.Lent.{slotsIn};
 ghost use Rattle.exports_values.specs.Answers.{charsOf, letterOf, codeFrom, infoOf};
+ghost use Rattle.exports_values.specs.Counts.{countsOf};
 ghost use Rattle.exports_values.specs.Lent.{stateSize, tooMany, placeIn, placeNumbers, walkOf, stateOf, sortOf, signOf, leadOf, itemOf};
 
 // ---- a code and a primitive
@@ -226,4 +229,13 @@ pub fn item_of(offset: usize, size: usize, depth: usize, kind: Kind, head: usize
     let sign = sign_of(kind);
     let lead = lead_of(kind);
     [offset, size, depth, sort, sign, lead]
+}
+
+// ---- a comparison
+
+pub fn counts_of(c: Compared) -> [usize; 5]
+    ensures { λ r. ⌜ r ≡ countsOf c ⌝ }
+{
+    let agree = mark_of(c.agree);
+    [c.passed, c.failed, c.unreached, c.beyond, agree]
 }

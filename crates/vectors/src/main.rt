@@ -7,6 +7,7 @@
 // one it is chars, letter and number of tag characters (1 byte each), eleven tag places and the raw value. For a step of the walk it
 // is the numbers of the state (1 byte each) and the stream; the line has the state and the item's numbers afterwards. A step is
 // made again through a reader, call 11 for a text and 12 for a binary, and a third line counts the items that are left from there on.
+// To compare (call 20), the input is the expectation file's length (2 bytes), the file and the report; the line has the five numbers.
 use exports_values::MARK;
 use exports_values::STATE;
 use libc::STDIN_FILENO;
@@ -222,6 +223,33 @@ fn step_from(call: u8, src: &[u8]) {
     }
 }
 
+// ---- expected verdicts and a report
+
+fn show_counts(number: u8, counts: [usize; 5]) {
+    recorded::show_answer(20, number, 0);
+    recorded::show_numbers(&counts);
+    recorded::end_line();
+}
+
+fn compare(expected: &[u8], report: &[u8]) {
+    let mut answer: [usize; 5] = [170; 5];
+    let number = exports::cesr_compare(expected, report, &mut answer);
+    show_counts(number, answer);
+}
+
+fn compare_from(src: &[u8]) {
+    let n = src.len();
+    if n < 2 {
+        return;
+    }
+    let length = number(src[0], src[1]);
+    if n - 2 < length {
+        return;
+    }
+    let to = 2 + length;
+    compare(&src[2..to], &src[to..n]);
+}
+
 // ---- any call
 
 fn run(call: u8, src: &[u8], out: &mut [u8]) {
@@ -235,6 +263,10 @@ fn run(call: u8, src: &[u8], out: &mut [u8]) {
     }
     if call < 9 {
         write_from(call, src, out);
+        return;
+    }
+    if call == 20 {
+        compare_from(src);
         return;
     }
     step_from(call, src);
@@ -278,10 +310,10 @@ fn lend(call: u8, room: usize, src: &[u8]) {
 }
 
 // Room for all the records.
-fn record_space() -> [u8; 131072]
-    ensures { λ r. ⌜ 131072 ≡ length r ⌝ }
+fn record_space() -> [u8; 262144]
+    ensures { λ r. ⌜ 262144 ≡ length r ⌝ }
 {
-    [0; 131072]
+    [0; 262144]
 }
 
 fn main() {

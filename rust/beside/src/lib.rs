@@ -11,7 +11,7 @@ mod walk;
 use oracle::primitive::{self, Named};
 use oracle::report::write_report;
 use oracle::{convert, Form};
-use proved::{Info, Primitive, Refusal, Tag};
+use proved::{Counts, Info, Primitive, Refusal, Tag};
 pub use walk::{walk_binary, walk_text};
 
 /// A refusal of the oracle as one of the library.
@@ -100,4 +100,23 @@ fn write(item: &Primitive, form: Form, out: &mut [u8]) -> Result<usize, Refusal>
         characters: item.tag,
     };
     primitive::write(named, &tag, item.raw, form, out).map_err(refused)
+}
+
+pub fn compare(expected: &[u8], report: &[u8], counts: &mut Counts) -> Result<(), Refusal> {
+    let told = oracle::compare::compare(expected, report);
+    let agree = usize::from(told.remainders_agree);
+    *counts = [
+        told.passed,
+        told.failed,
+        told.not_reached,
+        told.beyond,
+        agree,
+    ];
+    match told.number {
+        0 => Ok(()),
+        number => Err(Refusal {
+            number,
+            place: told.place,
+        }),
+    }
 }

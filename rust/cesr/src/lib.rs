@@ -16,6 +16,7 @@
 //! | write a value by its type alone | [`write_variable`], [`write_variable_into`] |
 //! | go through all depths | [`Walk`], an iterator |
 //! | look at one item of any kind | [`item_at`] |
+//! | compare expected verdicts with a report | [`compare`], [`Expectation`] |
 //!
 //! A stream is *text* (characters of URL-safe Base64) or *binary*, see
 //! [`Form`]. Offsets, sizes and places count characters in text and bytes in
@@ -61,6 +62,7 @@
 
 mod code;
 mod convert;
+mod expectation;
 mod form;
 mod names;
 mod opaque;
@@ -71,6 +73,7 @@ mod walk;
 
 pub use code::{Code, Head, ParseCodeError};
 pub use convert::{to_binary, to_binary_into, to_text, to_text_into};
+pub use expectation::{compare, Comparison, Expectation};
 pub use form::{Form, ParseFormError};
 pub use opaque::{opaque, Opaque};
 pub use primitive::{

@@ -2,7 +2,7 @@
 
 use std::fmt;
 
-/// Why something was refused, as a number: 1 to 14, 18 or 19.
+/// Why something was refused, as a number: 1 to 14, 18, 19 or 20.
 ///
 /// ```
 /// use cesr::Number;
@@ -49,11 +49,14 @@ impl Number {
     /// `+`, `/` or `=` of ordinary Base64 (in text, or a tag character given to
     /// a writer).
     pub const ORDINARY_BASE64: Number = Number(19);
+    /// Expectation file or report with a missing count, a section shorter than
+    /// its count says, a remainder count above 1, or bytes left over.
+    pub const MALFORMED: Number = Number(20);
 
     /// The number with this value; none for a value that is no number.
     pub const fn new(value: u8) -> Option<Number> {
         match value {
-            1..=14 | 18 | 19 => Some(Number(value)),
+            1..=14 | 18 | 19 | 20 => Some(Number(value)),
             _ => None,
         }
     }
@@ -97,6 +100,10 @@ impl Number {
             14 => "primitive asked for, group or genus/version found",
             18 => "large variable code or large group whose size fits the small code",
             19 => "`+`, `/` or `=` of ordinary Base64 (in T, or a tag character given to a writer)",
+            20 => {
+                "expectation file or report with a missing count, a section shorter than \
+                 its count says, a remainder count above 1, or bytes left over"
+            }
             _ => "a number that the papers do not have",
         }
     }
@@ -111,8 +118,8 @@ impl fmt::Display for Number {
 /// A refusal: its number, and the place in characters or bytes.
 ///
 /// The place is the character for 5 and 19, else the item's start; 0 for 1, 2,
-/// 3, 12, 13 and for a writer's 6 and 18, and for a writer's 5 and 19 the index
-/// among the tag characters.
+/// 3, 12, 13, 20 and for a writer's 6 and 18, and for a writer's 5 and 19 the
+/// index among the tag characters.
 #[derive(Clone, Copy, Debug, PartialEq, Eq, Hash)]
 pub struct Refusal {
     /// Why.

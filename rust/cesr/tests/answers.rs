@@ -3,9 +3,9 @@
 //! That the library's answers are right is for the differential test.
 
 use cesr::{
-    item_at, judge, judge_into, opaque, read, read_text_into, to_binary, to_binary_into, to_text,
-    to_text_into, write, write_into, write_variable, write_variable_into, Code, Form, Number,
-    Report, State, Verdict, Walk, STATE,
+    compare, item_at, judge, judge_into, opaque, read, read_text_into, to_binary, to_binary_into,
+    to_text, to_text_into, write, write_into, write_variable, write_variable_into, Code,
+    Expectation, Form, Number, Report, State, Verdict, Walk, STATE,
 };
 use streams::generate::any_deck;
 use streams::item::stream;
@@ -380,4 +380,24 @@ fn opaque_groups_are_those_of_01() {
         seen += opaque(Form::Text, &stream, &report).groups;
     }
     assert!(seen > 100, "{seen}");
+}
+
+/// A report's own expectation has the report's verdict bytes and remainder's
+/// number, and by the library its report is as expected.
+#[test]
+fn a_reports_own_expectation() {
+    each_case(|seed, form, stream| {
+        let report = judge(form, stream).unwrap();
+        let bytes = report.as_bytes();
+        let items = report.items().len();
+        let verdicts: Vec<u8> = (0..items).map(|index| bytes[12 + 9 * index]).collect();
+        let expected = Expectation::of(&report);
+        assert_eq!(expected.verdicts, verdicts, "seed {seed} {form}");
+        let last = bytes.last().copied();
+        let remainder = report.remainder().and(last);
+        assert_eq!(expected.remainder, remainder, "seed {seed} {form}");
+        let found = compare(&expected.to_bytes(), bytes).unwrap();
+        assert!(found.is_as_expected(), "seed {seed} {form} {found:?}");
+        assert_eq!((found.passed, found.expected()), (items, items));
+    });
 }

@@ -9,7 +9,7 @@ use std::ffi::{OsStr, OsString};
 use std::path::{Path, PathBuf};
 use std::vec::IntoIter;
 
-const COMMANDS: &str = "judge, convert, show, manifest or numbers";
+const COMMANDS: &str = "judge, convert, show, manifest, compare, expect or numbers";
 
 /// What is asked for.
 #[derive(Debug)]
@@ -18,6 +18,8 @@ pub enum Task {
     Convert(Convert),
     Show(Show),
     Manifest(Manifest),
+    Compare(Compare),
+    Expect(Expect),
     /// A text of the command's own, and how the call stands that asked for it.
     Say(String, Standing),
 }
@@ -65,6 +67,21 @@ pub struct Manifest {
     pub sources: Vec<Source>,
 }
 
+#[derive(Debug)]
+pub struct Compare {
+    pub json: bool,
+    pub expected: Source,
+    pub report: Source,
+}
+
+#[derive(Debug)]
+pub struct Expect {
+    /// Given, the source is a stream.
+    pub form: Option<Form>,
+    pub out: Option<PathBuf>,
+    pub source: Source,
+}
+
 /// All that a call can give.
 #[derive(Default)]
 struct Given {
@@ -95,6 +112,8 @@ pub fn parse(mut arguments: impl Iterator<Item = OsString>) -> Result<Task, Stri
         "convert" => (convert, &["--to", "--out"]),
         "show" => (show, &["--form"]),
         "manifest" => (manifest, &["--form"]),
+        "compare" => (compare, &["--json"]),
+        "expect" => (expect, &["--form", "--out"]),
         "numbers" => (|given| said(given, help::numbers()), &[]),
         "help" | "--help" | "-h" => (|given| said(given, help::HELP.to_string()), &[]),
         "--version" | "-V" => (|given| said(given, help::VERSION.to_string()), &[]),
@@ -266,10 +285,15 @@ fn judge(given: Given) -> Result<Task, String> {
     }))
 }
 
+/// Where a command writes to; `-` is standard output.
+fn out(name: Option<OsString>) -> Option<PathBuf> {
+    name.filter(|name| name != "-").map(PathBuf::from)
+}
+
 fn convert(given: Given) -> Result<Task, String> {
     Ok(Task::Convert(Convert {
         to: given.to,
-        out: given.out.filter(|name| name != "-").map(PathBuf::from),
+        out: out(given.out),
         source: at_most_one(given.sources.into_iter())?,
     }))
 }
@@ -295,6 +319,30 @@ fn manifest(given: Given) -> Result<Task, String> {
     Ok(Task::Manifest(Manifest {
         form: given.form,
         sources: given.sources,
+    }))
+}
+
+fn compare(given: Given) -> Result<Task, String> {
+    let mut sources = given.sources.into_iter();
+    let Some(expected) = sources.next() else {
+        return Err("compare asks for an EXPECTED file".to_string());
+    };
+    let report = at_most_one(sources)?;
+    if expected == Source::Standard && report == Source::Standard {
+        return Err("standard input can be read once".to_string());
+    }
+    Ok(Task::Compare(Compare {
+        json: given.json,
+        expected,
+        report,
+    }))
+}
+
+fn expect(given: Given) -> Result<Task, String> {
+    Ok(Task::Expect(Expect {
+        form: given.form,
+        out: out(given.out),
+        source: at_most_one(given.sources.into_iter())?,
     }))
 }
 

@@ -51,13 +51,13 @@ pub fn run(task: &Convert, out: &mut dyn Write) -> io::Result<Standing> {
     }
 }
 
-fn failed(message: &str) -> io::Result<Standing> {
+pub fn failed(message: &str) -> io::Result<Standing> {
     complain(message);
     Ok(Standing::Error)
 }
 
-fn to_file(path: &Path, converted: &[u8]) -> io::Result<Standing> {
-    match replace::with(path, converted) {
+pub fn to_file(path: &Path, bytes: &[u8]) -> io::Result<Standing> {
+    match replace::with(path, bytes) {
         Ok(()) => Ok(Standing::Passed),
         Err(error) => {
             let name = shown(path.as_os_str());

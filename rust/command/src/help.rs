@@ -3,13 +3,15 @@
 use cesr::Number;
 
 pub const HELP: &str = "\
-cesr: judges, converts and shows CESR streams
+cesr: judges, converts, shows and compares CESR streams
 
   cesr judge [--form text|binary] [--manifest LIST] [--all] [--json | --report]
              [--] [FILE...]
   cesr convert [--to text|binary] [--out FILE] [--] [FILE]
   cesr show [--form text|binary] OFFSET [--] [FILE]
   cesr manifest [--form text|binary] [--] FILE...
+  cesr compare [--json] [--] EXPECTED [REPORT]
+  cesr expect [--form text|binary] [--out FILE] [--] [FILE]
   cesr numbers
 
 judge     One FILE: items, accepted, refused, remainder; then refused items, eight
@@ -28,9 +30,15 @@ show      One item at an offset, as a stream by itself: code, name, raw value in
           hexadecimal or tag characters; a group with the items inside.
 manifest  A line for each FILE: SHA256 LENGTH FORM NAME. Names in a manifest are
           relative to its folder. It looks at no codes.
+compare   An expectation file held against a report's bytes (judge --report): how
+          many verdicts passed, failed or were not reached, items beyond them,
+          and whether the remainders agree. --json: one object.
+expect    An expectation file, of a stream's own verdicts, or of a list: a number
+          a line, 0 for accepted, then 'remainder N' or nothing. With --form it
+          is a stream; without, a list if it reads as one.
 numbers   What each number of a refusal means.
 
-No FILE, or -, is standard input. Behind -- every word is a file's name, - too:
+No FILE or REPORT, or -, is standard input. Behind -- every word is a file's name, - too:
 put it before names that come from a list or a pattern. Without it a word that
 could be an option and is a file's name is an error. Without --form the form is
 detected from the first sixteen bytes (text if all are printable), and the output
@@ -43,7 +51,9 @@ Exit status
   2  a call was refused (a stream over the limit), a stream is empty, changed
      while it was read or is other than listed, or something could not be read
      or written
-show says so of its one item. convert and manifest give 0 if all was written.
+show says so of its one item. convert, manifest and expect give 0 if all was
+written. compare gives 0 if all is as expected, 1 if anything is otherwise, and 2
+for a file or report that is not well made, or nothing expected and nothing there.
 --help behind a command gives 2: nothing was judged.
 ";
 

@@ -112,12 +112,31 @@ fn limited(
     })
 }
 
+/// All of what is no stream, or in words why it could not be read.
+pub fn all(source: &Source, most: usize) -> Result<Vec<u8>, String> {
+    let read = match source {
+        Source::Standard => piped(most),
+        Source::File(path) => text(path, most),
+    };
+    read.map_err(|error| words::of_error(&error))
+}
+
+fn piped(most: usize) -> io::Result<Vec<u8>> {
+    let standard = io::stdin();
+    let watch = Watch::begin(File::from(standard.as_fd().try_clone_to_owned()?), None)?;
+    bounded(&mut standard.lock(), &watch, most)
+}
+
 /// All of a file that is no stream, if it has no more bytes than this.
 pub fn text(path: &Path, most: usize) -> io::Result<Vec<u8>> {
     let mut file = File::open(path)?;
     let watch = Watch::begin(file.try_clone()?, Some(path))?;
+    bounded(&mut file, &watch, most)
+}
+
+fn bounded(reader: &mut dyn Read, watch: &Watch, most: usize) -> io::Result<Vec<u8>> {
     let (mut bytes, past) = (Vec::new(), most.saturating_add(1));
-    filled(&mut file, &mut bytes, past, &mut Progress::none())?;
+    filled(reader, &mut bytes, past, &mut Progress::none())?;
     watch.end(bytes.len(), past)?;
     match bytes.len() > most {
         true => Err(io::Error::other(format!("longer than {most} bytes"))),

@@ -118,13 +118,13 @@ fn row(out: &mut dyn Write, input: &Input, row: &Item) -> io::Result<()> {
     write!(out, ",\"verdict\":{verdict}}}")
 }
 
-fn why(number: Number) -> String {
+pub fn why(number: Number) -> String {
     format!("\"number\":{number},\"meaning\":{}", quoted(number.words()))
 }
 
 /// A string of JSON, with nothing in it that a terminal would act on, and no
 /// blanks that would wrap what it shows.
-fn quoted(text: &str) -> String {
+pub fn quoted(text: &str) -> String {
     let mut quoted = String::from('"');
     for c in text.chars() {
         match c {

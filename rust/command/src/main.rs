@@ -1,4 +1,4 @@
-//! The command `cesr`: judges, converts and shows CESR streams.
+//! The command `cesr`: judges, converts, shows and compares CESR streams.
 //!
 //! Thin over the crate of the same name: what is said of a stream comes from
 //! the proved library, and what stands here reads, prints and counts.
@@ -17,8 +17,10 @@
 
 mod arguments;
 mod closed;
+mod compare;
 mod convert;
 mod excerpt;
+mod expect;
 mod expected;
 mod help;
 mod input;
@@ -66,6 +68,8 @@ fn done(task: Task) -> Standing {
         Task::Convert(task) => convert::run(&task, &mut out),
         Task::Show(task) => show::run(&task, &mut out),
         Task::Manifest(task) => listing::run(&task, &mut out),
+        Task::Compare(task) => compare::run(&task, &mut out),
+        Task::Expect(task) => expect::run(&task, &mut out),
         Task::Say(text, standing) => out.write_all(text.as_bytes()).map(|()| standing),
     };
     let written = standing.and_then(|standing| out.flush().map(|()| standing));

@@ -91,7 +91,8 @@ fn as_listed(input: Input, listed: Option<&Entry>) -> Result<Input, String> {
     }
 }
 
-fn judged(input: Input) -> Found {
+/// The stream judged, with memory that is asked for.
+pub fn judged(input: Input) -> Found {
     let room = match memory::zeros(Report::room(input.form, input.bytes.len())) {
         Ok(room) => room,
         Err(error) => return unread(&error),

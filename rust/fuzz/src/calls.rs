@@ -2,7 +2,7 @@
 //! the oracle with ordinary ones.
 
 use crate::fence::{Edge, Fence, LONGEST};
-use crate::input::{Call, Front, Room, LONG, LONG_UNITS};
+use crate::input::{Call, Front, Made, Room, LONG, LONG_UNITS};
 use crate::long;
 use proved::{Primitive, Refusal, State, Tag, STATE};
 use std::cell::RefCell;
@@ -37,6 +37,10 @@ thread_local! {
 pub fn one(input: &[u8]) {
     MEMORY.with_borrow_mut(|memory| {
         let mut front = Front(&input[..input.len().min(LONGEST / 8)]);
+        let made = Made {
+            of_verdicts: front.0.first().is_some_and(|byte| byte & 1 == 1),
+            of_stream: front.0.first().is_some_and(|byte| byte & 2 == 2),
+        };
         let (call, form, edge, too_long) = front.choice();
         memory.edge = edge;
         let long = front.0.first() == Some(&LONG);
@@ -54,6 +58,7 @@ pub fn one(input: &[u8]) {
                 let state = front.state();
                 walk(memory, form, &front.stream(form, long), state, 20);
             }
+            Call::Compare => compare(memory, form, front, made),
             _ => stream(memory, call, form, room, &front.stream(form, long)),
         }
     });
@@ -176,6 +181,37 @@ fn write(memory: &mut Memory, form: Form, room: Room, mut front: Front) {
     assert_eq!(answers.0, answers.1);
     assert_eq!(ours, theirs);
     assert_eq!(placed, raw);
+}
+
+/// A file with a report: both as bytes, or made of verdicts and of a stream.
+fn compare(memory: &mut Memory, form: Form, mut front: Front, made: Made) {
+    let expected = front.expected(made);
+    let report = match made.of_stream {
+        true => reported(form, front.0),
+        false => front.0.to_vec(),
+    };
+    let edge = memory.edge;
+    let file = placed(&mut memory.stream, edge, &expected);
+    let told = placed(&mut memory.out, edge, &report);
+    let counts = memory.numbers.numbers(edge, [NUMBER; 5]);
+    let mut others = [NUMBER; 5];
+    assert_eq!(
+        proved::compare(file, told, counts),
+        beside::compare(&expected, &report, &mut others)
+    );
+    assert_eq!(*counts, others);
+    assert_eq!((file, told), (&expected[..], &report[..]));
+}
+
+/// The oracle's report of a stream.
+fn reported(form: Form, stream: &[u8]) -> Vec<u8> {
+    let mut out = vec![0; 17 + 18 * stream.len()];
+    let length = match form {
+        Form::Text => beside::report_text(stream, &mut out),
+        Form::Binary => beside::report_binary(stream, &mut out),
+    };
+    out.truncate(length.unwrap_or(0));
+    out
 }
 
 /// Steps of both until one yields nothing; the offsets come back.

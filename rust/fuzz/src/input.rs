@@ -2,14 +2,15 @@
 //!
 //! | Byte | Meaning |
 //! | --- | --- |
-//! | 0 | call (bits 0 to 2), binary (bit 3), buffers against the page before them (bit 4), one too long (bits 5 to 7 all set) |
+//! | 0 | call (bits 0 to 2), binary (bit 3), buffers against the page before them (bit 4), one too long (bits 5 to 7 all set), a comparison (bits 6 and 7 alone of these set) |
 //! | 1 | room: just enough, one less, none, nine more, or the number itself; 255 just enough, and the stream is a long one |
-//! | then | read: two bytes of offset; walk from a state: the state; write: the primitive |
+//! | then | comparison: how the two are made (bits 0 to 2 of byte 0), the number of verdicts expected, these, and a remainder's number, or the file's length and the file; read: two bytes of offset; walk from a state: the state; write: the primitive |
 //! | then | the stream, or the raw value; of a long stream the last unit is taken over and over |
 
 use crate::fence::{Edge, LONGEST};
 use proved::{State, Tag, MAX_DEPTH, STATE, STATE_FIRST, STATE_OPEN, STATE_POSITION};
 use std::borrow::Cow;
+use streams::expectation::file;
 use streams::Form;
 
 /// Units of a long stream: a large header, and the least that it counts.
@@ -33,6 +34,8 @@ pub enum Call {
     ReadItems,
     /// Report, conversion and walk of one stream.
     All,
+    /// An expectation file with a report.
+    Compare,
 }
 
 pub const CALLS: [Call; 8] = [
@@ -45,6 +48,17 @@ pub const CALLS: [Call; 8] = [
     Call::ReadItems,
     Call::All,
 ];
+
+/// The first byte of a comparison, without its low bits.
+pub const COMPARE: u8 = 0xC0;
+
+/// How the two of a comparison are made: the file of verdicts or as bytes, the
+/// report of a stream or as bytes.
+#[derive(Clone, Copy, Debug, PartialEq, Eq)]
+pub struct Made {
+    pub of_verdicts: bool,
+    pub of_stream: bool,
+}
 
 /// How much room a buffer has.
 #[derive(Clone, Copy, Debug, PartialEq, Eq)]
@@ -92,11 +106,26 @@ impl Front<'_> {
         }
     }
 
+    /// The expectation file of a comparison; the report, or its stream, is what
+    /// is left.
+    pub fn expected(&mut self, made: Made) -> Vec<u8> {
+        let length = usize::from(self.byte());
+        let verdicts: Vec<u8> = (0..length).map(|_| self.byte()).collect();
+        match (made.of_verdicts, self.byte()) {
+            (false, _) => verdicts,
+            (true, 255) => file(&verdicts, &[]),
+            (true, number) => file(&verdicts, &[number]),
+        }
+    }
+
     /// Call, form, edge, and whether the stream is one element too long
     /// whatever the input holds.
     pub fn choice(&mut self) -> (Call, Form, Edge, bool) {
         let first = self.byte();
-        let call = CALLS[usize::from(first % 8)];
+        let call = match first & 0xE0 {
+            COMPARE => Call::Compare,
+            _ => CALLS[usize::from(first % 8)],
+        };
         let form = [Form::Text, Form::Binary][usize::from(first >> 3 & 1)];
         let edge = [Edge::End, Edge::Start][usize::from(first >> 4 & 1)];
         (call, form, edge, first >= 0xE0)

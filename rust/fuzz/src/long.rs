@@ -23,7 +23,7 @@ pub fn one(call: Call, form: Form, room: usize, mut front: Front) {
         Call::Read | Call::ReadItems => read(form, stream, room, front.number()),
         Call::Walk | Call::WalkFrom => walk(form, stream, front),
         Call::Write => write(form, room, front),
-        Call::Report | Call::Convert | Call::All => lent(form, stream, room),
+        Call::Report | Call::Convert | Call::All | Call::Compare => lent(form, stream, room),
     }
 }
 

@@ -5,6 +5,7 @@ use crate::input::{Call, Front, LONG};
 use crate::seeds::writes;
 use proved::MAX_DEPTH;
 use streams::damage::damage;
+use streams::expectation::{file, report, spoilt, varied, verdicts, FILE, REPORT};
 use streams::form::characters;
 use streams::generate::{any_item, large_code, LARGE_CODES, TOP};
 use streams::item::stream;
@@ -59,6 +60,7 @@ fn changed(random: &mut Random, input: &mut [u8], size: usize) -> Option<usize> 
         }
         Call::WalkFrom => drop(front.state()),
         Call::Read => drop(front.number()),
+        Call::Compare => return another_compare(random, input, size),
         _ if random.once_in(400) => return long_stream(random, form, input),
         _ => {}
     }
@@ -104,6 +106,24 @@ fn another_state(random: &mut Random, form: Form, stream: &[u8]) -> Vec<u8> {
         };
     }
     state
+}
+
+/// A comparison with its file or its report not well made, or verdicts varied.
+fn another_compare(random: &mut Random, input: &mut [u8], size: usize) -> Option<usize> {
+    let there = verdicts(random, 20);
+    let wanted = varied(random, &there);
+    let (left, over) = (random.below(2), random.below(2));
+    let mut expected = file(&wanted, &[4][..left]);
+    let mut told = report(random, &there, &[4][..over]);
+    match random.below(4) {
+        0 => expected = spoilt(random, &FILE, &expected),
+        1 => told = spoilt(random, &REPORT, &told),
+        2 => told = input[2..size].to_vec(),
+        _ => {}
+    }
+    input[0] &= !3;
+    let length = [expected.len() as u8];
+    replaced(input, 2, &[&length, &expected[..], &[0], &told].concat())
 }
 
 /// Where an input to write has its raw value's length.

@@ -1,9 +1,11 @@
 //! Inputs to start from: the papers' streams, an item of every code, large ones
-//! for few units too and around 4,096, groups around the depth limit, streams so long that conversion goes by its tables,
-//! a primitive of every code to write, some states.
+//! for few units too and around 4,096, groups around the depth limit, streams so
+//! long that conversion goes by its tables, a primitive of every code to write,
+//! some states, some comparisons.
 
-use crate::input::{Call, CALLS, LONG};
+use crate::input::{Call, CALLS, COMPARE, LONG};
 use streams::damage::GENUS_CODES;
+use streams::expectation::{file, report};
 use streams::form::FORMS;
 use streams::generate::{large_code, nested, one_code, CODES, LARGE_CODES};
 use streams::item::{stream, Item};
@@ -39,6 +41,7 @@ pub fn seeds() -> Vec<Vec<u8>> {
             seeds.push([&[choice(Call::All, form), LONG], &made[..]].concat());
         }
     }
+    seeds.extend(compares());
     seeds
 }
 
@@ -81,6 +84,24 @@ pub fn writes(form: Form) -> Vec<Vec<u8>> {
         }
     }
     writes
+}
+
+/// Files and reports as bytes; verdicts with a stream's own report, right and
+/// one off.
+fn compares() -> Vec<Vec<u8>> {
+    let mut random = Random::new(3);
+    let expected = file(&[4, 0], &[6]);
+    let (length, told) = (expected.len() as u8, report(&mut random, &[4, 0], &[6]));
+    let mut seeds = vec![[&[COMPARE, 0, length], &expected[..], &[0], &told].concat()];
+    for made in 1..4 {
+        for verdicts in [[4, 0], [4, 8]] {
+            for (remainder, stream) in [(255, "-AAB0AAAMAAB"), (6, "-AAB0AAAMAAB_AAA")] {
+                let head = [COMPARE | made, 0, 2];
+                seeds.push([&head, &verdicts[..], &[remainder], stream.as_bytes()].concat());
+            }
+        }
+    }
+    seeds
 }
 
 /// Three units in a group, from inside it; and a state that does not fit.

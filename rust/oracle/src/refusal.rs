@@ -45,6 +45,9 @@ pub const NOT_A_PRIMITIVE: u8 = 14;
 pub const NOT_SHORT: u8 = 18;
 /// 02 j: `+`, `/` or `=` of the ordinary alphabet.
 pub const ORDINARY_BASE64: u8 = 19;
+/// Expectation file or report: a missing count, a section shorter than its
+/// count says, a remainder count above 1, or bytes left over (02, n).
+pub const MALFORMED: u8 = 20;
 
 #[cfg(test)]
 mod tests {

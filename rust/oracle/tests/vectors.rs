@@ -7,6 +7,7 @@ mod common;
 
 use common::papers::{DIGESTS_OF_001, NUMBER, POST_PADDED_OF_001, SAD_PATHS, SHORTS_OF_002};
 use common::{around, nested};
+use oracle::compare::compare;
 use oracle::convert;
 use oracle::judge::MOST_GROUPS;
 use oracle::primitive::{self, Named, Primitive, Tag};
@@ -28,6 +29,7 @@ const WRITE_TEXT: u8 = 7;
 const WRITE_BINARY: u8 = 8;
 const WALK_TEXT: u8 = 9;
 const WALK_BINARY: u8 = 10;
+const COMPARE: u8 = 20;
 
 /// A walk's state: the ends, the number open, the position and the mark.
 const STATE: usize = MOST_GROUPS + 3;
@@ -65,6 +67,7 @@ impl Record {
             REPORT_TEXT => write_report(&self.input, Form::Text, &mut out),
             REPORT_BINARY => write_report(&self.input, Form::Binary, &mut out),
             READ_TEXT | READ_BINARY => return self.read_line(),
+            COMPARE => return self.compare_line(),
             WALK_TEXT => return self.step_lines(Form::Text, 4),
             WALK_BINARY => return self.step_lines(Form::Binary, 3),
             WRITE_TEXT => write(&self.input, Form::Text, &mut out),
@@ -95,6 +98,20 @@ impl Record {
             format!("{read} {} {} {items}", last.0, last.1),
         ]
         .join("\n")
+    }
+
+    /// A comparison: number and place, then the five numbers.
+    fn compare_line(&self) -> String {
+        let length = usize::from(u16::from_be_bytes([self.input[0], self.input[1]]));
+        let (file, report) = self.input[2..].split_at(length);
+        let told = compare(file, report);
+        let agree = usize::from(told.remainders_agree);
+        let counts = [told.passed, told.failed, told.not_reached, told.beyond];
+        let mut line = format!("{COMPARE} {} {}", told.number, told.place);
+        for count in counts.iter().chain(&[agree]) {
+            write!(line, " {count}").unwrap();
+        }
+        line
     }
 
     /// A mark that is neither 0 nor 1 fits no stream, and is no reader's.
@@ -714,6 +731,59 @@ fn walks(records: &mut Vec<Record>) {
     }
 }
 
+/// An expectation file: verdicts, and a remainder's number if any.
+fn expected(verdicts: &[u8], remainder: &[u8]) -> Vec<u8> {
+    let mut bytes = Vec::new();
+    for section in [verdicts, remainder] {
+        bytes.extend((section.len() as u32).to_be_bytes());
+        bytes.extend(section);
+    }
+    bytes
+}
+
+fn compare_both(records: &mut Vec<Record>, file: &[u8], report: &[u8]) {
+    let length = (file.len() as u16).to_be_bytes();
+    records.push(Record::new(COMPARE, 0, &[&length, file, report].concat()));
+}
+
+/// 01's report with expectations as many, fewer, more, and one off; reports
+/// with a remainder, and of nothing; then each beginning of a file and of a
+/// report, bytes left over, two remainders, a count that is too high, and rows
+/// of items that are a byte wider.
+fn compares(records: &mut Vec<Record>) {
+    let rest = oracle::report::report(b"MAABMQAA-AACMAAB", Form::Text).unwrap();
+    for report in [&REPORTED[..], &rest.bytes(), &[0; 12]] {
+        for remainder in [&[][..], &[4], &[0]] {
+            for verdicts in [&[][..], &[4], &[4, 0], &[0, 8], &[0, 0], &[4, 0, 0, 0]] {
+                compare_both(records, &expected(verdicts, remainder), report);
+            }
+        }
+    }
+    let (file, report) = (expected(&[0, 8], &[4]), rest.bytes());
+    for length in 0..file.len() {
+        compare_both(records, &file[..length], &report);
+    }
+    for length in 0..report.len() {
+        compare_both(records, &file, &report[..length]);
+    }
+    compare_both(records, &[&file[..], &[0]].concat(), &report);
+    compare_both(records, &file, &[&report[..], &[0]].concat());
+    compare_both(records, &expected(&[0, 8], &[4, 4]), &report);
+    let (items, last) = report.split_at(report.len() - 9);
+    let twice = [items, &[0, 0, 0, 2], &last[4..], &last[4..]].concat();
+    compare_both(records, &file, &twice);
+    for byte in 0..4 {
+        for (number, other) in [(0x80, &file), (1, &report)] {
+            let mut high = other.clone();
+            high[byte] ^= number;
+            compare_both(records, &high, &report);
+            compare_both(records, &file, &high);
+        }
+    }
+    let wider = [&[0, 0, 0, 1][..], &[0; 7], &[4, 0, 1], &[0; 8]].concat();
+    compare_both(records, &expected(&[0], &[]), &wider);
+}
+
 fn records() -> Vec<Record> {
     let mut records = Vec::new();
     for (text, binary) in WORKED {
@@ -731,6 +801,7 @@ fn records() -> Vec<Record> {
     walks(&mut records);
     ordinary(&mut records);
     examples(&mut records);
+    compares(&mut records);
     records
 }
 
@@ -782,7 +853,7 @@ fn the_files_say_what_the_oracle_says() {
         std::fs::write(file("stdin"), &input).unwrap();
         std::fs::write(file("stdout"), &expected).unwrap();
     }
-    assert!(input.len() < 131_072, "the program reads 131,072 bytes");
+    assert!(input.len() < 262_144, "the program reads 262,144 bytes");
     assert_eq!(std::fs::read(file("stdin")).unwrap(), input);
     assert_eq!(std::fs::read_to_string(file("stdout")).unwrap(), expected);
 }

@@ -1,6 +1,6 @@
 //! The calls as the archive has them; `include/cesr.h` says what each does.
 
-use crate::{Info, Item, State, Tag};
+use crate::{Counts, Info, Item, State, Tag};
 
 /// Stream, its length, buffer, its length, and where the answer goes: the
 /// length written if 0 is returned, else the place that goes with the number.
@@ -104,5 +104,12 @@ extern "C" {
         state: *mut State,
         item: *mut Item,
         answer: *mut usize,
+    ) -> u8;
+    pub fn cesr_compare(
+        expected: *const u8,
+        expected_length: usize,
+        report: *const u8,
+        report_length: usize,
+        answer: *mut Counts,
     ) -> u8;
 }

@@ -5,9 +5,11 @@
 //! few and on numbers, byte slices and arrays only: a slice is a pointer, then
 //! a length. The tests compare the answers with the oracle's.
 
+mod compare;
 mod declared;
 mod walk;
 
+pub use compare::{compare, Counts};
 pub use walk::{
     walk_binary, walk_text, Item, State, MAX_DEPTH, STATE, STATE_FIRST, STATE_OPEN, STATE_POSITION,
 };

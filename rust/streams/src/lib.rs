@@ -3,7 +3,8 @@
 //! `generate` makes items that are accepted, of every code, selector and
 //! nesting, and such that only their spelling is refused; `decks` the long streams that are timed; `damage` changes a stream
 //! in the ways that streams go wrong; `noise` makes streams that were never
-//! right; `papers` are the papers' own; `shrink` makes a failing stream small.
+//! right; `expectation` makes expected verdicts and reports to compare them
+//! with; `papers` are the papers' own; `shrink` makes a failing stream small.
 //! The codes are typed in from 003 (`table`), so nothing here is shared with
 //! the programs it tries.
 //!
@@ -13,6 +14,7 @@
 
 pub mod damage;
 pub mod decks;
+pub mod expectation;
 pub mod form;
 pub mod generate;
 pub mod item;

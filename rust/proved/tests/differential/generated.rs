@@ -1,6 +1,6 @@
 //! Generated streams and primitives, as many as asked for.
 
-use crate::{demand, demands, judges, say, setting, walks, writes};
+use crate::{compares, demand, demands, judges, say, setting, walks, writes};
 use std::panic::{catch_unwind, resume_unwind, AssertUnwindSafe};
 use std::sync::atomic::{AtomicU64, Ordering};
 use streams::damage::{cross, damage};
@@ -59,6 +59,7 @@ fn one_case(seed: u64, form: Form) {
     demand(&made, form, |s| judges::alike_in_short(s, form, seed));
     demand(&made, form, |s| walks::from_made_up(s, form, seed));
     demand(&made, form, |s| demands::damaged(s, form, seed));
+    demand(&made, form, |s| compares::of_stream(s, form, seed));
     match form {
         Form::Binary => demand(&made, form, demands::converted),
         Form::Text => demand(&made, form, demands::masked),
@@ -117,6 +118,16 @@ fn generated_writes() {
     let first = (setting("SEED", 1) << 40) + 0x3713;
     each("primitives written", |case| {
         if let Err(why) = writes::any(&mut Random::new(first + case)) {
+            panic!("{why}");
+        }
+    });
+}
+
+#[test]
+fn generated_compares() {
+    let first = (setting("SEED", 1) << 40) + 0x6E20;
+    each("expectations compared", |case| {
+        if let Err(why) = compares::any(&mut Random::new(first + case)) {
             panic!("{why}");
         }
     });

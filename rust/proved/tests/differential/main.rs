@@ -3,9 +3,10 @@
 //! test fails with the stream made small and printed.
 //!
 //! Seeded and repeatable. `CASES=1000000 cargo test --release --test
-//! differential generated -- --nocapture` judges so many generated streams and
-//! writes so many primitives; `SEED=7` others; `THREADS=2` on two cores.
+//! differential generated -- --nocapture` judges so many generated streams,
+//! writes so many primitives and compares so many expectations; `SEED=7` others; `THREADS=2` on two cores.
 
+mod compares;
 mod deck;
 mod demands;
 mod generated;

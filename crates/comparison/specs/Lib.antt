@@ -1,0 +1,4 @@
+pub mod Comparing
+pub mod Words
+pub mod Counts
+pub mod Passing

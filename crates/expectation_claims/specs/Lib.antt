@@ -1,0 +1,7 @@
+pub mod Words
+pub mod Claims
+pub mod Sections
+pub mod Malformed
+pub mod Answers
+pub mod Own
+pub mod Proved
