@@ -4,7 +4,7 @@
 use crate::fence::{Edge, Fence, LONGEST};
 use crate::input::{Call, Front, Room};
 use crate::long;
-use proved::{Primitive, Refusal, State, Tag, STATE};
+use proved::{Pause, Primitive, Refusal, State, Tag, STATE};
 use std::cell::RefCell;
 use streams::Form;
 
@@ -41,7 +41,7 @@ pub fn one(input: &[u8]) {
         memory.edge = edge;
         let room = front.room();
         if too_long {
-            return long::one(call, form, room.of(20), front);
+            return long::one(call, form, room, front);
         }
         match call {
             Call::Report => report(memory, form, room, front.0),
@@ -51,10 +51,15 @@ pub fn one(input: &[u8]) {
                 read(memory, form, room, front.0, at);
             }
             Call::Write => write(memory, form, room, front),
-            Call::Walk => drop(walk(memory, form, front.0, [0; STATE], usize::MAX)),
+            Call::Walk => {
+                let items = walk(memory, form, front.0, [0; STATE], usize::MAX).len();
+                let taken = slices(memory, form, front.0, [0; STATE], room.budget());
+                assert!(taken == items || room.budget() == 0);
+            }
             Call::WalkFrom => {
                 let state = front.state();
                 walk(memory, form, front.0, state, 20);
+                slices(memory, form, front.0, state, room.budget());
             }
             Call::ReadItems => {
                 for at in walk(memory, form, front.0, [0; STATE], 40) {
@@ -191,4 +196,27 @@ fn walk(memory: &mut Memory, form: Form, stream: &[u8], from: State, most: usize
     }
     assert_eq!(source, stream);
     offsets
+}
+
+/// Instalments of both until one is over for another reason than its budget,
+/// or takes nothing; how many items were taken.
+fn slices(memory: &mut Memory, form: Form, stream: &[u8], from: State, budget: usize) -> usize {
+    let [proved, oracle] = match form {
+        Form::Text => [proved::walk_on_text, beside::walk_on_text],
+        Form::Binary => [proved::walk_on_binary, beside::walk_on_binary],
+    };
+    let source = placed(&mut memory.stream, memory.edge, stream);
+    let state = memory.state.numbers(memory.edge, from);
+    let (mut told_state, mut items) = (from, 0);
+    loop {
+        let ours = proved(source, state, budget);
+        let told = oracle(stream, &mut told_state, budget);
+        assert_eq!((ours, &*state), (told, &told_state));
+        items += ours.items;
+        if ours.pause != Pause::Spent || budget == 0 {
+            break;
+        }
+    }
+    assert_eq!(source, stream);
+    items
 }

@@ -3,7 +3,7 @@
 //! | Byte | Meaning |
 //! | --- | --- |
 //! | 0 | call (bits 0 to 2), binary (bit 3), buffers against the page before them (bit 4), one too long (bits 5 to 7 all set) |
-//! | 1 | room: just enough, one less, none, nine more, or the number itself |
+//! | 1 | room: just enough, one less, none, nine more, or the number itself; of a walk the budget: without bound, 1, 0, 64, or the number itself |
 //! | then | read: two bytes of offset; walk from a state: the state; write: the primitive |
 //! | then | the stream, or the raw value |
 
@@ -58,6 +58,18 @@ impl Room {
             Room::Bytes(bytes) => bytes,
         };
         room.min(LONGEST)
+    }
+}
+
+impl Room {
+    /// The same byte as the budget of an instalment.
+    pub fn budget(self) -> usize {
+        match self {
+            Room::Exact => usize::MAX,
+            Room::OneLess => 1,
+            Room::More => 64,
+            Room::Bytes(items) => items,
+        }
     }
 }
 

@@ -14,6 +14,7 @@ pub mod alphabet;
 pub mod convert;
 pub mod form;
 pub mod frame;
+pub mod instalments;
 pub mod judge;
 pub mod primitive;
 pub mod refusal;
