@@ -14,13 +14,18 @@ pub enum Pause {
     Refused(Refusal),
 }
 
-/// Where a walk stands: ends and position in units.
+/// Where a walk stands: ends and position in units. In text no character in
+/// front of `known` is outside the alphabet.
 #[derive(Clone, Debug, Default, PartialEq, Eq)]
 pub struct Walk {
     ends: Vec<usize>,
     at: usize,
     first: bool,
+    known: usize,
 }
+
+/// Characters that are looked at ahead, at least.
+const AHEAD: usize = 4096;
 
 impl Walk {
     /// At most so many items further on in the same stream: how many, and why
@@ -48,17 +53,59 @@ impl Walk {
                 }
                 return (items, Pause::Refused(Refusal::new(4, self.at * U::SIZE)));
             }
-            let end = self.ends.last().copied().unwrap_or(units.len());
-            let ruled = self.ends.is_empty() || self.first;
-            match next(&units[self.at..end], self.ends.len(), ruled) {
+            match self.next(units) {
                 Ok(item) => self.pass(&item),
-                Err(refusal) => {
-                    let place = self.at * U::SIZE + refusal.place;
-                    return (items, Pause::Refused(Refusal { place, ..refusal }));
-                }
+                Err(refusal) => return (items, Pause::Refused(refusal)),
             }
         }
         (budget, Pause::Spent)
+    }
+
+    /// Frames and judges the next item; of a group that is opened the framing
+    /// and 11.
+    #[inline(always)]
+    fn next<U: Checked>(&mut self, units: &[U]) -> Result<Frame, Refusal> {
+        let end = self.ends.last().copied().unwrap_or(units.len());
+        let left = &units[self.at..end];
+        let start = self.at * U::SIZE;
+        let bad = self.stranger(units, self.at + left.len().min(2));
+        let clean = bad.map_or(usize::MAX, |place| place / U::SIZE - self.at);
+        let item = frame::<U, true>(left, clean).map_err(|number| match (number, bad) {
+            (5, Some(place)) => Refusal::new(5, place),
+            _ => Refusal::new(number, start),
+        })?;
+        let ruled = self.ends.is_empty() || self.first;
+        if item.class == Class::OtherGenus && ruled {
+            return Err(Refusal::new(7, start));
+        }
+        let group = item.class >= Class::Group && item.class <= Class::Opaque;
+        if group && self.ends.len() >= MOST_GROUPS {
+            return Err(Refusal::new(11, start));
+        }
+        if item.class.opens() {
+            return Ok(item);
+        }
+        if let Some(place) = self.stranger(units, self.at + item.size) {
+            return Err(Refusal::new(5, place));
+        }
+        match primitive(&left[..item.size], &item) {
+            0 => Ok(item),
+            number => Err(Refusal::new(number, start)),
+        }
+    }
+
+    /// The first character outside the alphabet in front of a unit; all before
+    /// the walk's place are inside.
+    #[inline(always)]
+    fn stranger<U: Checked>(&mut self, units: &[U], end: usize) -> Option<usize> {
+        let text = U::characters(units)?;
+        let end = end * U::SIZE;
+        if self.known >= end {
+            return None;
+        }
+        let to = text.len().min(end.max(self.known + AHEAD));
+        self.known = first_stranger(&text[..to], self.known).unwrap_or(to);
+        (self.known < end).then_some(self.known)
     }
 
     /// Into a group that is looked into, past anything else; groups that end
@@ -78,51 +125,21 @@ impl Walk {
     }
 }
 
-/// Units in which a character may be outside the alphabet.
+/// Units and, in text, their characters.
 trait Checked: Unit {
-    fn stranger(units: &[Self]) -> Option<usize>;
+    fn characters(units: &[Self]) -> Option<&[u8]>;
 }
 
 impl Checked for [u8; 4] {
     #[inline(always)]
-    fn stranger(units: &[Self]) -> Option<usize> {
-        first_stranger(units.as_flattened(), 0)
+    fn characters(units: &[Self]) -> Option<&[u8]> {
+        Some(units.as_flattened())
     }
 }
 
 impl Checked for [u8; 3] {
     #[inline(always)]
-    fn stranger(_: &[Self]) -> Option<usize> {
+    fn characters(_: &[Self]) -> Option<&[u8]> {
         None
-    }
-}
-
-/// Frames and judges the item that starts `left`, which is not empty; of a
-/// group that is opened the framing and 11. Places count from its start.
-#[inline(always)]
-fn next<U: Checked>(left: &[U], depth: usize, ruled: bool) -> Result<Frame, Refusal> {
-    let bad = U::stranger(&left[..left.len().min(2)]);
-    let clean = bad.map_or(usize::MAX, |place| place / U::SIZE);
-    let at = |number| match number {
-        5 => Refusal::new(5, bad.unwrap_or(0)),
-        _ => Refusal::new(number, 0),
-    };
-    let item = frame::<U, true>(left, clean).map_err(at)?;
-    if item.class == Class::OtherGenus && ruled {
-        return Err(Refusal::new(7, 0));
-    }
-    let group = item.class >= Class::Group && item.class <= Class::Opaque;
-    if group && depth >= MOST_GROUPS {
-        return Err(Refusal::new(11, 0));
-    }
-    if item.class.opens() {
-        return Ok(item);
-    }
-    if let Some(place) = U::stranger(&left[item.header..item.size]) {
-        return Err(Refusal::new(5, item.header * U::SIZE + place));
-    }
-    match primitive(&left[..item.size], &item) {
-        0 => Ok(item),
-        number => Err(Refusal::new(number, 0)),
     }
 }
