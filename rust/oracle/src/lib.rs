@@ -1,9 +1,10 @@
 //! An independent second opinion on CESR streams.
 //!
 //! Everything here is written from the papers alone: 003 (the registry), 01
-//! (what is built and its rules) and, where these leave a choice, the readings
-//! D1 to D53 of docs/DECISIONS.md. Comments name the sentence a line follows.
-//! Plain data, plain recursion: it is meant to be read beside 01.
+//! (what is built and its rules), 02 (its requests that have landed) and, where
+//! these leave a choice, the readings of docs/DECISIONS.md. Comments name the
+//! sentence a line follows. Plain data, plain recursion: it is meant to be read
+//! beside 01.
 //!
 //! Offsets and sizes are always in the stream's own measure: characters for
 //! text, bytes for binary.
