@@ -2,13 +2,14 @@
  *
  * Terms. T is text, in characters of URL-safe Base64; B is binary, in bytes. A unit is 4 characters in T, 3 bytes in B. Every call
  * returns a number: 0 for accepted, or one of the numbers below for refused. A refused call writes to no buffer, tag, info, item or
- * state: it writes only the place behind `answer`, and a comparison its five zeros. An accepted call writes its answer from the buffer's
- * start; bytes behind it stay. The place is the character for 5 and 19, else the item's start; 0 for 1, 2, 3, 12, 13, 20 and for a writer's
- * 6 and 18, and for a writer's 5 and 19 the index among the tag characters. Places, offsets and lengths count characters in T and bytes in
- * B. Where 5 stands in the order of a call, the first character outside the alphabet gives 5 or 19.
+ * state: it writes only the place behind `answer`, and a comparison its five zeros; a walk in instalments that is refused on the way has
+ * taken the items before it. An accepted call writes its answer from the buffer's start; bytes behind it stay. The place is the character
+ * for 5 and 19, else the item's start; 0 for 1, 2, 3, 12, 13, 20 and for a writer's 6 and 18, and for a writer's 5 and 19 the index among
+ * the tag characters. Places, offsets and lengths count characters in T and bytes in B. Where 5 stands in the order of a call, the first
+ * character outside the alphabet gives 5 or 19.
  *
- * What the caller ensures: no pointer is null, also where its length is 0; what is written (buffer, tag, info, item, state, answer)
- * overlaps nothing else that the call is given; each length is that of the memory behind its pointer. The library keeps nothing
+ * What the caller ensures: no pointer is null, also where its length is 0; what is written (buffer, tag, info, item, state, items,
+ * answer) overlaps nothing else that the call is given; each length is that of the memory behind its pointer. The library keeps nothing
  * between calls, allocates nothing and may be called from many threads at once. */
 #ifndef CESR_H
 #define CESR_H
@@ -122,6 +123,17 @@ uint8_t cesr_walk_text(const uint8_t *stream, size_t stream_len, size_t state[CE
 
 /* The same over a binary. */
 uint8_t cesr_walk_binary(const uint8_t *stream, size_t stream_len, size_t state[CESR_STATE], size_t item[6], size_t *answer);
+
+/* The walk over a text in instalments: on by at most budget items, which are judged and not told one by one. 0 where the budget was
+ * taken whole, 255 where the end came first, else the first refusal; 1 and 13 for a budget of 0 too. *items: how many were taken, those
+ * before a refusal too. *answer: the place of a refusal, else 0. The state goes on behind the items; with none, also where the call
+ * itself is refused 1 or 13, it stays as it was. Two calls in turn come to where one with both budgets does. */
+uint8_t cesr_walk_on_text(const uint8_t *stream, size_t stream_len, size_t state[CESR_STATE], size_t budget, size_t *items,
+                          size_t *answer);
+
+/* The same over a binary. */
+uint8_t cesr_walk_on_binary(const uint8_t *stream, size_t stream_len, size_t state[CESR_STATE], size_t budget, size_t *items,
+                            size_t *answer);
 
 /* What answer holds after a comparison; refused, all of it is 0. */
 enum cesr_compared {

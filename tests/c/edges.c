@@ -108,6 +108,7 @@ static void streams_of(size_t items) {
 /* ---- the walk */
 
 typedef uint8_t walks(const uint8_t *, size_t, size_t *, size_t *, size_t *);
+typedef uint8_t walks_on(const uint8_t *, size_t, size_t *, size_t, size_t *, size_t *);
 
 /* All steps from a position on: the number that the last one gave. */
 static uint8_t walk_from(walks *call, const uint8_t *source, size_t length, size_t position) {
@@ -131,9 +132,26 @@ static uint8_t walk_from(walks *call, const uint8_t *source, size_t length, size
     return number;
 }
 
+/* The same in instalments of a budget: the number that the last one gave, and how many items there were. */
+static uint8_t walk_on_from(walks_on *call, const uint8_t *source, size_t length, size_t position, size_t budget, size_t *all) {
+    size_t *state = exact(CESR_STATE * sizeof *state), *items = exact(sizeof *items), *answer = exact(sizeof *answer);
+    uint8_t number = 0;
+    memset(state, 0, CESR_STATE * sizeof *state);
+    state[CESR_STATE_POSITION] = position;
+    for (*all = 0; number == 0; *all += *items) {
+        number = call(source, length, state, budget, items, answer);
+        calls++;
+        check(number == 0 ? *items == budget : *items < budget, "the budget, or less at the last", length);
+    }
+    free(state);
+    free(items);
+    free(answer);
+    return number;
+}
+
 /* A stream cut short at each of its places, so that each header and value runs past the end of its memory. The walk of the whole one
  * ends as told. */
-static void cut_short(lent *report, walks *walk, const uint8_t *whole, size_t size, uint8_t told) {
+static void cut_short(lent *report, walks *walk, walks_on *walk_on, const uint8_t *whole, size_t size, uint8_t told) {
     for (size_t length = 0; length <= size; length++) {
         size_t room = 17 + 18 * (length / 3);
         uint8_t *out = exact(room), *source = copied(whole, length);
@@ -143,6 +161,10 @@ static void cut_short(lent *report, walks *walk, const uint8_t *whole, size_t si
         check(held(out, *answer, room), "bytes behind the report stay", length);
         uint8_t last = walk_from(walk, source, length, 0);
         check(length == size ? last == told : last == CESR_END || last == CESR_PAST_END, "the end, or an item that passes it", length);
+        size_t items, others;
+        check(walk_on_from(walk_on, source, length, 0, 1, &items) == last, "one by one", length);
+        check(walk_on_from(walk_on, source, length, 0, 3, &others) == last && others == items, "by threes", length);
+        check(walk_on_from(walk_on, source, length, 0, SIZE_MAX, &others) == last && others == items, "at once", length);
         check(memcmp(source, whole, length) == 0, "the stream stays", length);
         free(out);
         free(source);
@@ -154,8 +176,8 @@ static void cut_in_both_forms(const char *text, uint8_t told) {
     size_t length = strlen(text), answer = 0;
     uint8_t *binary = exact(length / 4 * 3);
     check(cesr_text_to_binary((const uint8_t *)text, length, binary, length / 4 * 3, &answer) == 0, "whole units", length);
-    cut_short(cesr_report_text, cesr_walk_text, (const uint8_t *)text, length, told);
-    cut_short(cesr_report_binary, cesr_walk_binary, binary, length / 4 * 3, told);
+    cut_short(cesr_report_text, cesr_walk_text, cesr_walk_on_text, (const uint8_t *)text, length, told);
+    cut_short(cesr_report_binary, cesr_walk_binary, cesr_walk_on_binary, binary, length / 4 * 3, told);
     free(binary);
 }
 
@@ -276,6 +298,10 @@ static void walking_at_the_limit(const uint8_t *text, const uint8_t *binary) {
     size_t last = TEXT_LIMIT / 4 - 1;
     check(walk_from(cesr_walk_text, just_text, TEXT_LIMIT, last) == CESR_END, "the end of a text", TEXT_LIMIT);
     check(walk_from(cesr_walk_binary, just_binary, BINARY_LIMIT, last) == CESR_END, "the end of a binary", BINARY_LIMIT);
+    size_t items;
+    check(walk_on_from(cesr_walk_on_text, just_text, TEXT_LIMIT, 0, 1000, &items) == CESR_END, "all of a text", TEXT_LIMIT);
+    check(items == TEXT_LIMIT / 4, "an item a unit", TEXT_LIMIT);
+    check(walk_on_from(cesr_walk_on_text, text, TEXT_LIMIT + 1, 0, 1, &items) == CESR_TOO_LONG, "too long a text", TEXT_LIMIT);
     check(walk_from(cesr_walk_text, text, TEXT_LIMIT + 1, last) == CESR_TOO_LONG, "too long a text", TEXT_LIMIT);
     check(walk_from(cesr_walk_binary, binary, BINARY_LIMIT + 1, last) == CESR_TOO_LONG, "too long a binary", BINARY_LIMIT);
     free(just_text);

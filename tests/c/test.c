@@ -258,6 +258,38 @@ static void walking(void) {
     no_step("MAAB", state, 13, 0);
 }
 
+/* ---- the walk in instalments */
+
+/* One instalment: what it answers, and how many units on the state is; with no item all of the state stays. */
+static void take(const char *text, size_t *state, size_t budget, uint8_t number, size_t items, size_t place, size_t position) {
+    size_t before[CESR_STATE], taken = 99, answer = 99;
+    memcpy(before, state, sizeof before);
+    check(cesr_walk_on_text(bytes(text), strlen(text), state, budget, &taken, &answer) == number, "number", text);
+    check(taken == items && answer == place, "items and place", text);
+    check(state[CESR_STATE_POSITION] == position, "position", text);
+    check(items > 0 || memcmp(state, before, sizeof before) == 0, "with no item the state stays", text);
+}
+
+static void instalments(void) {
+    static const char text[] = "-AABMAABMAABMQAA"; /* a group, its item, an item, then an 8 */
+    size_t state[CESR_STATE] = {0}, whole[CESR_STATE] = {0};
+    take(text, state, 0, CESR_ACCEPTED, 0, 0, 0);
+    take(text, state, 1, CESR_ACCEPTED, 1, 0, 1);
+    check(state[0] == 2 && state[CESR_STATE_OPEN] == 1 && state[CESR_STATE_FIRST] == 1, "in the group", text);
+    take(text, state, 2, CESR_ACCEPTED, 2, 0, 3);
+    take(text, state, 0, CESR_ACCEPTED, 0, 0, 3);
+    take(text, state, 1, CESR_NOT_ZERO, 0, 12, 3);
+    take(text, whole, SIZE_MAX, CESR_NOT_ZERO, 3, 12, 3);
+    check(memcmp(state, whole, sizeof state) == 0, "three and one in turn are four", text);
+    memset(state, 0, sizeof state);
+    take("MAABMAAB", state, 2, CESR_ACCEPTED, 2, 0, 2);
+    take("MAABMAAB", state, 1, CESR_END, 0, 0, 2);
+    take("MAAB", state, 0, CESR_UNFIT_STATE, 0, 0, 2);
+    take("MAAB", state, 9, CESR_UNFIT_STATE, 0, 0, 2);
+    state[CESR_STATE_FIRST] = 2;
+    take("MAABMAAB", state, 0, CESR_UNFIT_STATE, 0, 0, 2);
+}
+
 /* So many `-J` groups, each holding the next one alone. */
 static void nest(char *text, size_t groups) {
     static const char digits[] = "ABCDEFGHIJKLMNOPQRSTUVWXYZabcdefghijklmnopqrstuvwxyz0123456789-_";
@@ -310,6 +342,11 @@ static void binary_walk(void) {
     check(cesr_walk_binary(stream, 6, state, item, &answer) == 0 && item[0] == 0 && item[1] == 6, "group", "F80001");
     check(cesr_walk_binary(stream, 6, state, item, &answer) == 0 && item[0] == 3 && item[2] == 1, "inner", "300001");
     check(cesr_walk_binary(stream, 6, state, item, &answer) == CESR_END && item[0] == 3, "end", "300001");
+    size_t items = 99;
+    memset(state, 0, sizeof state);
+    check(cesr_walk_on_binary(stream, 6, state, 1, &items, &answer) == 0 && items == 1, "one item", "F80001");
+    check(state[CESR_STATE_POSITION] == 1 && state[CESR_STATE_OPEN] == 1, "in the group", "F80001");
+    check(cesr_walk_on_binary(stream, 6, state, 9, &items, &answer) == CESR_END && items == 1, "one more, the end", "F80001");
 }
 
 /* ---- expected verdicts and a report */
@@ -358,6 +395,7 @@ int main(void) {
     reading();
     writing();
     walking();
+    instalments();
     binary_walk();
     depths();
     sizes();

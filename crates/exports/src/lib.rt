@@ -29,6 +29,9 @@ ghost use Rattle.exports_values.specs.Counts.{countsOf};
 ghost use Rattle.exports_values.specs.Lent.{walkOf};
 ghost use Rattle.exports_values.specs.Lent.{textStepNumber, textStepValue, textYieldLeft, textStateLeft};
 ghost use Rattle.exports_values.specs.Lent.{binaryStepNumber, binaryStepValue, binaryYieldLeft, binaryStateLeft};
+ghost use Rattle.instalments.specs.Instalments.{walkOn};
+ghost use Rattle.instalments.specs.Numbers.{pauseNumber, pausePlace};
+ghost use Rattle.exports_instalments.specs.Answers.{stateBehind};
 
 // answer: the length written, or the place in the text.
 #[no_mangle]
@@ -316,6 +319,42 @@ pub extern "C" fn cesr_walk_binary(
             255
         }
     }
+}
+
+// At most so many items of a text from the state on; items: how many were taken; answer: the place of a refusal, else 0. With no item the state
+// stays as it was.
+#[no_mangle]
+pub extern "C" fn cesr_walk_on_text(
+    stream: &[u8],
+    state: &mut [usize; STATE],
+    budget: usize,
+    items: &mut usize,
+    answer: &mut usize,
+) -> u8
+    ensures { λ r. ⌜ r ≡ pauseNumber (walkOn text (now (stream .entry)) budget (walkOf (now (state .entry))) .pause) ⌝ }
+    ensures { λ r. ⌜ now (answer .exit) ≡ pausePlace (walkOn text (now (stream .entry)) budget (walkOf (now (state .entry))) .pause) ⌝ }
+    ensures { λ r. ⌜ now (items .exit) ≡ walkOn text (now (stream .entry)) budget (walkOf (now (state .entry))) .items ⌝ }
+    ensures { λ r. ⌜ now (state .exit) ≡ stateBehind (walkOn text (now (stream .entry)) budget (walkOf (now (state .entry)))) (now (state .entry)) ⌝ }
+{
+    exports_instalments::walk_on(Form::Text, stream, state, budget, items, answer)
+}
+
+// At most so many items of a binary from the state on; items: how many were taken; answer: the place of a refusal, else 0. With no item the state
+// stays as it was.
+#[no_mangle]
+pub extern "C" fn cesr_walk_on_binary(
+    stream: &[u8],
+    state: &mut [usize; STATE],
+    budget: usize,
+    items: &mut usize,
+    answer: &mut usize,
+) -> u8
+    ensures { λ r. ⌜ r ≡ pauseNumber (walkOn binary (now (stream .entry)) budget (walkOf (now (state .entry))) .pause) ⌝ }
+    ensures { λ r. ⌜ now (answer .exit) ≡ pausePlace (walkOn binary (now (stream .entry)) budget (walkOf (now (state .entry))) .pause) ⌝ }
+    ensures { λ r. ⌜ now (items .exit) ≡ walkOn binary (now (stream .entry)) budget (walkOf (now (state .entry))) .items ⌝ }
+    ensures { λ r. ⌜ now (state .exit) ≡ stateBehind (walkOn binary (now (stream .entry)) budget (walkOf (now (state .entry)))) (now (state .entry)) ⌝ }
+{
+    exports_instalments::walk_on(Form::Binary, stream, state, budget, items, answer)
 }
 
 // ---- expected verdicts and a report

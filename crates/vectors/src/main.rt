@@ -7,9 +7,13 @@
 // one it is chars, letter and number of tag characters (1 byte each), eleven tag places and the raw value. For a step of the walk it
 // is the numbers of the state (1 byte each) and the stream; the line has the state and the item's numbers afterwards. A step is
 // made again through a reader, call 11 for a text and 12 for a binary, and a third line counts the items that are left from there on.
+// For an instalment, call 13 or 14, the room is the budget; the line has the items taken and the state afterwards. It is made again with
+// the state by value, call 15 or 16.
 // To compare (call 20), the input is the expectation file's length (2 bytes), the file and the report; the line has the five numbers.
 use exports_values::MARK;
 use exports_values::STATE;
+use instalments::BinaryPause;
+use instalments::TextPause;
 use libc::STDIN_FILENO;
 use recorded::number;
 use recorded::wide;
@@ -223,6 +227,71 @@ fn step_from(call: u8, src: &[u8]) {
     }
 }
 
+// ---- an instalment of the walk
+
+fn show_slice(call: u8, number: u8, value: usize, items: usize, state: [usize; STATE]) {
+    recorded::show_answer(call, number, value);
+    recorded::show_number(items);
+    recorded::show_numbers(&state);
+    recorded::end_line();
+}
+
+fn walk_on(call: u8, stream: &[u8], before: [usize; STATE], budget: usize) {
+    let mut value = 0;
+    let mut items = 0;
+    let mut state = before;
+    if call == 13 {
+        let number = exports::cesr_walk_on_text(stream, &mut state, budget, &mut items, &mut value);
+        show_slice(call, number, value, items, state);
+        return;
+    }
+    let number = exports::cesr_walk_on_binary(stream, &mut state, budget, &mut items, &mut value);
+    show_slice(call, number, value, items, state);
+}
+
+fn walk_on_text(stream: &[u8], before: Walk, budget: usize) {
+    let walked = instalments::walk_on_text(before, stream, budget);
+    let pause = walked.pause;
+    let items = walked.items;
+    let state = exports_values::state_of(walked.next);
+    match pause {
+        TextPause::Spent => show_slice(15, 0, 0, items, state),
+        TextPause::End => show_slice(15, 255, 0, items, state),
+        TextPause::Refused { number, place } => show_slice(15, number, place.0, items, state),
+    }
+}
+
+fn walk_on_binary(stream: &[u8], before: Walk, budget: usize) {
+    let walked = instalments::walk_on_binary(before, stream, budget);
+    let pause = walked.pause;
+    let items = walked.items;
+    let state = exports_values::state_of(walked.next);
+    match pause {
+        BinaryPause::Spent => show_slice(16, 0, 0, items, state),
+        BinaryPause::End => show_slice(16, 255, 0, items, state),
+        BinaryPause::Refused { number, place } => show_slice(16, number, place.0, items, state),
+    }
+}
+
+fn walk_on_from(call: u8, src: &[u8], budget: usize) {
+    let n = src.len();
+    if n < STATE {
+        return;
+    }
+    let before = state_from(src);
+    let stream = &src[STATE..n];
+    walk_on(call, stream, before, budget);
+    if 1 < before[MARK] {
+        return;
+    }
+    let walk = exports_values::walk_of(before);
+    if call == 13 {
+        walk_on_text(stream, walk, budget);
+        return;
+    }
+    walk_on_binary(stream, walk, budget);
+}
+
 // ---- expected verdicts and a report
 
 fn show_counts(number: u8, counts: [usize; 5]) {
@@ -269,7 +338,11 @@ fn run(call: u8, src: &[u8], out: &mut [u8]) {
         compare_from(src);
         return;
     }
-    step_from(call, src);
+    if call < 13 {
+        step_from(call, src);
+        return;
+    }
+    walk_on_from(call, src, out.len());
 }
 
 fn whole(call: u8, src: &[u8], out: &mut [u8]) {

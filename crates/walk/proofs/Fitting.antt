@@ -1,5 +1,5 @@
--- What 13's test says of a state that passes it. Assumes nothing.
-use mathlib.Core.Path.{_≡_, refl}
+-- What 13's test says of a state that passes it, and where its next item is looked for. Assumes nothing.
+use mathlib.Core.Path.{_≡_, refl, sym, _∙_}
 use mathlib.Core.Bool.{Bool, true, false, not}
 use mathlib.Core.Logic.{⊎-elim}
 use mathlib.Core.List.{List}
@@ -7,17 +7,25 @@ use Prim.Native.Nat.{ℕ, zero, suc, _-_, _<_, _≤_}
 use native.Mathlib.Numerals.{sub-one}
 use native.Mathlib.Omega.{arith}
 use lib.Dec.{ltb, leb, eqb}
-use lib.ListN.{getD}
-use borrow.Author.Tests.{lt-ltb, ne-eqb, ltb-true, leb-true, eqb-false}
+use lib.ListN.{length, getD}
+use borrow.Author.Tests.{lt-ltb, le-ltb, le-leb, lt-leb, ne-eqb, ltb-true, ltb-false, leb-true, eqb-false}
 use Rattle.base.specs.Pick.{pick, pick-by}
 use Rattle.base.specs.Cases.{lt-or-ge}
+use Rattle.format.specs.declared.Form.{Form}
+use Rattle.format.specs.Units.{domain}
 use Rattle.format.specs.Judging.{maxDepth}
 use Rattle.walk_state.specs.declared.Walk.{Walk}
 use Rattle.walk_state.specs.Walking.{allBelow, slotFits, isFit, stopOf}
+use Rattle.walk.specs.declared.Extent.{Extent}
+use Rattle.walk.specs.Stepping.{unitsIn, Fits, Measured, Near, isNear}
 
 both : (b x : Bool) → pick b x false ≡ true → (b ≡ true) × (x ≡ true)
 both true x h = (refl, h)
 both false x h = let z : _≡_ {A = ℕ} 0 1 = cc in absurd (omega arith)
+
+neither : (b x : Bool) → pick b false x ≡ true → (b ≡ false) × (x ≡ true)
+neither true x h = let z : _≡_ {A = ℕ} 0 1 = cc in absurd (omega arith)
+neither false x h = (refl, h)
 
 -- what holds of every number below n holds of each
 pub all-at : (p : ℕ → Bool) (n k : ℕ) → k < n → allBelow p n ≡ true → p k ≡ true
@@ -70,18 +78,59 @@ module _ (w : Walk) (n : ℕ) (h : isFit w n ≡ true) where
       pick-by (λ (m : ℕ). m ≤ n) (eqb (w .depth) 0) n (getD (w .ends) (w .depth - 1) 0) (λ _. omega arith)
       (λ e. ends-within (w .ends) (w .depth) n fit-few (tests .2) (w .depth - 1) (omega (arith, eqb-false (w .depth) 0 e)))
 
-  -- the position stands before the innermost end, or the stream's
-  pub fit-ahead : (w .at ≡ n → ⊥) → w .at < stopOf w n
+  -- the position stands before the innermost end, or not past the stream's
+  pub fit-order : w .at ≤ stopOf w n
   unfolding stopOf
-  fit-ahead ne =
-      pick-by (λ (m : ℕ). w .at < m) (eqb (w .depth) 0) n (getD (w .ends) (w .depth - 1) 0) (λ _. omega (arith, fit-there))
-      (λ e. ltb-true (w .at) (getD (w .ends) (w .depth - 1) 0) (rw e at (tests .3)))
+  fit-order =
+      pick-by (λ (m : ℕ). w .at ≤ m) (eqb (w .depth) 0) n (getD (w .ends) (w .depth - 1) 0) (λ _. fit-there)
+      (λ e. omega (arith, ltb-true (w .at) (getD (w .ends) (w .depth - 1) 0) (rw e at (tests .3))))
 
--- a fit state that is not at the stream's end
-pub record Going (w : Walk) (n : ℕ) : Type 0 where
-  pub few : w .depth ≤ maxDepth
-  pub ahead : w .at < stopOf w n
-  pub stop : stopOf w n ≤ n
+-- ---- where the next item is looked for
 
-pub going : (w : Walk) (n : ℕ) → isFit w n ≡ true → (w .at ≡ n → ⊥) → Going w n
-going w n h ne = record { few = fit-few w n h; ahead = fit-ahead w n h ne; stop = fit-stop w n h }
+-- the test, as the code goes
+module _ (w : Walk) (e : Extent) where
+  pub near-over : e .over ≡ true → false ≡ isNear w e
+  unfolding isNear
+  near-over o = rw o
+
+  module _ (o : e .over ≡ false) where
+    pub near-many : maxDepth < w .depth → false ≡ isNear w e
+    unfolding isNear
+    near-many h = rw (o, lt-leb _ _ h)
+
+    module _ (few : w .depth ≤ maxDepth) {stop : ℕ} (s : stop ≡ stopOf w (e .units)) where
+      pub near-behind : stop < w .at → false ≡ isNear w e
+      unfolding isNear
+      near-behind h = rw (o, le-leb _ _ few, ← s, lt-leb _ _ h)
+
+      pub near-last : w .at ≤ stop → leb stop (e .units) ≡ isNear w e
+      unfolding isNear
+      near-last h = rw (o, le-leb _ _ few, ← s, le-leb _ _ h)
+
+pub fit-near : (form : Form) (xs : List ℕ) (w : Walk) → Fits form xs w → {n : ℕ} → n ≡ unitsIn (domain form) xs → Near form xs n w
+fit-near form xs w f {n} e =
+    let h : isFit w n ≡ true = rw e (f .fit) in
+    record { few = f .few; units = e; slots = fit-few w n h; order = fit-order w n h; room = fit-stop w n h }
+
+module _ (form : Form) (xs : List ℕ) (w : Walk) (e : Extent) (m : Measured form xs e) where
+  -- the test says so
+  pub near-is : isNear w e ≡ true → Near form xs (e .units) w
+  unfolding isNear
+  near-is h =
+      let a = neither (e .over) _ h in
+      let b = both (leb (w .depth) maxDepth) _ (a .1) in
+      let c = both (leb (w .at) (stopOf w (e .units))) (leb (stopOf w (e .units)) (e .units)) (b .1) in
+      record {
+        few = ltb-false (domain form .limit) (length xs) (sym (m .limit) ∙ a .0);
+        units = m .units;
+        slots = leb-true _ _ (b .0);
+        order = leb-true _ _ (c .0);
+        room = leb-true _ _ (c .1);
+      }
+
+  -- and a state that fits passes it
+  pub is-near : Fits form xs w → isNear w e ≡ true
+  unfolding isNear
+  is-near f =
+      let n = fit-near form xs w f (m .units) in
+      rw (m .limit, le-ltb (domain form .limit) (length xs) (f .few), le-leb _ _ (n .slots), le-leb _ _ (n .order), le-leb _ _ (n .room))

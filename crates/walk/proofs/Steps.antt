@@ -8,7 +8,7 @@ use Prim.Native.Nat.{ℕ, _+_, _-_, _*_, _/_, _%_, _<_, _≤_}
 use native.Mathlib.Omega.{arith}
 use lib.Dec.{ltb, eqb}
 use lib.ListN.{length, take}
-use borrow.Author.Tests.{eq-eqb, ne-eqb, ltb-false, eqb-true, eqb-false}
+use borrow.Author.Tests.{eq-eqb, ne-eqb, ltb-false, le-ltb, eqb-true, eqb-false}
 use Rattle.base.specs.Pick.{pick, pick-by}
 use Rattle.base.specs.Cases.{whether}
 use Rattle.format.specs.declared.Kind.{Kind}
@@ -38,9 +38,9 @@ use Rattle.walk_state.specs.Moving.{stepOver}
 use Rattle.walk_state.specs.Lent.{walkAt, Moves}
 use Rattle.walk_state.proofs.Laws.{steps-into, steps-past}
 use Rattle.walk_state.proofs.Lent.{own-moved}
+use Rattle.walk.specs.declared.Extent.{Extent}
 use Rattle.walk.specs.declared.Moved.{Moved}
-use Rattle.walk.specs.Stepping.{isAsked, placeOf, foundBy, isItem, Steps, partStep, unitsIn, reach, Slotted, Ready, Spans, Fits, Measured, InReach}
-use Rattle.walk.proofs.Fitting.{fit-few, fit-there, fit-stop, fit-ahead}
+use Rattle.walk.specs.Stepping.{isAsked, placeOf, foundBy, inElements, isItem, Steps, partStep, unitsIn, Fits, reach, Slotted, Ready, Spans, Near, Measured, InReach}
 
 -- ---- the next state
 
@@ -127,17 +127,16 @@ by-part w s b (Item k h′ n) h long e =
     rw (c, part-take s (w .at) n b i) (judged-told w k h′ n _)
 
 -- a part of a stream within the limit
-part-few : (w : Walk) (s : List ℕ) (n : ℕ) → isFit w n ≡ true → 4 * n ≤ length s → 4 * n ≤ reach
+part-few : (w : Walk) (s : List ℕ) (n : ℕ) → stopOf w n ≤ n → 4 * n ≤ length s → 4 * n ≤ reach
     → length (part s (w .at) (stopOf w n)) ≤ reach
-part-few w s n fit whole b = omega (arith, part-length s (w .at) (stopOf w n) (omega (arith, fit-stop w n fit)), fit-stop w n fit)
+part-few w s n room whole b = omega (arith, part-length s (w .at) (stopOf w n) (omega arith))
 
-module _ (w : Walk) (s : List ℕ) (n : ℕ) (tail : Bool) (fit : isFit w n ≡ true) (whole : 4 * n ≤ length s) where
-  fit-step : (w .at ≡ n → ⊥) → stepFit s n tail w ≡ partStep w (part s (w .at) (stopOf w n))
+module _ (w : Walk) (s : List ℕ) (n : ℕ) (tail : Bool) (order : w .at ≤ stopOf w n) (room : stopOf w n ≤ n) (whole : 4 * n ≤ length s) where
+  near-step : (w .at ≡ n → ⊥) → stepFit s n tail w ≡ partStep w (part s (w .at) (stopOf w n))
   unfolding stepFit partStep nextOwn
-  fit-step ne =
+  near-step ne =
       rw (ne-eqb (w .at) n ne, asked-frame w (part s (w .at) (stopOf w n)))
-      (by-part w s (stopOf w n) (frameNext (isAsked (placeOf w)) (part s (w .at) (stopOf w n))) (omega (arith, fit-ahead w n fit ne))
-      (omega (arith, fit-stop w n fit)) refl)
+      (by-part w s (stopOf w n) (frameNext (isAsked (placeOf w)) (part s (w .at) (stopOf w n))) order (omega arith) refl)
 
   at-end : w .at ≡ n → stepFit s n tail w ≡ record { next = w; found = pick tail (F.Refused 4 (4 * w .at)) F.End }
   unfolding stepFit
@@ -146,8 +145,8 @@ module _ (w : Walk) (s : List ℕ) (n : ℕ) (tail : Bool) (fit : isFit w n ≡ 
   step-reach : 4 * n ≤ reach → InReach (stepFit s n tail w .found)
   step-reach b =
       ⊎-elim (λ e. rw (at-end (eqb-true (w .at) n e)) (pick-by InReach tail (F.Refused 4 (4 * w .at)) F.End (λ _. tt) (λ _. tt)))
-      (λ e. rw (fit-step (eqb-false (w .at) n e))
-      (part-reach w (part s (w .at) (stopOf w n)) (omega (arith, fit-there w n fit)) (part-few w s n fit whole b)))
+      (λ e. rw (near-step (eqb-false (w .at) n e))
+      (part-reach w (part s (w .at) (stopOf w n)) (omega arith) (part-few w s n room whole b)))
       (whether (eqb (w .at) n))
 
 -- ---- the same in a form
@@ -165,7 +164,7 @@ whole-units : (form : Form) (xs : List ℕ) (k : ℕ) → k ≤ unitsIn (domain 
 whole-units Text xs k h = omega arith
 whole-units Binary xs k h = omega arith
 
-module _ (form : Form) (xs : List ℕ) (n : ℕ) (w : Walk) (H : Fits form xs n w) where
+module _ (form : Form) (xs : List ℕ) (n : ℕ) (w : Walk) (H : Near form xs n w) where
   near : 4 * n ≤ reach
   near = rw (H .units) (near-units form xs (H .few))
 
@@ -173,38 +172,38 @@ module _ (form : Form) (xs : List ℕ) (n : ℕ) (w : Walk) (H : Fits form xs n 
   whole = rw (H .units, ← (reader form .units xs)) (omega arith)
 
   pub at-near : w .at ≤ reach
-  at-near = omega (arith, near, fit-there w n (H .fit))
+  at-near = omega (arith, near, H .order, H .room)
 
   here : (tail : Bool) → w .at ≡ n → record { next = w; found = pick tail (F.Refused 4 (4 * w .at)) F.End } ≡ stepFit (domain form .sextets xs) n tail w
-  here tail e = sym (at-end w (domain form .sextets xs) n tail (H .fit) whole e)
+  here tail e = sym (at-end w (domain form .sextets xs) n tail (H .order) (H .room) whole e)
 
   module _ (ne : w .at ≡ n → ⊥) (stop : ℕ) (es : stop ≡ stopOf w n) where
     pub spans : Spans form xs (placeOf w) stop
     spans = record {
-      slots = fit-few w n (H .fit);
-      order = omega (arith, fit-ahead w n (H .fit) ne);
-      room = whole-units form xs stop (omega (arith, fit-stop w n (H .fit), H .units));
+      slots = H .slots;
+      order = omega (arith, H .order);
+      room = whole-units form xs stop (omega (arith, H .room, H .units));
       few = H .few;
     }
 
     module _ (item : Framed) (ei : item ≡ nextOwn (isAsked (placeOf w)) (part (domain form .sextets xs) (w .at) stop) (maxDepth - w .depth)) where
       pub goes-ready : Ready (placeOf w) item
-      goes-ready = ready w _ item (rw es (part-few w (domain form .sextets xs) n (H .fit) whole near)) ei
+      goes-ready = ready w _ item (rw es (part-few w (domain form .sextets xs) n (H .room) whole near)) ei
 
       pub goes-on : (tail : Bool) {before after : List ℕ} {r : Moved} → Steps before after r (foundBy w item)
           → Steps before after r (stepFit (domain form .sextets xs) n tail w)
       unfolding partStep
-      goes-on tail t = by-same t (rw (ei, es) (sym (fit-step w (domain form .sextets xs) n tail (H .fit) whole ne)))
+      goes-on tail t = by-same t (rw (ei, es) (sym (near-step w (domain form .sextets xs) n tail (H .order) (H .room) whole ne)))
 
   pub reaches : (tail : Bool) {before after : List ℕ} {r : Moved} → Steps before after r (stepFit (domain form .sextets xs) n tail w) → InReach (r .found)
-  reaches tail t = rw (t .found) (step-reach w (domain form .sextets xs) n tail (H .fit) whole near)
+  reaches tail t = rw (t .found) (step-reach w (domain form .sextets xs) n tail (H .order) (H .room) whole near)
 
 -- at the stream's end
-pub ends : (form : Form) (xs : List ℕ) (n : ℕ) (s : List ℕ) (p : Place) → Fits form xs n (walkAt s p) → (tail : Bool) → p .at ≡ n → {r : Moved}
+pub ends : (form : Form) (xs : List ℕ) (n : ℕ) (s : List ℕ) (p : Place) → Near form xs n (walkAt s p) → (tail : Bool) → p .at ≡ n → {r : Moved}
     → r ≡ record { place = p; found = pick tail (F.Refused 4 (4 * p .at)) F.End } → Steps s s r (stepFit (domain form .sextets xs) n tail (walkAt s p))
 ends form xs n s p H tail e q = rw q (by-same (record { moves = stays s p; found = refl; kept = λ e. refl }) (here form xs n (walkAt s p) H tail e))
 
--- ---- 1 before 13
+-- ---- in elements
 
 item-in : (u : ℕ) (f : Found) → isItem (foundIn u f) ≡ isItem f
 unfolding foundIn
@@ -212,27 +211,39 @@ item-in u (F.Item o n d k h) = refl
 item-in u (F.Refused m p) = refl
 item-in u F.End = refl
 
-module _ (form : Form) (xs : List ℕ) (over : Bool) (n : ℕ) (tail : Bool) (m : Measured form xs over n tail) (s : List ℕ) (p : Place) where
-  pub too-long : over ≡ true → {r : Moved} → r ≡ record { place = p; found = F.Refused 1 0 } → Steps s s r (stepIn (domain form) xs (walkAt s p))
+pub scaled : (u : ℕ) {before after : List ℕ} {r : Moved} {t : Stepped} → Steps before after r t → {f : Found} → f ≡ foundIn u (r .found)
+    → Steps before after (record { place = r .place; found = f }) (inElements u t)
+scaled u {r = r} t {f} ef =
+    record { moves = t .moves; found = ef ∙ ap (foundIn u) (t .found); kept = λ e. t .kept (sym (item-in u (r .found)) ∙ ap isItem (sym ef) ∙ e) }
+
+-- ---- 1 before 13
+
+module _ (form : Form) (xs : List ℕ) (e : Extent) (m : Measured form xs e) (s : List ℕ) (p : Place) where
+  pub too-long : e .over ≡ true → {r : Moved} → r ≡ record { place = p; found = F.Refused 1 0 } → Steps s s r (stepIn (domain form) xs (walkAt s p))
   unfolding stepIn
-  too-long o e = rw e (by-same (record { moves = stays s p; found = refl; kept = λ e. refl }) (rw (← (m .limit), o)))
+  too-long o q = rw q (by-same (record { moves = stays s p; found = refl; kept = λ e. refl }) (rw (← (m .limit), o)))
 
-  module _ (o : over ≡ false) where
-    pub unfit : isFit (walkAt s p) n ≡ false → {r : Moved} → r ≡ record { place = p; found = F.Refused 13 0 } → Steps s s r (stepIn (domain form) xs (walkAt s p))
+  module _ (o : e .over ≡ false) where
+    pub unfit : isFit (walkAt s p) (e .units) ≡ false → {r : Moved} → r ≡ record { place = p; found = F.Refused 13 0 } → Steps s s r (stepIn (domain form) xs (walkAt s p))
     unfolding stepIn step foundIn
-    unfit f e =
+    unfit f q =
         let z : 0 * domain form .unit + 0 ≡ 0 = omega arith in
-        rw e (by-same (record { moves = stays s p; found = refl; kept = λ e. refl }) (rw (← (m .limit), o, ← (m .units), f, z)))
+        rw q (by-same (record { moves = stays s p; found = refl; kept = λ e. refl }) (rw (← (m .limit), o, ← (m .units), f, z)))
 
-    pub fits : isFit (walkAt s p) n ≡ true → Fits form xs n (walkAt s p)
-    fits f = record { few = ltb-false (domain form .limit) (length xs) (sym (m .limit) ∙ o); units = m .units; fit = f }
+    pub fits : isFit (walkAt s p) (e .units) ≡ true → Fits form xs (walkAt s p)
+    fits f = record { few = ltb-false (domain form .limit) (length xs) (sym (m .limit) ∙ o); fit = rw (← (m .units)) f }
 
-    pub stepped : isFit (walkAt s p) n ≡ true → {after : List ℕ} {r : Moved} → Steps s after r (stepFit (domain form .sextets xs) n tail (walkAt s p)) → {f : Found}
-        → f ≡ foundIn (domain form .unit) (r .found) → Steps s after (record { place = r .place; found = f }) (stepIn (domain form) xs (walkAt s p))
-    unfolding stepIn step
-    stepped fit {r = r} t {f} ef =
-        by-same (record { moves = t .moves; found = ef ∙ ap (foundIn (domain form .unit)) (t .found); kept = λ e. t .kept (sym (item-in (domain form .unit) (r .found)) ∙ ap isItem (sym ef) ∙ e) })
-        (rw (← (m .limit), o, ← (m .units), fit, ← (m .rest)))
+  -- a state that fits steps so
+  pub stepped : Fits form xs (walkAt s p) → {after : List ℕ} {r : Moved}
+      → Steps s after r (inElements (domain form .unit) (stepFit (domain form .sextets xs) (e .units) (e .tail) (walkAt s p)))
+      → Steps s after r (stepIn (domain form) xs (walkAt s p))
+  unfolding stepIn step
+  stepped f t = by-same t (rw (le-ltb (domain form .limit) (length xs) (f .few), ← (m .units), rw (← (m .units)) at (f .fit), ← (m .rest)))
+
+-- a test that says both
+pub both-ways {ℓ} : {A : Type ℓ} (b : Bool) → b ≡ false → b ≡ true → A
+both-ways true e f = let z : _≡_ {A = ℕ} 0 1 = cc in absurd (omega arith)
+both-ways false e f = let z : _≡_ {A = ℕ} 0 1 = cc in absurd (omega arith)
 
 -- ---- by value
 

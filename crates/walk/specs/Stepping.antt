@@ -4,7 +4,7 @@ use mathlib.Core.Path.{_≡_}
 use mathlib.Core.List.{List}
 use mathlib.Core.Bool.{Bool, true, false}
 use lib.ListN.{length}
-use lib.Dec.{ltb, eqb}
+use lib.Dec.{ltb, leb, eqb}
 use Rattle.base.specs.Pick.{pick}
 use Rattle.format.specs.declared.Kind.{Kind}
 use Rattle.format.specs.declared.Framed.{Framed}
@@ -18,8 +18,9 @@ use Rattle.walk_state.specs.declared.Place.{Place}
 use Rattle.walk_state.specs.declared.Found.{Found}
 use Rattle.walk_state.specs.declared.Found.the-variants as F
 use Rattle.walk_state.specs.declared.Stepped.{Stepped}
-use Rattle.walk_state.specs.Walking.{isFit, nextOf}
+use Rattle.walk_state.specs.Walking.{isFit, nextOf, stopOf, foundIn}
 use Rattle.walk_state.specs.Lent.{Moves}
+use Rattle.walk.specs.declared.Extent.{Extent}
 use Rattle.walk.specs.declared.Moved.{Moved}
 
 -- 7 is asked at top level, and where the mark is set
@@ -38,6 +39,10 @@ foundBy w (Item k h n) = record { next = nextOf w k h n; found = F.Item (w .at) 
 unfoldable pub partStep : Walk → List ℕ → Stepped
 partStep w s = foundBy w (nextOwn (isAsked (placeOf w)) s (maxDepth - w .depth))
 
+-- a step's find in elements, u to the unit
+abbrev pub inElements : ℕ → Stepped → Stepped
+inElements u t = record { next = t .next; found = foundIn u (t .found) }
+
 abbrev pub isItem : Found → Bool
 isItem (F.Item o n d k h) = true
 isItem (F.Refused m p) = false
@@ -55,6 +60,11 @@ unitsIn d xs = length xs / d .unit
 
 abbrev pub tailIn : Domain → List ℕ → Bool
 tailIn d xs = ltb 0 (length xs % d .unit)
+
+-- neither 1 nor 13
+pub record Fits (form : Form) (xs : List ℕ) (w : Walk) : Type 0 where
+  pub few : length xs ≤ domain form .limit
+  pub fit : isFit w (unitsIn (domain form) xs) ≡ true
 
 -- ---- what private functions ask: no number that they make passes a word
 
@@ -78,17 +88,25 @@ pub record Spans (form : Form) (xs : List ℕ) (p : Place) (stop : ℕ) : Type 0
   pub room : domain form .unit * stop ≤ length xs
   pub few : length xs ≤ domain form .limit
 
--- a state that fits a stream of n whole units
-pub record Fits (form : Form) (xs : List ℕ) (n : ℕ) (w : Walk) : Type 0 where
+-- what a stream's length says
+pub record Measured (form : Form) (xs : List ℕ) (e : Extent) : Type 0 where
+  pub limit : e .over ≡ ltb (domain form .limit) (length xs)
+  pub units : e .units ≡ unitsIn (domain form) xs
+  pub rest : e .tail ≡ tailIn (domain form) xs
+
+-- a stream within its limit of n whole units, in which the next item's part lies
+pub record Near (form : Form) (xs : List ℕ) (n : ℕ) (w : Walk) : Type 0 where
   pub few : length xs ≤ domain form .limit
   pub units : n ≡ unitsIn (domain form) xs
-  pub fit : isFit w n ≡ true
+  pub slots : w .depth ≤ maxDepth
+  pub order : w .at ≤ stopOf w n
+  pub room : stopOf w n ≤ n
 
--- what a stream's length says
-pub record Measured (form : Form) (xs : List ℕ) (over : Bool) (n : ℕ) (tail : Bool) : Type 0 where
-  pub limit : over ≡ ltb (domain form .limit) (length xs)
-  pub units : n ≡ unitsIn (domain form) xs
-  pub rest : tail ≡ tailIn (domain form) xs
+-- the test of it
+unfoldable pub isNear : Walk → Extent → Bool
+isNear w e =
+    pick (e .over) false
+    (pick (leb (w .depth) maxDepth) (pick (leb (w .at) (stopOf w (e .units))) (leb (stopOf w (e .units)) (e .units)) false) false)
 
 abbrev pub InReach : Found → Type 0
 InReach (F.Item o n d k h) = (o ≤ reach) × (n ≤ reach)

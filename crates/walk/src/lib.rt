@@ -24,12 +24,19 @@ ghost use Rattle.report_next.specs.Next.{nextOwn};
 ghost use Rattle.walk_state.specs.declared.Found.the-variants as Found;
 ghost use Rattle.walk_state.specs.Walking.{stepFit, foundIn, stepIn, textItem, textStep, binaryItem, binaryStep};
 ghost use Rattle.walk_state.specs.Lent.{walkAt};
-ghost use Rattle.walk.specs.Stepping.{isAsked, foundBy, Steps, reach, Ready, Spans, Fits, Measured, InReach};
+ghost use Rattle.walk.specs.Stepping.{isAsked, foundBy, inElements, Steps, reach, Ready, Spans, isNear, Near, Fits, Measured, InReach};
 
 // The longest streams: 1.
 const MAX_CHARACTERS: usize = 4194304;
 
 const MAX_BYTES: usize = 3145728;
+
+// What a stream's length says: whether it passes the form's limit, its whole units, and whether elements stand behind them.
+pub struct Extent {
+    pub over: bool,
+    pub units: usize,
+    pub tail: bool,
+}
 
 // Where a step in lent slots leads, and what it finds.
 pub struct Moved {
@@ -124,10 +131,10 @@ fn ended(p: Place, tail: bool) -> Moved
     }
 }
 
-// The step of a state that fits a stream of n whole units; tail: elements of one more stand behind them. Offset and size are in units,
-// the place in sextets.
-fn move_fit(slots: &mut [usize], p: Place, form: Form, s: &[u8], n: usize, tail: bool) -> Moved
-    requires { ⌜ (maxDepth ≤ length (now slots)) × Fits form (now s) n (walkAt (now slots) p) ⌝ }
+// The step of a state over a stream of n whole units; tail: elements of one more stand behind them. Offset and size are in units, the
+// place in sextets.
+fn move_units(slots: &mut [usize], p: Place, form: Form, s: &[u8], n: usize, tail: bool) -> Moved
+    requires { ⌜ (maxDepth ≤ length (now slots)) × Near form (now s) n (walkAt (now slots) p) ⌝ }
     ensures { λ r. ⌜ Steps (now (slots .entry)) (now (slots .exit)) r (stepFit (domain form .sextets (now (s .entry))) n tail (walkAt (now (slots .entry)) p)) ⌝ }
 {
     if p.at == n {
@@ -198,31 +205,34 @@ fn refused(p: Place, number: u8) -> Moved
     }
 }
 
-// over: the stream is longer than its form's limit; n: its whole units; tail: elements stand behind them.
-fn move_by(
-    slots: &mut [usize],
-    p: Place,
-    form: Form,
-    s: &[u8],
-    over: bool,
-    n: usize,
-    tail: bool,
-) -> Moved
-    requires { ⌜ (maxDepth ≤ length (now slots)) × Measured form (now s) over n tail ⌝ }
-    ensures { λ r. ⌜ Steps (now (slots .entry)) (now (slots .exit)) r (stepIn (domain form) (now (s .entry)) (walkAt (now (slots .entry)) p)) ⌝ }
+// The same in the stream's elements.
+fn move_near(slots: &mut [usize], p: Place, form: Form, s: &[u8], n: usize, tail: bool) -> Moved
+    requires { ⌜ (maxDepth ≤ length (now slots)) × Near form (now s) n (walkAt (now slots) p) ⌝ }
+    ensures { λ r. ⌜ Steps (now (slots .entry)) (now (slots .exit)) r (inElements (domain form .unit) (stepFit (domain form .sextets (now (s .entry))) n tail (walkAt (now (slots .entry)) p))) ⌝ }
 {
-    if over {
-        return refused(p, 1);
-    }
-    if !walk_fit::is_fit(slots, p, n) {
-        return refused(p, 13);
-    }
-    let m = move_fit(slots, p, form, s, n, tail);
+    let m = move_units(slots, p, form, s, n, tail);
     let place = m.place;
     let found = m.found;
     Moved {
         place,
         found: found_in(form, found),
+    }
+}
+
+pub fn measured(form: Form, s: &[u8]) -> Extent
+    ensures { λ r. ⌜ Measured form (now (s .entry)) r ⌝ }
+{
+    match form {
+        Form::Text => Extent {
+            over: MAX_CHARACTERS < s.len(),
+            units: s.len() / 4,
+            tail: 0 < s.len() % 4,
+        },
+        Form::Binary => Extent {
+            over: MAX_BYTES < s.len(),
+            units: s.len() / 3,
+            tail: 0 < s.len() % 3,
+        },
     }
 }
 
@@ -234,26 +244,46 @@ pub fn move_in(slots: &mut [usize], p: Place, form: Form, s: &[u8]) -> Moved
     if slots.len() < MAX_DEPTH {
         return refused(p, 13);
     }
-    match form {
-        Form::Text => move_by(
-            slots,
-            p,
-            form,
-            s,
-            MAX_CHARACTERS < s.len(),
-            s.len() / 4,
-            0 < s.len() % 4,
-        ),
-        Form::Binary => move_by(
-            slots,
-            p,
-            form,
-            s,
-            MAX_BYTES < s.len(),
-            s.len() / 3,
-            0 < s.len() % 3,
-        ),
+    let e = measured(form, s);
+    if e.over {
+        return refused(p, 1);
     }
+    if !walk_fit::is_fit(slots, p, e.units) {
+        return refused(p, 13);
+    }
+    move_near(slots, p, form, s, e.units, e.tail)
+}
+
+// Whether the next item can be looked for, which a state that fits the stream allows.
+fn is_near(slots: &[usize], p: Place, e: Extent) -> bool
+    ensures { λ r. ⌜ (maxDepth ≤ length (now (slots .entry)) → r ≡ isNear (walkAt (now (slots .entry)) p) e) ⌝ }
+{
+    if e.over {
+        return false;
+    }
+    if MAX_DEPTH < p.depth {
+        return false;
+    }
+    let stop = walk_fit::stop(slots, p, e.units);
+    if stop < p.at {
+        return false;
+    }
+    stop <= e.units
+}
+
+// The same for a caller that has asked 1 and 13 before, so that neither is asked again: of a state that fits a stream within the limit.
+// Of any other it is said only that the call returns.
+pub fn move_fit(slots: &mut [usize], p: Place, form: Form, s: &[u8]) -> Moved
+    ensures { λ r. ⌜ (maxDepth ≤ length (now (slots .entry)) → Fits form (now (s .entry)) (walkAt (now (slots .entry)) p) → Steps (now (slots .entry)) (now (slots .exit)) r (stepIn (domain form) (now (s .entry)) (walkAt (now (slots .entry)) p))) ⌝ }
+{
+    if slots.len() < MAX_DEPTH {
+        return refused(p, 13);
+    }
+    let e = measured(form, s);
+    if !is_near(slots, p, e) {
+        return refused(p, 13);
+    }
+    move_near(slots, p, form, s, e.units, e.tail)
 }
 
 // The same with the state by value.

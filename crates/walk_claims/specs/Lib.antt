@@ -15,3 +15,4 @@ pub mod Forms
 pub mod Numbers
 pub mod Orders
 pub mod Proved
+pub mod Yielding

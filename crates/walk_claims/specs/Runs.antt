@@ -120,7 +120,7 @@ at-end-stops d xs w h =
     (λ _ _. tt) (λ _ _. tt) (λ m p _ _. tt) (λ k h m q p _ _ _. tt)
     (λ k h m ne _ _. absurd (ne z)))
 
-one-of : (f : Found) → Yields f ⊎ Stops f
+pub one-of : (f : Found) → Yields f ⊎ Stops f
 one-of (F.Item o n d k h) = inl tt
 one-of (F.Refused m p) = inr tt
 one-of F.End = inr tt

@@ -15,14 +15,10 @@ use Rattle.walk_state.specs.declared.Stepped.{Stepped}
 use Rattle.walk_state.specs.Walking.{stepIn}
 use Rattle.walk_claims.specs.Words.{unitsIn, Yields, Stops}
 use Rattle.walk_claims.specs.Claims.{StreamClaims}
-use Rattle.walk_claims.specs.Proved.{proved}
+use Rattle.walk_claims.specs.Yielding.{of-form, yields-full}
 use Rattle.walk_count.specs.declared.Tally.{Tally}
 use Rattle.walk_count.specs.Counting.{plus, runIn, restIn}
-use Rattle.walk_count.specs.Runs.{run-stopped, run-yields, yields-inside, yields-full}
-
-of-form : (form : Form) (xs : List ℕ) → StreamClaims (domain form) xs
-of-form Text xs = proved .of-text xs
-of-form Binary xs = proved .of-binary xs
+use Rattle.walk_count.specs.Runs.{run-stopped, run-yields, yields-inside}
 
 few : (form : Form) (xs : List ℕ) → unitsIn (domain form) xs ≤ length xs
 few Text xs = omega arith

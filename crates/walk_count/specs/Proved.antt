@@ -12,12 +12,13 @@ use Rattle.walk_state.specs.declared.Found.the-variants as F
 use Rattle.walk_state.specs.Walking.{start}
 use Rattle.walk_claims.specs.Words.{unitsIn, after, foundAt, Yields, Stops}
 use Rattle.walk_claims.specs.Claims.{StreamClaims}
+use Rattle.walk_claims.specs.Runs.{one-of}
 use Rattle.walk_claims.specs.Proved as W
 use Rattle.walk_count.specs.declared.Tally.{Tally}
 use Rattle.walk_count.specs.declared.TextEnd.the-variants as T
 use Rattle.walk_count.specs.declared.BinaryEnd.the-variants as B
 use Rattle.walk_count.specs.Counting.{none, plus, runIn, restIn, textEnd, binaryEnd}
-use Rattle.walk_count.specs.Runs.{one-of, run-stopped, run-yields, run-stops}
+use Rattle.walk_count.specs.Runs.{run-stopped, run-yields, run-stops}
 use Rattle.walk_count.specs.Claims.{CountClaims, RestClaims, CountingClaims}
 
 module _ (d : Domain) (xs : List ℕ) where

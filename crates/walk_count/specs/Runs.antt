@@ -3,29 +3,22 @@
 use Prim.Native.Nat.{ℕ, zero, suc, _+_, _≤_, _<_}
 use mathlib.Core.Path.{_≡_, refl, sym, subst}
 use mathlib.Core.List.{List}
-use mathlib.Core.Bool.{true}
-use mathlib.Core.Logic.{_⊎_, inl, inr, ⊎-elim}
+use mathlib.Core.Logic.{⊎-elim}
 use native.Mathlib.Omega.{arith}
 use lib.ListN.{length}
-use Rattle.base.specs.Cases.{lt-or-ge, whether}
 use Rattle.format.specs.Units.{Domain}
 use Rattle.format.specs.Judging.{maxDepth}
 use Rattle.walk_state.specs.declared.Walk.{Walk}
 use Rattle.walk_state.specs.declared.Found.{Found}
 use Rattle.walk_state.specs.declared.Found.the-variants as F
-use Rattle.walk_state.specs.declared.Stepped.{Stepped}
-use Rattle.walk_state.specs.Walking.{isFit, stepIn}
+use Rattle.walk_state.specs.Walking.{stepIn}
 use Rattle.walk_claims.specs.Words.{unitsIn, Yields, Stops}
 use Rattle.walk_claims.specs.Claims.{StreamClaims}
 use Rattle.walk_claims.specs.Proved.{proved}
+use Rattle.walk_claims.specs.Runs.{one-of}
+use Rattle.walk_claims.specs.Yielding.{yields-fit, yields-full}
 use Rattle.walk_count.specs.declared.Tally.{Tally}
 use Rattle.walk_count.specs.Counting.{none, plus, onItem, runIn}
-
--- an item, or else a refusal or the end
-pub one-of : (f : Found) → Yields f ⊎ Stops f
-one-of (F.Item o n d k h) = inl tt
-one-of (F.Refused m p) = inr tt
-one-of F.End = inr tt
 
 on-stop : (f : Found) (t : Tally) → Stops f → onItem f t ≡ none f
 on-stop (F.Item o n d k h) t s = absurd s
@@ -48,22 +41,11 @@ module _ (d : Domain) (xs : List ℕ) where
   run-yields k w y = on-yield (stepIn d xs w .found) (runIn d xs k (stepIn d xs w .next)) y
 
 module _ (d : Domain) (xs : List ℕ) (C : StreamClaims d xs) where
-  -- only a fit state yields
-  yields-fit : (w : Walk) → Yields (stepIn d xs w .found) → isFit w (unitsIn d xs) ≡ true
-  yields-fit w y =
-      ⊎-elim (λ over. absurd (subst (λ (r : Stepped). Yields (r .found)) (C .one w over) y))
-      (λ short. ⊎-elim (λ e. e) (λ e. absurd (subst (λ (r : Stepped). Yields (r .found)) (C .thirteen w short e) y))
-      (whether (isFit w (unitsIn d xs))))
-      (lt-or-ge (d .limit) (length xs))
-
-  -- and it stands before the stream's end
+  -- a state that yields stands before the stream's end
   pub yields-inside : (w : Walk) → length (w .ends) ≡ maxDepth → Yields (stepIn d xs w .found) → w .at < unitsIn d xs
   yields-inside w full y =
-      let f = C .keeps-fit w full (yields-fit w y) in
+      let f = C .keeps-fit w full (yields-fit d xs C w y) in
       omega (arith, C .moves-on w y, proved .tests .only-fit (stepIn d xs w .next) (unitsIn d xs) (f .0) .inside)
-
-  pub yields-full : (w : Walk) → length (w .ends) ≡ maxDepth → Yields (stepIn d xs w .found) → length (stepIn d xs w .next .ends) ≡ maxDepth
-  yields-full w full y = C .keeps-fit w full (yields-fit w y) .1
 
   pub run-stops : (k : ℕ) (w : Walk) → length (w .ends) ≡ maxDepth → unitsIn d xs ≤ w .at + k → Stops (runIn d xs k w .last)
   unfolding runIn
@@ -72,6 +54,6 @@ module _ (d : Domain) (xs : List ℕ) (C : StreamClaims d xs) where
   run-stops (suc k) w full h =
       ⊎-elim
       (λ y. subst (λ (t : Tally). Stops (t .last)) (sym (run-yields d xs k w y))
-      (run-stops k (stepIn d xs w .next) (yields-full w full y) (omega (arith, C .moves-on w y))))
+      (run-stops k (stepIn d xs w .next) (yields-full d xs C w full y) (omega (arith, C .moves-on w y))))
       (λ s. subst (λ (t : Tally). Stops (t .last)) (sym (run-stopped d xs (suc k) w s)) s)
       (one-of (stepIn d xs w .found))

@@ -202,7 +202,7 @@ fn lead<U: Unit>(value: &[U], shift: u32) -> u8 {
 }
 
 /// No group stands within more.
-const MOST_GROUPS: usize = 64;
+pub const MOST_GROUPS: usize = 64;
 
 /// What is behind an open group in the one around it, and how deep that is.
 pub struct Around<'s, U> {

@@ -7,7 +7,7 @@
 //! `oracle`.
 //!
 //! The report and the two conversions exist for lent buffers (`write_report`,
-//! `to_binary`, `to_text`); `report` allocates its answer. `plain` holds the
+//! `to_binary`, `to_text`); `report` allocates its answer, and `Walk` keeps its place. `plain` holds the
 //! conversions as a plain loop.
 
 #![forbid(unsafe_code)]
@@ -18,10 +18,12 @@ mod convert;
 mod judge;
 mod plain;
 mod report;
+mod walk;
 
 pub use convert::{to_binary, to_text};
 pub use plain::{plain_to_binary, plain_to_text};
 pub use report::{report, write_report};
+pub use walk::{Pause, Walk};
 
 /// Text (T) or binary (B).
 #[derive(Clone, Copy, Debug, PartialEq, Eq)]

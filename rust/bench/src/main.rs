@@ -7,6 +7,7 @@ mod conversion;
 mod race;
 mod reports;
 mod table;
+mod walks;
 
 /// Sizes that are timed, with their names.
 const SIZES: [(&str, usize); 4] = [
@@ -23,6 +24,7 @@ const SWEEPS: usize = 6;
 fn main() {
     let mut races = conversion::races();
     races.extend(reports::races());
+    races.extend(walks::races());
     for _ in 0..SWEEPS {
         races.iter_mut().for_each(race::Race::sweep);
     }

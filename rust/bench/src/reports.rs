@@ -34,9 +34,9 @@ fn binary_report(stream: &[u8], out: &mut [u8]) -> usize {
 }
 
 /// A maker of a text deck of at most a size.
-type Deck = fn(&mut Random, usize) -> Vec<u8>;
+pub type Deck = fn(&mut Random, usize) -> Vec<u8>;
 
-const DECKS: [(&str, Deck); 3] = [
+pub const DECKS: [(&str, Deck); 3] = [
     ("digests", digests),
     ("groups nested ten deep", nests),
     ("all codes, groups three deep", mixed),

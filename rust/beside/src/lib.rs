@@ -12,7 +12,7 @@ use oracle::primitive::{self, Named};
 use oracle::report::write_report;
 use oracle::{convert, Form};
 use proved::{Counts, Info, Primitive, Refusal, Tag};
-pub use walk::{walk_binary, walk_text};
+pub use walk::{walk_binary, walk_on_binary, walk_on_text, walk_text};
 
 /// A refusal of the oracle as one of the library.
 fn refused(refusal: oracle::Refusal) -> Refusal {

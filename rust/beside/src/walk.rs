@@ -1,10 +1,14 @@
 //! The walk. The oracle's state counts the stream's own elements, the
 //! library's counts units.
 
+use crate::refused;
+use oracle::instalments;
 use oracle::registry::Code;
 use oracle::walk::{step, Found, Walk};
 use oracle::Form;
-use proved::{Item, Refusal, State, STATE, STATE_FIRST, STATE_OPEN, STATE_POSITION};
+use proved::{
+    Instalment, Item, Pause, Refusal, State, STATE, STATE_FIRST, STATE_OPEN, STATE_POSITION,
+};
 
 /// chars, letter and lead bytes, as `include/cesr.h` numbers them.
 pub fn code(code: Code) -> (usize, usize, usize) {
@@ -37,9 +41,7 @@ pub fn walk_binary(binary: &[u8], state: &mut State, item: &mut Item) -> Result<
 
 fn walk(stream: &[u8], form: Form, state: &mut State, item: &mut Item) -> Result<bool, Refusal> {
     let Some(walk) = in_elements(state, form.unit()) else {
-        // A mark that is no mark: 13, and 1 comes before it.
-        let number = if stream.len() > form.limit() { 1 } else { 13 };
-        return Err(Refusal { number, place: 0 });
+        return Err(no_mark(stream, form));
     };
     let (next, found) = step(walk, stream, form);
     match found {
@@ -57,6 +59,37 @@ fn walk(stream: &[u8], form: Form, state: &mut State, item: &mut Item) -> Result
             Ok(true)
         }
     }
+}
+
+/// A mark that is no mark: 13, and 1 comes before it.
+fn no_mark(stream: &[u8], form: Form) -> Refusal {
+    let number = if stream.len() > form.limit() { 1 } else { 13 };
+    Refusal { number, place: 0 }
+}
+
+pub fn walk_on_text(text: &[u8], state: &mut State, budget: usize) -> Instalment {
+    walk_on(text, Form::Text, state, budget)
+}
+
+pub fn walk_on_binary(binary: &[u8], state: &mut State, budget: usize) -> Instalment {
+    walk_on(binary, Form::Binary, state, budget)
+}
+
+fn walk_on(stream: &[u8], form: Form, state: &mut State, budget: usize) -> Instalment {
+    let Some(walk) = in_elements(state, form.unit()) else {
+        let pause = Pause::Refused(no_mark(stream, form));
+        return Instalment { items: 0, pause };
+    };
+    let (next, items, pause) = instalments::walk_on(walk, stream, form, budget);
+    if items > 0 {
+        *state = in_units(&next, form.unit());
+    }
+    let pause = match pause {
+        instalments::Pause::Spent => Pause::Spent,
+        instalments::Pause::End => Pause::End,
+        instalments::Pause::Refused(refusal) => Pause::Refused(refused(refusal)),
+    };
+    Instalment { items, pause }
 }
 
 /// A library's state in the oracle's measure. A number too large for that is

@@ -15,6 +15,7 @@
 //! | write one primitive | [`write()`], [`write_into`] |
 //! | write a value by its type alone | [`write_variable`], [`write_variable_into`] |
 //! | go through all depths | [`Walk`], an iterator |
+//! | go on later, or by so many items at once | [`State`], saved as bytes, and [`Walk::walk_on`] |
 //! | look at one item of any kind | [`item_at`] |
 //! | compare expected verdicts with a report | [`compare`], [`Expectation`] |
 //!
@@ -85,7 +86,7 @@ pub use refusal::{Number, Refusal};
 pub use report::{
     judge, judge_into, judge_with, Item, Items, RefusalRow, Refusals, Remainder, Report, Verdict,
 };
-pub use walk::{item_at, State, Step, Walk};
+pub use walk::{item_at, Instalment, Pause, State, Step, Walk, STATE_BYTES};
 
 /// The guide's Rust examples run as tests of this crate.
 #[cfg(doctest)]

@@ -1,4 +1,5 @@
-//! The walk through a stream's items at all depths.
+//! The walk through a stream's items at all depths, item by item or in
+//! instalments.
 
 use crate::{read, Code, Form, Head, Number, Refusal};
 use proved::STATE;
@@ -12,6 +13,12 @@ use proved::STATE;
 /// stream is refused 13 by the next step.
 #[derive(Clone, Copy, Debug, PartialEq, Eq, Hash)]
 pub struct State(proved::State);
+
+/// The length of a saved [`State`].
+pub const STATE_BYTES: usize = STATE * NUMBER;
+
+/// Bytes of a number in a saved state.
+const NUMBER: usize = 8;
 
 impl Default for State {
     fn default() -> State {
@@ -37,6 +44,66 @@ impl State {
     pub const fn numbers(&self) -> &[usize; STATE] {
         &self.0
     }
+
+    /// The state to be saved: its numbers, big-endian, eight bytes each. It
+    /// names neither the stream nor its form, which who saves it has to keep.
+    ///
+    /// ```
+    /// use cesr::{Form, State, Walk};
+    /// let mut walk = Walk::new(Form::Text, b"-AABMAAB1AAM");
+    /// walk.next();
+    /// let saved = walk.state().to_bytes();
+    /// let mut later = Walk::resumed(Form::Text, b"-AABMAAB1AAM", State::from_bytes(&saved));
+    /// assert_eq!(later.next(), walk.next());
+    /// ```
+    pub fn to_bytes(&self) -> [u8; STATE_BYTES] {
+        let mut bytes = [0; STATE_BYTES];
+        for (place, number) in bytes.chunks_exact_mut(NUMBER).zip(self.0) {
+            place.copy_from_slice(&(number as u64).to_be_bytes());
+        }
+        bytes
+    }
+
+    /// A saved state. Any bytes are one; those that fit the stream badly are
+    /// refused 13 by the next call over it, whatever it is asked to do.
+    ///
+    /// ```
+    /// use cesr::{Form, Number, Pause, State, Walk, STATE_BYTES};
+    /// let state = State::from_bytes(&[7; STATE_BYTES]);
+    /// let pause = Walk::resumed(Form::Text, b"MAAB", state).walk_on(0).pause;
+    /// assert!(matches!(pause, Pause::Refused(refusal) if refusal.number == Number::UNFIT_STATE));
+    /// ```
+    pub fn from_bytes(bytes: &[u8; STATE_BYTES]) -> State {
+        let mut numbers = [0; STATE];
+        for (number, place) in numbers.iter_mut().zip(bytes.chunks_exact(NUMBER)) {
+            let wide = place
+                .iter()
+                .fold(0, |high, byte| high << 8 | u64::from(*byte));
+            *number = usize::try_from(wide).unwrap_or(usize::MAX);
+        }
+        State(numbers)
+    }
+}
+
+/// Why an instalment is over.
+#[derive(Clone, Copy, Debug, PartialEq, Eq)]
+pub enum Pause {
+    /// The budget was taken whole. There may be more.
+    Spent,
+    /// The stream's end came first.
+    End,
+    /// A refusal came first.
+    Refused(Refusal),
+}
+
+/// What [`Walk::walk_on`] took.
+#[derive(Clone, Copy, Debug, PartialEq, Eq)]
+pub struct Instalment {
+    /// How many items, which is the budget exactly unless the end or a refusal
+    /// came first.
+    pub items: usize,
+    /// Why it is over.
+    pub pause: Pause,
 }
 
 /// An item that the walk yields.
@@ -100,9 +167,43 @@ impl<'s> Walk<'s> {
         }
     }
 
-    /// The state behind the last item yielded. A refusal leaves it as it was.
+    /// The state behind the last item yielded or taken. A refusal leaves it as
+    /// it was.
     pub fn state(&self) -> State {
         self.state
+    }
+
+    /// Walks on by at most so many items in one call, and yields none of them:
+    /// what is left of the budget when the end or a refusal comes is not
+    /// spent. Two calls come to where one of both budgets does.
+    ///
+    /// ```
+    /// use cesr::{Form, Pause, Walk};
+    /// let mut walk = Walk::new(Form::Text, b"-AABMAAB1AAMMQAA");
+    /// let slice = walk.walk_on(2);
+    /// assert_eq!((slice.items, slice.pause), (2, Pause::Spent));
+    /// // The third item by itself, then what refuses the walk.
+    /// assert_eq!(walk.next().map(|step| step.map(|step| step.offset)), Some(Ok(8)));
+    /// let slice = walk.walk_on(1000);
+    /// assert_eq!(slice.items, 0);
+    /// assert!(matches!(slice.pause, Pause::Refused(refusal) if refusal.place == 12));
+    /// ```
+    pub fn walk_on(&mut self, budget: usize) -> Instalment {
+        let state = &mut self.state.0;
+        let taken = match self.form {
+            Form::Text => proved::walk_on_text(self.stream, state, budget),
+            Form::Binary => proved::walk_on_binary(self.stream, state, budget),
+        };
+        let pause = match taken.pause {
+            proved::Pause::Spent => Pause::Spent,
+            proved::Pause::End => Pause::End,
+            proved::Pause::Refused(refusal) => Pause::Refused(refusal.into()),
+        };
+        self.done = pause != Pause::Spent;
+        Instalment {
+            items: taken.items,
+            pause,
+        }
     }
 }
 

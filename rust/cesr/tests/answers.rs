@@ -5,7 +5,7 @@
 use cesr::{
     compare, item_at, judge, judge_into, opaque, read, read_text_into, to_binary, to_binary_into,
     to_text, to_text_into, write, write_into, write_variable, write_variable_into, Code,
-    Expectation, Form, Number, Report, State, Verdict, Walk, STATE,
+    Expectation, Form, Number, Pause, Report, State, Verdict, Walk, STATE, STATE_BYTES,
 };
 use streams::generate::any_deck;
 use streams::item::stream;
@@ -193,6 +193,44 @@ fn nothing_panics_on_any_number() {
         let code = cesr::Code::fixed(random.byte(), random.byte());
         let _ = write(form, code, &random.bytes(20), stream);
     });
+}
+
+/// Slices of any size come to where the iterator does, over states that were
+/// saved as bytes between them.
+#[test]
+fn slices_over_saved_states_come_to_where_the_iterator_does() {
+    each_case(|seed, form, stream| {
+        let mut walk = Walk::new(form, stream);
+        let items = walk.by_ref().filter(Result::is_ok).count();
+        let (mut state, mut taken) = (State::default(), 0);
+        let budget = 1 + usize::try_from(seed % 7).unwrap();
+        let mut pause = Pause::Spent;
+        while pause == Pause::Spent {
+            let mut resumed = Walk::resumed(form, stream, state);
+            let slice = resumed.walk_on(budget);
+            (taken, pause) = (taken + slice.items, slice.pause);
+            state = State::from_bytes(&resumed.state().to_bytes());
+            assert_eq!(state, resumed.state());
+            // What paused the slice is all that an iterator has left.
+            if pause != Pause::Spent {
+                assert_eq!(resumed.next(), None);
+            }
+        }
+        assert_eq!((taken, state), (items, walk.state()));
+    });
+}
+
+/// Any bytes are a state that is saved as it was, fit or not.
+#[test]
+fn bytes_of_no_walk_come_back() {
+    let mut random = Random::new(5);
+    for _ in 0..1000 {
+        let bytes = random.bytes(STATE_BYTES).try_into().unwrap();
+        let state = State::from_bytes(&bytes);
+        assert_eq!(state.to_bytes(), bytes);
+        let pause = Walk::resumed(Form::Text, b"MAAB", state).walk_on(0).pause;
+        assert!(matches!(pause, Pause::Refused(refusal) if refusal.number == Number::UNFIT_STATE));
+    }
 }
 
 /// A walk yields its refusal once and then nothing.

@@ -4,7 +4,7 @@
 use crate::fence::{Edge, Fence, LONGEST};
 use crate::input::{Call, Front, Made, Room, LONG, LONG_UNITS};
 use crate::long;
-use proved::{Primitive, Refusal, State, Tag, STATE};
+use proved::{Pause, Primitive, Refusal, State, Tag, STATE};
 use std::cell::RefCell;
 use streams::Form;
 
@@ -46,7 +46,7 @@ pub fn one(input: &[u8]) {
         let long = front.0.first() == Some(&LONG);
         let room = front.room();
         if too_long {
-            return long::one(call, form, room.of(20), front);
+            return long::one(call, form, room, front);
         }
         match call {
             Call::Write => write(memory, form, room, front),
@@ -56,7 +56,11 @@ pub fn one(input: &[u8]) {
             }
             Call::WalkFrom => {
                 let state = front.state();
-                walk(memory, form, &front.stream(form, long), state, 20);
+                let stream = &front.stream(form, long);
+                walk(memory, form, stream, state, 20);
+                if !long {
+                    slices(memory, form, stream, state, room.budget());
+                }
             }
             Call::Compare => compare(memory, form, front, made),
             _ => stream(memory, call, form, room, &front.stream(form, long)),
@@ -77,7 +81,13 @@ fn stream(memory: &mut Memory, call: Call, form: Form, room: Room, stream: &[u8]
                 read(memory, form, room, stream, at);
             }
         }
-        Call::Walk => drop(walk(memory, form, stream, [0; STATE], steps)),
+        Call::Walk => {
+            let items = walk(memory, form, stream, [0; STATE], steps).len();
+            if !long {
+                let taken = slices(memory, form, stream, [0; STATE], room.budget());
+                assert!(taken == items || room.budget() == 0);
+            }
+        }
         _ => {
             report(memory, form, room, stream);
             convert(memory, form, room, stream);
@@ -238,4 +248,27 @@ fn walk(memory: &mut Memory, form: Form, stream: &[u8], from: State, most: usize
     }
     assert_eq!(source, stream);
     offsets
+}
+
+/// Instalments of both until one is over for another reason than its budget,
+/// or takes nothing; how many items were taken.
+fn slices(memory: &mut Memory, form: Form, stream: &[u8], from: State, budget: usize) -> usize {
+    let [proved, oracle] = match form {
+        Form::Text => [proved::walk_on_text, beside::walk_on_text],
+        Form::Binary => [proved::walk_on_binary, beside::walk_on_binary],
+    };
+    let source = placed(&mut memory.stream, memory.edge, stream);
+    let state = memory.state.numbers(memory.edge, from);
+    let (mut told_state, mut items) = (from, 0);
+    loop {
+        let ours = proved(source, state, budget);
+        let told = oracle(stream, &mut told_state, budget);
+        assert_eq!((ours, &*state), (told, &told_state));
+        items += ours.items;
+        if ours.pause != Pause::Spent || budget == 0 {
+            break;
+        }
+    }
+    assert_eq!(source, stream);
+    items
 }

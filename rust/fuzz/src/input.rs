@@ -3,7 +3,7 @@
 //! | Byte | Meaning |
 //! | --- | --- |
 //! | 0 | call (bits 0 to 2), binary (bit 3), buffers against the page before them (bit 4), one too long (bits 5 to 7 all set), a comparison (bits 6 and 7 alone of these set) |
-//! | 1 | room: just enough, one less, none, nine more, or the number itself; 255 just enough, and the stream is a long one |
+//! | 1 | room: just enough, one less, none, nine more, or the number itself; of a walk the budget: without bound, 1, 0, 64, or the number itself; 255 just enough, and the stream is a long one |
 //! | then | comparison: how the two are made (bits 0 to 2 of byte 0), the number of verdicts expected, these, and a remainder's number, or the file's length and the file; read: two bytes of offset; walk from a state: the state; write: the primitive |
 //! | then | the stream, or the raw value; of a long stream the last unit is taken over and over |
 
@@ -79,6 +79,18 @@ impl Room {
             Room::Bytes(bytes) => bytes,
         };
         room.min(LONGEST)
+    }
+}
+
+impl Room {
+    /// The same byte as the budget of an instalment.
+    pub fn budget(self) -> usize {
+        match self {
+            Room::Exact => usize::MAX,
+            Room::OneLess => 1,
+            Room::More => 64,
+            Room::Bytes(items) => items,
+        }
     }
 }
 

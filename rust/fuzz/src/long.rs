@@ -3,7 +3,7 @@
 //! for all, and nothing is copied.
 
 use crate::calls::{HELD, NUMBER};
-use crate::input::{Call, Front};
+use crate::input::{Call, Front, Room};
 use proved::{Primitive, Refusal};
 use std::sync::OnceLock;
 use streams::Form;
@@ -14,14 +14,15 @@ fn zeros(length: usize) -> &'static [u8] {
     &ZEROS.get_or_init(|| vec![0; 4_194_305])[..length]
 }
 
-pub fn one(call: Call, form: Form, room: usize, mut front: Front) {
+pub fn one(call: Call, form: Form, lent_room: Room, mut front: Front) {
+    let room = lent_room.of(20);
     let stream = match form {
         Form::Text => zeros(4_194_305),
         Form::Binary => zeros(3_145_729),
     };
     match call {
         Call::Read | Call::ReadItems => read(form, stream, room, front.number()),
-        Call::Walk | Call::WalkFrom => walk(form, stream, front),
+        Call::Walk | Call::WalkFrom => walk(form, stream, front, lent_room.budget()),
         Call::Write => write(form, room, front),
         Call::Report | Call::Convert | Call::All | Call::Compare => lent(form, stream, room),
     }
@@ -63,7 +64,7 @@ fn read(form: Form, stream: &[u8], room: usize, at: usize) {
     assert_eq!((out, tag, info), (told_out, told_tag, told_info));
 }
 
-fn walk(form: Form, stream: &[u8], mut front: Front) {
+fn walk(form: Form, stream: &[u8], mut front: Front, budget: usize) {
     let (mut state, mut item) = (front.state(), [NUMBER; 6]);
     let (mut told_state, mut told_item) = (state, item);
     let [ours, theirs] = match form {
@@ -73,6 +74,13 @@ fn walk(form: Form, stream: &[u8], mut front: Front) {
     let answer = ours(stream, &mut state, &mut item);
     assert_eq!(answer, theirs(stream, &mut told_state, &mut told_item));
     assert_eq!((state, item), (told_state, told_item));
+    let [ours, theirs] = match form {
+        Form::Text => [proved::walk_on_text, beside::walk_on_text],
+        Form::Binary => [proved::walk_on_binary, beside::walk_on_binary],
+    };
+    let slice = ours(stream, &mut state, budget);
+    assert_eq!(slice, theirs(stream, &mut told_state, budget));
+    assert_eq!(state, told_state);
 }
 
 fn write(form: Form, room: usize, mut front: Front) {

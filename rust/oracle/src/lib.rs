@@ -1,9 +1,10 @@
 //! An independent second opinion on CESR streams.
 //!
 //! Everything here is written from the papers alone: 003 (the registry), 01
-//! (what is built and its rules), 02 (what was asked for later) and, where these
-//! leave a choice, the readings of docs/DECISIONS.md. Comments name the sentence a line follows.
-//! Plain data, plain recursion: it is meant to be read beside 01.
+//! (what is built and its rules), 02 (its requests that have landed) and, where
+//! these leave a choice, the readings of docs/DECISIONS.md. Comments name the
+//! sentence a line follows. Plain data, plain recursion: it is meant to be read
+//! beside 01.
 //!
 //! Offsets and sizes are always in the stream's own measure: characters for
 //! text, bytes for binary.
@@ -15,6 +16,7 @@ pub mod compare;
 pub mod convert;
 pub mod form;
 pub mod frame;
+pub mod instalments;
 pub mod judge;
 pub mod primitive;
 pub mod refusal;

@@ -64,12 +64,18 @@ impl Walk {
         }
     }
 
+    /// 1, then 13.
+    pub(crate) fn check(&self, stream: &[u8], form: Form) -> Result<(), Refusal> {
+        form.check_length(stream)?;
+        if self.fits(stream) {
+            return Ok(());
+        }
+        Err(Refusal::new(UNFIT_STATE, 0))
+    }
+
     /// The next item, framed and judged; nothing at the end.
     fn next_item(&self, stream: &[u8], form: Form) -> Result<Option<Frame>, Refusal> {
-        form.check_length(stream)?;
-        if !self.fits(stream) {
-            return Err(Refusal::new(UNFIT_STATE, 0));
-        }
+        self.check(stream, form)?;
         // A fit position at the stream's end has no group open.
         if self.position == stream.len() {
             return Ok(None);

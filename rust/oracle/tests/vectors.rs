@@ -9,6 +9,7 @@ use common::papers::{DIGESTS_OF_001, NUMBER, POST_PADDED_OF_001, SAD_PATHS, SHOR
 use common::{around, nested};
 use oracle::compare::compare;
 use oracle::convert;
+use oracle::instalments::{walk_on, Pause};
 use oracle::judge::MOST_GROUPS;
 use oracle::primitive::{self, Named, Primitive, Tag};
 use oracle::refusal::Refusal;
@@ -29,6 +30,8 @@ const WRITE_TEXT: u8 = 7;
 const WRITE_BINARY: u8 = 8;
 const WALK_TEXT: u8 = 9;
 const WALK_BINARY: u8 = 10;
+const WALK_ON_TEXT: u8 = 13;
+const WALK_ON_BINARY: u8 = 14;
 const COMPARE: u8 = 20;
 
 /// A walk's state: the ends, the number open, the position and the mark.
@@ -70,6 +73,8 @@ impl Record {
             COMPARE => return self.compare_line(),
             WALK_TEXT => return self.step_lines(Form::Text, 4),
             WALK_BINARY => return self.step_lines(Form::Binary, 3),
+            WALK_ON_TEXT => return self.slice_lines(Form::Text, 4),
+            WALK_ON_BINARY => return self.slice_lines(Form::Binary, 3),
             WRITE_TEXT => write(&self.input, Form::Text, &mut out),
             _ => write(&self.input, Form::Binary, &mut out),
         };
@@ -98,6 +103,27 @@ impl Record {
             format!("{read} {} {} {items}", last.0, last.1),
         ]
         .join("\n")
+    }
+
+    /// An instalment, the room its budget: the items taken and the state in
+    /// units; then the same with the state by value, if it is one.
+    fn slice_lines(&self, form: Form, unit: usize) -> String {
+        let (before, stream) = self.input.split_at(STATE);
+        let mut state: Vec<usize> = before.iter().map(|byte| usize::from(*byte)).collect();
+        if state[STATE - 1] > 1 {
+            return format!("{} 13 0 0{}", self.call, spaced(&state));
+        }
+        let (next, items, pause) = walk_on(state_of(before, unit), stream, form, self.room);
+        let (number, place) = match pause {
+            Pause::Spent => (0, 0),
+            Pause::End => (255, 0),
+            Pause::Refused(refusal) => (refusal.number, refusal.place),
+        };
+        if items > 0 {
+            state = numbers_of(&next, unit);
+        }
+        let tail = format!("{number} {place} {items}{}", spaced(&state));
+        format!("{} {tail}\n{} {tail}", self.call, self.call + 2)
     }
 
     /// A comparison: number and place, then the five numbers.
@@ -224,6 +250,10 @@ fn state_of(numbers: &[u8], unit: usize) -> Walk {
     walk.position = usize::from(behind[1]) * unit;
     walk.first = behind[2] == 1;
     walk
+}
+
+fn spaced(numbers: &[usize]) -> String {
+    numbers.iter().map(|number| format!(" {number}")).collect()
 }
 
 fn numbers_of(walk: &Walk, unit: usize) -> Vec<usize> {
@@ -731,6 +761,43 @@ fn walks(records: &mut Vec<Record>) {
     }
 }
 
+/// One instalment of a text and of its binary for each budget.
+fn slice_both(records: &mut Vec<Record>, from: [u8; STATE], text: &[u8], budgets: &[usize]) {
+    let binary = in_binary(text);
+    for (call, stream) in [
+        (WALK_ON_TEXT, Some(text)),
+        (WALK_ON_BINARY, binary.as_deref()),
+    ] {
+        let Some(stream) = stream else { continue };
+        for budget in budgets {
+            records.push(Record::new(call, *budget, &[&from, stream].concat()));
+        }
+    }
+}
+
+/// The budget exactly, the end, a refusal on the way, and 13 for a budget of 0
+/// too.
+fn instalments(records: &mut Vec<Record>) {
+    let start = [0; STATE];
+    slice_both(records, start, b"", &[0, 1]);
+    slice_both(
+        records,
+        start,
+        b"-AAB-AAAMAAB1AAM",
+        &[0, 1, 2, 3, 4, 5, 4096],
+    );
+    slice_both(records, start, b"MAABMAABMQAA", &[1, 2, 3, 4]);
+    slice_both(records, start, b"-AAC-_AAABAA", &[1, 2]);
+    let deep = nested('J', MOST_GROUPS + 1);
+    slice_both(records, start, deep.as_bytes(), &[MOST_GROUPS, 4096]);
+    let decks = &b"MAABMAABMAAB"[..];
+    slice_both(records, state(&[3, 3], 1, 0), decks, &[0, 1, 2, 3]);
+    for unfit in [state(&[], 4, 0), state(&[2], 2, 0), state(&[], 0, 1)] {
+        slice_both(records, unfit, decks, &[0, 1]);
+    }
+    slice_both(records, state(&[1], 0, 2), b"MAAB", &[0, 1]);
+}
+
 /// An expectation file: verdicts, and a remainder's number if any.
 fn expected(verdicts: &[u8], remainder: &[u8]) -> Vec<u8> {
     let mut bytes = Vec::new();
@@ -800,6 +867,7 @@ fn records() -> Vec<Record> {
     reads(&mut records);
     walks(&mut records);
     ordinary(&mut records);
+    instalments(&mut records);
     examples(&mut records);
     compares(&mut records);
     records

@@ -22,6 +22,10 @@ pub type Write = unsafe extern "C" fn(
 /// Stream, its length, state, item and answer.
 pub type Walk = unsafe extern "C" fn(*const u8, usize, *mut State, *mut Item, *mut usize) -> u8;
 
+/// Stream, its length, state, budget, items taken and answer.
+pub type WalkOn =
+    unsafe extern "C" fn(*const u8, usize, *mut State, usize, *mut usize, *mut usize) -> u8;
+
 extern "C" {
     pub fn cesr_text_to_binary(
         source: *const u8,
@@ -103,6 +107,22 @@ extern "C" {
         length: usize,
         state: *mut State,
         item: *mut Item,
+        answer: *mut usize,
+    ) -> u8;
+    pub fn cesr_walk_on_text(
+        stream: *const u8,
+        length: usize,
+        state: *mut State,
+        budget: usize,
+        items: *mut usize,
+        answer: *mut usize,
+    ) -> u8;
+    pub fn cesr_walk_on_binary(
+        stream: *const u8,
+        length: usize,
+        state: *mut State,
+        budget: usize,
+        items: *mut usize,
         answer: *mut usize,
     ) -> u8;
     pub fn cesr_compare(

@@ -11,7 +11,8 @@ mod walk;
 
 pub use compare::{compare, Counts};
 pub use walk::{
-    walk_binary, walk_text, Item, State, MAX_DEPTH, STATE, STATE_FIRST, STATE_OPEN, STATE_POSITION,
+    walk_binary, walk_on_binary, walk_on_text, walk_text, Instalment, Item, Pause, State,
+    MAX_DEPTH, STATE, STATE_FIRST, STATE_OPEN, STATE_POSITION,
 };
 
 /// A refused call: 01's number, and the place in the stream's own measure.

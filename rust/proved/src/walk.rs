@@ -52,3 +52,43 @@ fn step(
         _ => Err(Refusal { number, place }),
     }
 }
+
+/// What an instalment took, and why it is over.
+#[derive(Clone, Copy, Debug, PartialEq, Eq)]
+pub struct Instalment {
+    pub items: usize,
+    pub pause: Pause,
+}
+
+/// The budget is used up, or the end or a refusal came first.
+#[derive(Clone, Copy, Debug, PartialEq, Eq)]
+pub enum Pause {
+    Spent,
+    End,
+    Refused(Refusal),
+}
+
+/// At most so many items of a text from the state on, which goes on behind
+/// them; with no item it stays as it was.
+pub fn walk_on_text(text: &[u8], state: &mut State, budget: usize) -> Instalment {
+    walk_on(declared::cesr_walk_on_text, text, state, budget)
+}
+
+/// The same of a binary.
+pub fn walk_on_binary(binary: &[u8], state: &mut State, budget: usize) -> Instalment {
+    walk_on(declared::cesr_walk_on_binary, binary, state, budget)
+}
+
+fn walk_on(call: declared::WalkOn, stream: &[u8], state: &mut State, budget: usize) -> Instalment {
+    let (mut items, mut place) = (0, 0);
+    let (start, length) = (stream.as_ptr(), stream.len());
+    // SAFETY: the stream is valid for its length; state, items and place are
+    // places of their own, of the lengths that the library reads and writes.
+    let number = unsafe { call(start, length, state, budget, &mut items, &mut place) };
+    let pause = match number {
+        0 => Pause::Spent,
+        END => Pause::End,
+        _ => Pause::Refused(Refusal { number, place }),
+    };
+    Instalment { items, pause }
+}

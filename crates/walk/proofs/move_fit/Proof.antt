@@ -1,45 +1,61 @@
 -- `walk::move_fit` meets its contract. Assumes nothing.
-use Rattle.walk.proofs.Steps.{at-near, ends, spans, goes-ready, goes-on}
+use mathlib.Core.Path.{_≡_, sym, _∙_}
+use mathlib.Core.Bool.{Bool, true, false}
+use native.Mathlib.Omega.{arith}
+use borrow.Author.Tests.{not-true, not-false}
+use Rattle.walk.proofs.Fitting.{near-is, is-near}
+use Rattle.walk.proofs.Steps.{stepped, both-ways}
 use borrow.Author.Needs.{needs}
 use Rattle.walk.proofs.move_fit.Statement.{statement}
 use Rattle.walk.proofs.move_fit.Tie as tie
 
-ended-requires : tie.Need-ended-requires
-ended-requires c κs = at-near _ _ _ _ (c .before .before .before .before .pre .1)
+refused-requires : tie.Need-refused-requires
+refused-requires c κs = search needs
 
 returns : tie.Need-returns
-returns c = ends _ _ _ _ _ (c .before .before .before .before .before .pre .1) _ (c .before .if1 .taken) (c .ended .ensures)
+returns c = λ l f. absurd (omega arith)
 
-stop-requires : tie.Need-stop-requires
-stop-requires c κs = search needs
+measured-requires : tie.Need-measured-requires
+measured-requires c κs = search needs
 
-next-item-requires : tie.Need-next-item-requires
-next-item-requires c κs = let p = c .before .before .before .before .before .before .pre in spans _ _ _ _ (p .1) (c .before .before .if1 .left) _ (c .stop .ensures (p .0))
+is-near-requires : tie.Need-is-near-requires
+is-near-requires c κs = search needs
 
-yielded-requires : tie.Need-yielded-requires
-yielded-requires c κs =
-    let p = c .before .before .before .before .before .before .before .before .pre in
-    let ne = c .before .before .before .before .if1 .left in
-    let s = c .before .before .stop .ensures (p .0) in
-    (p .0, spans _ _ _ _ (p .1) ne _ s .slots, at-near _ _ _ _ (p .1), goes-ready _ _ _ _ (p .1) ne _ s _ (c .before .next-item .ensures))
+refused-requires-2 : tie.Need-refused-requires-2
+refused-requires-2 c κs = search needs
 
 same-length : tie.Need-same-length
 same-length c = search needs
 
 returns-2 : tie.Need-returns-2
 returns-2 c =
-    let s = c .before .before .before .before .before in
-    let p = s .before .before .before .before .before .before .pre in
-    goes-on _ _ _ _ (p .1) (s .before .before .if1 .left) _ (s .stop .ensures (p .0)) _ (c .before .before .before .before .next-item .ensures) _ (c .before .before .yielded .ensures)
+    let t = c .before .before in
+    λ l f. both-ways _ (sym (t .is-near .ensures l) ∙ not-true _ (c .before .if2 .taken)) (is-near _ _ _ _ (t .before .before .measured .ensures) f)
+
+move-near-requires : tie.Need-move-near-requires
+move-near-requires c κs =
+    let t = c .before .before in
+    (search needs, near-is _ _ _ _ (t .before .before .measured .ensures) (sym (t .is-near .ensures (search needs)) ∙ not-false _ (c .before .if2 .left)))
+
+same-length-2 : tie.Need-same-length-2
+same-length-2 c = search needs
+
+returns-3 : tie.Need-returns-3
+returns-3 c =
+    let t = c .before .before in
+    λ l f. stepped _ _ _ (t .before .before .before .before .before .measured .ensures) _ _ f (t .move-near .ensures)
 
 pub move-fit-spec : {M : Type 1} → statement M
 move-fit-spec =
     tie.close
     (tie.spec
-    ended-requires
+    refused-requires
     returns
-    stop-requires
-    next-item-requires
-    yielded-requires
+    measured-requires
+    is-near-requires
+    refused-requires-2
     same-length
-    returns-2)
+    returns-2
+    move-near-requires
+    same-length-2
+    returns-3)

@@ -1,7 +1,8 @@
-//! Steps of the walk by both, from the start and from made-up states.
+//! Steps and instalments of the walk by both, from the start and from made-up
+//! states.
 
 use crate::judges::{by_proved, same, Check};
-use proved::{State, MAX_DEPTH, STATE, STATE_FIRST, STATE_OPEN, STATE_POSITION};
+use proved::{Instalment, Pause, State, MAX_DEPTH, STATE, STATE_FIRST, STATE_OPEN, STATE_POSITION};
 use streams::{Form, Random};
 
 /// One step of both; whether an item was found. State and item must be the
@@ -29,9 +30,64 @@ pub fn one_step(stream: &[u8], form: Form, state: &mut State) -> Result<bool, St
 }
 
 /// Step by step to the end or the first refusal: the offsets of the items, and
-/// where it stopped.
+/// where it stopped. And once more in instalments, to the same state.
 pub fn from_the_start(stream: &[u8], form: Form) -> Result<Vec<usize>, String> {
-    from(stream, form, [0; STATE], usize::MAX)
+    let places = from(stream, form, [0; STATE], usize::MAX)?;
+    let mut random = Random::new(places.len() as u64);
+    let items = in_slices(stream, form, &mut [0; STATE], &mut random)?;
+    same("items of all instalments", items, places.len() - 1)?;
+    Ok(places)
+}
+
+/// One instalment of both. The state must be the same afterwards, also where
+/// it must stay.
+fn one_slice(
+    stream: &[u8],
+    form: Form,
+    state: &mut State,
+    budget: usize,
+) -> Result<Instalment, String> {
+    let before = *state;
+    let mut told_state = *state;
+    let (ours, theirs) = match form {
+        Form::Text => (
+            proved::walk_on_text(stream, state, budget),
+            beside::walk_on_text(stream, &mut told_state, budget),
+        ),
+        Form::Binary => (
+            proved::walk_on_binary(stream, state, budget),
+            beside::walk_on_binary(stream, &mut told_state, budget),
+        ),
+    };
+    same("instalment", (ours, *state), (theirs, told_state))
+        .map_err(|why| format!("{budget} from {before:?}, {why}"))?;
+    Ok(ours)
+}
+
+/// Instalments of many sizes to the end or the first refusal, which leave the
+/// state where one without bound does; how many items they took.
+fn in_slices(
+    stream: &[u8],
+    form: Form,
+    state: &mut State,
+    random: &mut Random,
+) -> Result<usize, String> {
+    let mut at_once = *state;
+    let whole = one_slice(stream, form, &mut at_once, usize::MAX)?;
+    let mut items = 0;
+    loop {
+        let more = 1 + random.below(1 + whole.items / 4);
+        let budget = *random.pick(&[0, 1, 2, 3, 64, more, more, usize::MAX]);
+        let slice = one_slice(stream, form, state, budget)?;
+        items += slice.items;
+        if slice.pause != Pause::Spent {
+            same("last pause", slice.pause, whole.pause)?;
+            break;
+        }
+        same("budget", slice.items, budget)?;
+    }
+    same("instalments", (items, *state), (whole.items, at_once))?;
+    Ok(items)
 }
 
 fn from(stream: &[u8], form: Form, mut state: State, most: usize) -> Result<Vec<usize>, String> {
@@ -62,6 +118,10 @@ pub fn from_made_up(stream: &[u8], form: Form, seed: u64) -> Check {
             violate(&mut random, stream.len() / form.unit(), &mut made_up);
         }
         from(stream, form, made_up, 5)?;
+        for budget in [0, 1, 1 + random.below(5)] {
+            one_slice(stream, form, &mut made_up.clone(), budget)?;
+        }
+        in_slices(stream, form, &mut made_up, &mut random)?;
     }
     Ok(())
 }

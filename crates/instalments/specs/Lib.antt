@@ -1,0 +1,5 @@
+pub mod Instalments
+pub mod Numbers
+pub mod Lent
+pub mod Claims
+pub mod Proved
