@@ -124,7 +124,7 @@ fn why(number: Number) -> String {
 
 /// A string of JSON, with nothing in it that a terminal would act on, and no
 /// blanks that would wrap what it shows.
-fn quoted(text: &str) -> String {
+pub fn quoted(text: &str) -> String {
     let mut quoted = String::from('"');
     for c in text.chars() {
         match c {

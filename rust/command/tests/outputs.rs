@@ -37,7 +37,7 @@ out, err = writes(['judge', '--json', 'gone.cesr', '-', 'samples/clean.cesr'], l
 assert len(out) == 3 and all(piece.endswith(b'\\n') for piece in out) and len(out[1]) > 80000, out
 assert err == [b'cesr: gone.cesr: No such file or directory\\n'], err
 _, err = writes(['convert', '--to', 'binary'], b'MAAB!!!!')
-assert len(err) == 1 and err[0].count(b'\\n') == 4, err
+assert len(err) == 1 and err[0].count(b'\\n') == 5, err
 _, err = writes(['jugde'])
 assert len(err) == 1 and err[0].endswith(b\"\\nTry 'cesr --help'.\\n\"), err
 ";

@@ -175,7 +175,7 @@ fn a_refused_conversion_writes_nothing() {
     let ran = fed(&["convert", "--to", "binary"], b"+AAB");
     assert!(ran
         .err
-        .ends_with("the byte at 0 is 2B hexadecimal, of ordinary Base64\n"));
+        .contains("the byte at 0 is 2B hexadecimal, of ordinary Base64\n        usually "));
     let ran = fed(&["convert", "--to", "binary"], b"MAAB\n");
     assert_eq!((ran.out.as_slice(), ran.status), (&b""[..], 2));
     assert_eq!(ran.err, expected("convert-2.txt"));
