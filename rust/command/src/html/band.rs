@@ -9,8 +9,9 @@ use crate::input::Input;
 use crate::markup::escaped;
 use crate::memory::Gathered;
 use crate::outcome::code_and_name;
+use crate::readable;
 use crate::words::{counted, measured};
-use cesr::{Form, Item, Report, Step, Verdict, Walk, STATE_POSITION};
+use cesr::{Form, Head, Item, Report, Step, Verdict, Walk, STATE_POSITION};
 use row::{Kind, Piece, Row, WHOLE};
 use std::io::{self, Write};
 use std::ops::Range;
@@ -57,26 +58,30 @@ pub fn drawn(input: &Input, report: &Report, columns: usize) -> io::Result<Vec<u
     if let Some(rest) = report.remainder() {
         let part = rest.offset..input.bytes.len();
         let said = format!("remainder {} from {}", rest.number, rest.offset);
-        band.piece(0, Kind::Remainder, part, "?", || said);
+        band.piece(0, Kind::Remainder, part, || ("?".to_string(), said));
     }
     band.whole(report)
 }
 
 /// Spares other items the walk.
 fn is_group(form: Form, item: &[u8]) -> bool {
-    let head = cesr::Head::of(form, item);
-    head.is_some_and(|head| head.code.is_group())
+    let dash = match (form, item.first()) {
+        (Form::Text, first) => first == Some(&b'-'),
+        // The sextet of `-` is 62.
+        (Form::Binary, first) => first.is_some_and(|byte| byte >> 2 == 62),
+    };
+    dash && Head::of(form, item).is_some_and(|head| head.code.is_group())
 }
 
 impl Band<'_> {
-    /// In which row, of which kind, where; what stands on it and what it is.
+    /// In which row, of which kind, where; and, if it is drawn by itself, the
+    /// code that stands on it and what it is.
     fn piece(
         &mut self,
         row: usize,
         kind: Kind,
         part: Range<usize>,
-        label: &str,
-        said: impl FnOnce() -> String,
+        said: impl FnOnce() -> (String, String),
     ) {
         if row > DEEP {
             self.deeper = self.deeper.saturating_add(1);
@@ -84,17 +89,13 @@ impl Band<'_> {
         }
         while self.rows.len() <= row {
             let below = self.rows.len().saturating_sub(1).saturating_mul(LOW);
-            let top = TOP
-                .saturating_add(HIGH)
-                .saturating_add(2)
-                .saturating_add(below);
-            self.rows
-                .push(Row::new(top, LOW.saturating_sub(2), self.columns));
+            let top = TOP.saturating_add(HIGH).saturating_add(2);
+            let (top, height) = (top.saturating_add(below), LOW.saturating_sub(2));
+            self.rows.push(Row::new(top, height, self.columns));
         }
         let (from, to) = (self.along(part.start), self.along(part.end));
-        let piece = Piece { kind, from, to };
         if let Some(row) = self.rows.get_mut(row) {
-            row.add(piece, label, said);
+            row.add(Piece { kind, from, to }, said);
         }
     }
 
@@ -108,20 +109,22 @@ impl Band<'_> {
     }
 
     fn item(&mut self, item: &Item) {
-        let (code, name) = code_and_name(self.input.form, item.of(&self.input.bytes));
-        let (index, range) = (item.index, item.range());
-        let (kind, verdict) = match item.verdict {
-            Verdict::Accepted => (Kind::Accepted, "accepted".to_string()),
-            Verdict::Refused(number) => (Kind::Refused, format!("refused {number}")),
+        let (input, index, range) = (self.input, item.index, item.range());
+        let kind = match item.verdict {
+            Verdict::Accepted => Kind::Accepted,
+            Verdict::Refused(_) => Kind::Refused,
         };
-        let size = measured(self.input.form, item.size);
-        let said = || {
-            format!(
-                "item {index}: {code} {name}, {size} from {}, {verdict}",
-                range.start
-            )
-        };
-        self.piece(0, kind, item.range(), &code, said);
+        self.piece(0, kind, item.range(), || {
+            let (code, name) = code_and_name(input.form, item.of(&input.bytes));
+            let verdict = match item.verdict {
+                Verdict::Accepted => "accepted".to_string(),
+                Verdict::Refused(number) => format!("refused {number}"),
+            };
+            let size = measured(input.form, item.size);
+            let from = range.start;
+            let said = format!("item {index}: {code} {name}, {size} from {from}, {verdict}");
+            (code, said)
+        });
     }
 
     /// What stands in a group, up to the first refusal: from there to the end
@@ -150,12 +153,11 @@ impl Band<'_> {
         open.retain(|group| end_of(group) > at);
         let end = open.last().map_or(part.len(), end_of);
         let place = base.saturating_add(at);
-        let said = || format!("refused at {place}; behind it nothing was judged");
+        let said = || unlabelled(format!("refused at {place}; behind it nothing was judged"));
         self.piece(
             open.len(),
             Kind::Refused,
             place..base.saturating_add(end),
-            "",
             said,
         );
     }
@@ -165,8 +167,8 @@ impl Band<'_> {
         let part = from..from.saturating_add(step.size);
         let size = measured(self.input.form, step.size);
         let name = step.head.name().unwrap_or_default();
-        let said = || format!("{} {name}, {size} from {from}", step.head);
-        self.piece(step.depth, Kind::Accepted, part, "", said);
+        let said = || unlabelled(format!("{} {name}, {size} from {from}", step.head));
+        self.piece(step.depth, Kind::Accepted, part, said);
     }
 
     /// A group that the walk stepped over: nobody looked at what it holds.
@@ -180,58 +182,52 @@ impl Band<'_> {
             return;
         }
         let part = base.saturating_add(from)..base.saturating_add(end_of(&group));
-        let said = || "not looked into".to_string();
-        self.piece(group.depth.saturating_add(1), Kind::Opaque, part, "", said);
+        let said = || unlabelled("not looked into".to_string());
+        self.piece(group.depth.saturating_add(1), Kind::Opaque, part, said);
     }
 
-    fn whole(self, report: &Report) -> io::Result<Vec<u8>> {
+    fn whole(mut self, report: &Report) -> io::Result<Vec<u8>> {
         let (form, length) = (self.input.form, self.input.bytes.len());
-        let (accepted, refused) = (report.accepted(), report.refused());
-        let rest = match report.remainder() {
-            Some(rest) => format!("a remainder from {}", rest.offset),
-            None => "no remainder".to_string(),
-        };
-        let said = format!(
-            "The stream in proportion: {}, {accepted} accepted, {refused} refused, {rest}",
-            counted(report.items().len(), "item")
-        );
+        let said = format!("The stream in proportion: {}", readable::sums(report));
         let below = self.rows.len().saturating_mul(LOW);
         let height = TOP.saturating_add(HIGH).saturating_add(below);
-        let opaque = self.rows.iter().any(|row| row.has(Kind::Opaque));
-        let deep = self.rows.len() > 1;
-        let mut out = Gathered::default();
-        writeln!(out, "<figure>\n<svg class=\"band\" role=\"img\" aria-label=\"{}\" width=\"100%\" height=\"{height}\">", escaped(&said))?;
-        for row in self.rows {
+        let (caption, mut out) = (self.caption(), Gathered::default());
+        write!(out, "<figure>\n<svg class=\"band\" role=\"img\" ")?;
+        write!(out, "aria-label=\"{}\" ", escaped(&said))?;
+        writeln!(out, "width=\"100%\" height=\"{height}\">")?;
+        for row in self.rows.drain(..) {
             out.write_all(row.whole().as_bytes())?;
         }
-        writeln!(out, "</svg>")?;
         let end = measured(form, length);
         writeln!(
             out,
-            "<p class=\"scale\"><span>0</span><span>{end}</span></p>"
+            "</svg>\n<p class=\"scale\"><span>0</span><span>{end}</span></p>"
         )?;
-        write!(out, "<figcaption>{}", key("accepted", "accepted"))?;
-        if refused > 0 {
-            write!(out, " {}", key("refused", "refused, with \u{25BC} above"))?;
+        writeln!(out, "<figcaption>{caption}</figcaption>\n</figure>")?;
+        Ok(out.0)
+    }
+
+    /// What fills, marks and rows mean, of those that are there.
+    fn caption(&self) -> String {
+        let is_there = |kind| self.rows.iter().any(|row| row.has(kind));
+        let mut said = vec![key("accepted", "accepted")];
+        for (kind, class, words) in [
+            (Kind::Refused, "refused", "refused, with \u{25BC} above"),
+            (Kind::Remainder, "remainder", "remainder, not judged"),
+            (Kind::Opaque, "opaque", "not looked into"),
+        ] {
+            said.extend(is_there(kind).then(|| key(class, words)));
         }
-        if report.remainder().is_some() {
-            write!(out, " {}", key("remainder", "remainder, not judged"))?;
-        }
-        if opaque {
-            write!(out, " {}", key("opaque", "not looked into"))?;
-        }
-        if deep {
-            write!(out, " <span>Below the band: what stands in groups.</span>")?;
+        if self.rows.len() > 1 {
+            said.push("<span>Below the band: what stands in groups.</span>".to_string());
         }
         if self.deeper > 0 {
             let items = counted(self.deeper, "item");
-            write!(
-                out,
-                " <span>{items} deeper than {DEEP} groups not drawn.</span>"
-            )?;
+            said.push(format!(
+                "<span>{items} deeper than {DEEP} groups not drawn.</span>"
+            ));
         }
-        writeln!(out, "</figcaption>\n</figure>")?;
-        Ok(out.0)
+        said.join(" ")
     }
 }
 
@@ -239,9 +235,14 @@ fn end_of(group: &Step) -> usize {
     group.offset.saturating_add(group.size)
 }
 
+/// Rows below the band are too low for a code.
+fn unlabelled(said: String) -> (String, String) {
+    (String::new(), said)
+}
+
 /// A piece as it is drawn, and what it means.
 fn key(class: &str, said: &str) -> String {
-    format!(
-        "<span class=\"key\"><svg width=\"22\" height=\"12\" aria-hidden=\"true\"><rect class=\"{class}\" x=\"1\" y=\"1\" width=\"20\" height=\"10\"/></svg> {said}</span>"
-    )
+    let piece = format!("<rect class=\"{class}\" x=\"1\" y=\"1\" width=\"20\" height=\"10\"/>");
+    let drawn = format!("<svg width=\"22\" height=\"12\" aria-hidden=\"true\">{piece}</svg>");
+    format!("<span class=\"key\">{drawn} {said}</span>")
 }

@@ -10,12 +10,14 @@ use std::ops::Range;
 /// Units that are shown: eighty characters, or sixty bytes.
 const UNITS: usize = 20;
 
-/// Nothing for a place outside the stream.
+/// The bytes of `what`, an item or the remainder; nothing for a place outside
+/// the stream.
 pub fn written(
     out: &mut dyn Write,
     input: &Input,
     item: Range<usize>,
     place: usize,
+    what: &str,
 ) -> io::Result<()> {
     let (form, unit) = (input.form, input.form.unit());
     let width = unit.saturating_mul(UNITS);
@@ -31,12 +33,9 @@ pub fn written(
     };
     write!(
         out,
-        "<p class=\"of\">{part} from {from} on. Underlined: what is "
+        "<p class=\"of\">{part} from {from} on. Underlined: {what}. "
     )?;
-    write!(
-        out,
-        "refused. In a box: the place.</p>\n<p class=\"bytes {form}\">"
-    )?;
+    write!(out, "In a box: the place.</p>\n<p class=\"bytes {form}\">")?;
     if before {
         write!(out, "<span class=\"cut\">\u{2026}</span>")?;
     }

@@ -35,7 +35,7 @@ pub fn refused(
         "The item",
         &format!("{}, {size} from {}", coded(&code, name), item.offset),
     )?;
-    closed(out, input, item.range(), row.refusal)
+    closed(out, input, item.range(), row.refusal, "the item")
 }
 
 pub fn remainder(out: &mut dyn Write, input: &Input, rest: Remainder) -> io::Result<()> {
@@ -46,7 +46,8 @@ pub fn remainder(out: &mut dyn Write, input: &Input, rest: Remainder) -> io::Res
     opened(out, "remainder", "?", &title, refusal)?;
     let why = "nobody knows where the next item starts";
     said(out, "Not judged", &format!("{left}: {why}"))?;
-    closed(out, input, offset..input.bytes.len(), refusal)
+    let part = offset..input.bytes.len();
+    closed(out, input, part, refusal, "the remainder")
 }
 
 fn opened(
@@ -73,6 +74,7 @@ fn closed(
     input: &Input,
     part: Range<usize>,
     refusal: Refusal,
+    what: &str,
 ) -> io::Result<()> {
     let (form, start) = (input.form, part.start);
     let bytes = input.bytes.get(part.clone()).unwrap_or_default();
@@ -98,7 +100,7 @@ fn closed(
     }
     said(out, "Usually", &escaped(hint::usually(refusal.number)))?;
     writeln!(out, "</dl>")?;
-    bytes::written(out, input, part, refusal.place)?;
+    bytes::written(out, input, part, refusal.place, what)?;
     writeln!(out, "</article>")
 }
 

@@ -84,7 +84,7 @@ impl Row {
     }
 
     /// The next piece, which stands behind all before it.
-    pub fn add(&mut self, piece: Piece, label: &str, said: impl FnOnce() -> String) {
+    pub fn add(&mut self, piece: Piece, said: impl FnOnce() -> (String, String)) {
         if !self.has(piece.kind) {
             self.kinds.push(piece.kind);
         }
@@ -92,8 +92,9 @@ impl Row {
             return self.join(piece);
         }
         self.flush();
-        self.draw(piece, &said());
-        self.label(piece, label);
+        let (label, said) = said();
+        self.draw(piece, &said);
+        self.label(piece, &label);
     }
 
     /// A thin piece joins those before it, if it stands beside them. One of
@@ -198,7 +199,7 @@ mod tests {
                 from: *from,
                 to: *to,
             };
-            row.add(piece, "", String::new);
+            row.add(piece, Default::default);
         }
         row.whole()
     }
