@@ -27,6 +27,19 @@ VIEWS = {
 }
 
 
+# What would be wrong with a page, the view in which it shows, and how it is said.
+FAULTS = [
+    ("word-break: normal", "word-break: break-all", "narrowest", "broken word"),
+    ("max-width: 65rem;", "min-width: 60rem;", "narrow-light", "wider than the window"),
+    ("--soft: #565c66", "--soft: #a0a5ad", "wide-light", "hard to read"),
+    ("--soft: #aab0ba", "--soft: #555b66", "narrow-dark", "hard to read"),
+    ("--page: #ffffff; --ink: #000000", "--page: #16181c; --ink: #e9eaec", "paper-dark", "paper is not white"),
+    ("✕</span> failed", "</span> failed", "wide-light", "an outcome without its sign"),
+    ("fill: url(#refused)", "fill: #b32020", "wide-light", "something refused has a plain fill"),
+    ('class="mark"', 'class="other"', "wide-light", "something refused has no mark"),
+    ("<footer>", "<script></script><footer>", "wide-light", "the page is not whole by itself"),
+]
+
 # Names that look like markup, and that have no place to be broken.
 ODD = "<b>passed</b> & 'passed'".replace("/", "\u2044")
 LONG = "x" * 200
@@ -104,6 +117,20 @@ def looked_at(browser, name, expected):
         browser.picture(folder / f"{name}-{view}.png")
 
 
+def faults_are_found(browser, page):
+    """Would anybody notice? Each fault by itself, in a copy of a page."""
+    for old, new, view, told in FAULTS:
+        text = page.read_text()
+        assert old in text, old
+        copy = folder / "fault.html"
+        copy.write_text(text.replace(old, new))
+        browser.open(copy)
+        browser.view(*VIEWS[view])
+        wrong = browser.ask(questions)
+        assert any(one.startswith(told) for one in wrong), f"not found: {new}: {wrong}"
+    copy.unlink()
+
+
 def main():
     prepared()
     browser = Browser(program)
@@ -115,8 +142,9 @@ def main():
         looked_at(browser, name, expected)
         browser.paper(folder / f"{name}.pdf")
         count += 1
+    faults_are_found(browser, folder / "first.html")
     browser.end()
-    print(f"{count} pages looked at in {len(VIEWS)} views; pictures in {folder.relative_to(pathlib.Path.cwd())}")
+    print(f"{len(FAULTS)} faults found, {count} pages looked at in {len(VIEWS)} views; pictures in {folder.relative_to(pathlib.Path.cwd())}")
 
 
 main()

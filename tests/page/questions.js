@@ -66,6 +66,9 @@
     if (fills.some((fill) => !fill.startsWith("url("))) wrong.push("something refused has a plain fill");
     if (fills.length > 0 && !band.querySelector(".mark")) wrong.push("something refused has no mark");
   }
+  if (matchMedia("print").matches && getComputedStyle(document.body).backgroundColor !== "rgb(255, 255, 255)") {
+    wrong.push("paper is not white");
+  }
   if (document.querySelector("script, link, img, iframe, object")) wrong.push("the page is not whole by itself");
   return wrong;
 })()
