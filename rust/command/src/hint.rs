@@ -39,7 +39,7 @@ const WORDS: [(Number, &str, &str); 14] = [
     (
         Number::PAST_END,
         "The item asks for more than is left.",
-        "a stream that was cut off, items counted where units are asked for, or a line feed at the end",
+        "a stream cut off, items counted instead of units, or a line feed at the end",
     ),
     (
         Number::CHARACTER,
@@ -107,7 +107,7 @@ mod tests {
                 "{number}: {plain}"
             );
             assert!(!usually.is_empty() && !usually.ends_with('.'), "{number}");
-            assert!(usually.len() < 100, "{number}: {usually}");
+            assert!(usually.len() < 80, "{number}: {usually}");
             assert!(plain.is_ascii() && usually.is_ascii(), "{number}");
         }
     }

@@ -49,11 +49,11 @@ impl Gathers for Suite {
         let (took, said) = (seconds(self.took), escaped(&words));
         let sums = format!(
             "name=\"cesr judge\" tests=\"{count}\" failures=\"{failures}\" errors=\"{errors}\" \
-             skipped=\"0\" time=\"{took}\""
+             time=\"{took}\""
         );
         let mut out = Gathered::default();
         writeln!(out, "<?xml version=\"1.0\" encoding=\"UTF-8\"?>")?;
-        writeln!(out, "<testsuites {sums}>\n<testsuite {sums}>")?;
+        writeln!(out, "<testsuites {sums}>\n<testsuite {sums} skipped=\"0\">")?;
         let version = env!("CARGO_PKG_VERSION");
         writeln!(out, "<properties>")?;
         writeln!(out, "<property name=\"cesr\" value=\"{version}\"/>")?;

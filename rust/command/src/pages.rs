@@ -125,7 +125,8 @@ impl Pages {
 fn file_of(case: &Case) -> Option<&Path> {
     match case {
         Case::Stream(Source::File(path), _) => Some(path),
-        _ => None,
+        Case::Stream(Source::Standard, _) => Some(Path::new("/dev/stdin")),
+        Case::Trouble(..) => None,
     }
 }
 

@@ -61,6 +61,7 @@ impl Gathers for Log {
             ",\"semanticVersion\":\"{version}\",\"rules\":[{}]}}}}",
             rules()
         )?;
+        write!(out, ",\"columnKind\":\"unicodeCodePoints\"")?;
         write!(out, ",\"invocations\":[{{\"executionSuccessful\":{well}")?;
         write!(out, ",\"exitCode\":{}", worst.status())?;
         write!(out, ",\"toolExecutionNotifications\":[")?;

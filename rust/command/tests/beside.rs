@@ -15,7 +15,7 @@ fn lines_and_status_are_what_they_are_without() {
     assert_eq!(ran, run(&[&["judge"], &NAMES[..]].concat()));
     assert_eq!(ran.status, 2);
     let sums = "5 streams: 1 passed, 2 failed, 2 not judged; \
-                15 items, 7 accepted, 8 refused, 1 remainder";
+                11 items, 10 accepted, 1 refused, 1 remainder";
     let script = format!("assert '{sums}' in text and '! error' in text, text");
     assert_eq!(reads(&page, &script), "");
     for style in ["--json", "--all", "--report"] {
@@ -127,6 +127,10 @@ fn what_is_read_is_not_written_over() {
         (
             "--sarif deck --manifest LIST",
             "--sarif would replace deck, which is read",
+        ),
+        (
+            "--html deck < deck",
+            "--html would replace deck, which is read",
         ),
         (
             "--html LIST --manifest LIST",

@@ -34,7 +34,7 @@ for said in (
     '-A Generic pipeline group, 20 characters from 0',
     'at 12: 0A Random salt/seed/nonce/private key/sn, 128 bits',
     '-B Message + attachments group, 16 characters from 4',
-    'asks for 24 characters, 8 characters are left', 'a stream that was cut off',
+    'asks for 24 characters, 8 characters are left', 'a stream cut off, items counted',
     'Remainder 6 from 20', 'No item starts like this.', '6: code unknown or reserved',
     '4 characters: nobody knows where the next item starts', 'cesr 0.1.0',
     'text (detected from the first bytes)', '1 item, 0 accepted, 1 refused, remainder 6 from 20',
@@ -92,6 +92,10 @@ fn groups_are_drawn_with_their_contents() {
 assert sorted(rect['class'] for rect in page.rects) == ['accepted'] * 3 + ['opaque'], page.rects
 assert 'not looked into' in text and 'Beware 1 opaque group with 8 characters' in text, text
 ";
+    assert_eq!(reads(&page, script), "");
+    // A stranger in a group that is not looked into: the group itself is refused.
+    let (_, page) = beside("--html", &["--form", "text"], b"-KACAAA!_AAA");
+    let script = "assert [rect['class'] for rect in page.rects] == ['refused'], page.rects";
     assert_eq!(reads(&page, script), "");
     let (_, page) = beside("--html", &["samples/faults.cesr"], b"");
     let script = "assert 'items deeper than 6 groups not drawn' in text, text";

@@ -13,7 +13,7 @@ fn a_suite_has_a_case_for_each_stream() {
     let (ran, suite) = beside("--junit", &NAMES, b"");
     assert_eq!(ran.status, 2);
     let told = "samples/clean.cesr []
-samples/faults.cesr [('failure', 'failed', 'text (detected), 9 items, 1 accepted, 8 refused, no remainder; first refused 4 at 4')]
+samples/first.cesr [('failure', 'failed', 'text (detected), 5 items, 4 accepted, 1 refused, no remainder; first refused 8 at 80')]
 samples/cut.cesr [('failure', 'failed', 'text (detected), 1 item, 1 accepted, 0 refused, remainder 4 from 8')]
 gone.cesr [('error', 'error', 'No such file or directory')]
 /dev/null [('error', 'empty', 'the stream is empty: nothing was judged')]
@@ -21,7 +21,7 @@ gone.cesr [('error', 'error', 'No such file or directory')]
     assert_eq!(python(SUITE, &suite), told);
     let words = "print(suite.findall('testcase')[1].find('failure').text)";
     let said = python(&format!("{SUITE}{words}"), &suite);
-    assert!(said.contains("item 6: refused 10 at 44, tag prepad not `_`"));
+    assert!(said.contains("item 2: refused 8 at 80, pad bit or lead byte not zero"));
 }
 
 #[test]
@@ -38,11 +38,7 @@ assert run['artifacts'][0]['hashes']['sha-256'].startswith('d35497b2') and run['
 assert call['executionSuccessful'] is False and call['exitCode'] == 2
 assert len(call['toolExecutionNotifications']) == 2
 ";
-    // 01: items of `faults.cesr` start at 0, 8, 16, 24, 36, 40, 44 and 48.
-    let told = "cesr-4 samples/faults.cesr 0 8\ncesr-5 samples/faults.cesr 8 8\n\
-                cesr-6 samples/faults.cesr 16 8\ncesr-7 samples/faults.cesr 24 12\n\
-                cesr-8 samples/faults.cesr 36 4\ncesr-9 samples/faults.cesr 40 4\n\
-                cesr-10 samples/faults.cesr 44 4\ncesr-11 samples/faults.cesr 48 260\n\
+    let told = "cesr-8 samples/first.cesr 80 44\n\
                 cesr-4 samples/cut.cesr 8 52\ncesr-not-judged gone.cesr None None\n\
                 cesr-not-judged file:///dev/null None None\n\
                 ['passed', 'failed', 'failed', 'error', 'empty']\n";
@@ -53,6 +49,18 @@ assert run['results'] == [] and call['executionSuccessful'] is True and call['ex
 ";
     let said = python(&format!("{LOG}{script}"), &log);
     assert_eq!((ran.status, said.as_str()), (0, ""));
+    // Items of 8, 8, 12 and 4 characters, each refused, and what is left.
+    let stream = b"-AAB0AAA-AABMAA!-AAC-_AAABAAMQAA_AAA";
+    let (_, log) = beside("--sarif", &[], stream);
+    let script = "
+for result in run['results']:
+    region = result['locations'][0]['physicalLocation']['region']
+    print(result['ruleId'], region['byteOffset'], region['byteLength'], result['properties'])
+";
+    let told = "cesr-4 0 8 {'item': 0, 'place': 4}\ncesr-5 8 8 {'item': 1, 'place': 15}\n\
+                cesr-7 16 12 {'item': 2, 'place': 20}\ncesr-8 28 4 {'item': 3, 'place': 28}\n\
+                cesr-6 32 4 {'place': 32}\n";
+    assert_eq!(python(&format!("{LOG}{script}"), &log), told);
     // A binary stream has bytes and no lines.
     let (_, log) = beside("--sarif", &["samples/first-binary.cesr"], b"");
     let script = "

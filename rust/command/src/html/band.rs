@@ -151,7 +151,10 @@ impl Band<'_> {
         let units = walk.state().numbers().get(STATE_POSITION).copied();
         let at = units.unwrap_or(0).saturating_mul(form.unit());
         open.retain(|group| end_of(group) > at);
-        let end = open.last().map_or(part.len(), end_of);
+        // Where the group itself is what is refused, nothing in it was judged.
+        let Some(end) = open.last().map(end_of) else {
+            return;
+        };
         let place = base.saturating_add(at);
         let said = || unlabelled(format!("refused at {place}; behind it nothing was judged"));
         self.piece(
