@@ -6,7 +6,7 @@ use crate::input::{self, Input};
 use crate::name::shown;
 use crate::standing::Standing;
 use crate::terminal::Progress;
-use crate::{complain, excerpt, hint, memory, readable, replace, words};
+use crate::{complain, excerpt, memory, readable, replace, words};
 use cesr::{Form, Number, Refusal};
 use std::io::{self, IsTerminal, Write};
 use std::path::Path;
@@ -82,7 +82,7 @@ fn explained(input: &Input, refusal: Refusal) -> String {
     }
     text.push_str(&format!(
         "\n        usually {}",
-        hint::usually(refusal.number)
+        crate::hint::usually(refusal.number)
     ));
     text
 }

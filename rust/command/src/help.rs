@@ -33,7 +33,7 @@ show      One item at an offset, as a stream by itself: code, name, raw value in
           hexadecimal or tag characters; a group with the items inside.
 manifest  A line for each FILE: SHA256 LENGTH FORM NAME. Names in a manifest are
           relative to its folder. It looks at no codes.
-numbers   What each number of a refusal means and what is usually behind it.
+numbers   What each number of a refusal means.
 
 No FILE, or -, is standard input. Behind -- every word is a file's name, - too:
 put it before names that come from a list or a pattern. Without it a word that

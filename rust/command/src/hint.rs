@@ -20,7 +20,7 @@ fn of(number: Number) -> (Number, &'static str, &'static str) {
 
 /// A number, what it says, what is usually behind it.
 #[rustfmt::skip]
-const WORDS: [(Number, &str, &str); 14] = [
+const WORDS: &[(Number, &str, &str)] = &[
     (
         Number::TOO_LONG,
         "The stream is longer than any that is judged.",
