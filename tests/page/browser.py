@@ -10,7 +10,7 @@ import tempfile
 
 class Browser:
     def __init__(self, program):
-        self.folder = tempfile.TemporaryDirectory()
+        self.folder = tempfile.TemporaryDirectory(ignore_cleanup_errors=True)
         asked, self.asks = os.pipe()
         self.told, tells = os.pipe()
         self.child = subprocess.Popen(

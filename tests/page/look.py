@@ -5,6 +5,7 @@ look.py CHROMIUM CESR FOLDER; pictures go to FOLDER, for who wants to look too."
 import hashlib
 import pathlib
 import re
+import signal
 import subprocess
 import sys
 
@@ -132,6 +133,8 @@ def faults_are_found(browser, page):
 
 
 def main():
+    # A browser that hangs ends the test.
+    signal.alarm(900)
     prepared()
     browser = Browser(program)
     count = 0

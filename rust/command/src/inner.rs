@@ -79,7 +79,7 @@ impl Inner {
     fn size(&self) -> Option<usize> {
         let unit = self.form.unit();
         let Some(head) = self.head else {
-            return Some(unit);
+            return (self.left < unit).then_some(unit);
         };
         let units: usize = match head.code {
             Code::Large { .. } | Code::LargeGroup { .. } | Code::GenusVersion => 2,
