@@ -41,8 +41,7 @@ impl Inner {
                 groups.push(step);
             }
         }
-        let units = walk.state().numbers().get(STATE_POSITION).copied();
-        let at = units.unwrap_or(0).saturating_mul(form.unit());
+        let at = position(form, &walk);
         groups.retain(|group| end_of(group) > at);
         let end = groups.last().map_or(part.len(), end_of);
         let here = part.get(at..end).unwrap_or_default();
@@ -100,7 +99,13 @@ impl Inner {
     }
 }
 
-fn end_of(group: &Step) -> usize {
+/// Where a walk stands: behind what it yielded, before what it refused.
+pub fn position(form: Form, walk: &Walk) -> usize {
+    let units = walk.state().numbers().get(STATE_POSITION).copied();
+    units.unwrap_or(0).saturating_mul(form.unit())
+}
+
+pub fn end_of(group: &Step) -> usize {
     group.offset.saturating_add(group.size)
 }
 

@@ -93,6 +93,13 @@ assert sorted(rect['class'] for rect in page.rects) == ['accepted'] * 3 + ['opaq
 assert 'not looked into' in text and 'Beware 1 opaque group with 8 characters' in text, text
 ";
     assert_eq!(reads(&page, script), "");
+    // Not looked into before a refusal as well; a group that holds nothing hides nothing.
+    let (_, page) = beside("--html", &["--form", "text"], b"-AAE-KAB_AAAMQAA-AAA-KAA");
+    let script = "
+kinds = sorted(rect['class'] for rect in page.rects)
+assert kinds == ['accepted'] * 2 + ['opaque'] + ['refused'] * 2, page.rects
+";
+    assert_eq!(reads(&page, script), "");
     // A stranger in a group that is not looked into: the group itself is refused.
     let (_, page) = beside("--html", &["--form", "text"], b"-KACAAA!_AAA");
     let script = "assert [rect['class'] for rect in page.rects] == ['refused'], page.rects";

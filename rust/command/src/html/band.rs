@@ -5,13 +5,14 @@
 
 mod row;
 
+use crate::inner::{end_of, position};
 use crate::input::Input;
 use crate::markup::escaped;
 use crate::memory::Gathered;
 use crate::outcome::code_and_name;
 use crate::readable;
 use crate::words::{counted, measured};
-use cesr::{Form, Head, Item, Report, Step, Verdict, Walk, STATE_POSITION};
+use cesr::{Code, Form, Head, Item, Report, Step, Verdict, Walk};
 use row::{Kind, Piece, Row, WHOLE};
 use std::io::{self, Write};
 use std::ops::Range;
@@ -145,13 +146,10 @@ impl Band<'_> {
             }
             last = Some(step);
         }
-        if group.verdict == Verdict::Accepted {
-            return self.unopened(base, last, None);
-        }
-        let units = walk.state().numbers().get(STATE_POSITION).copied();
-        let at = units.unwrap_or(0).saturating_mul(form.unit());
+        let at = position(form, &walk);
+        self.unopened(base, last.filter(|group| end_of(group) <= at), None);
         open.retain(|group| end_of(group) > at);
-        // Where the group itself is what is refused, nothing in it was judged.
+        // None is open at the end, nor where the group itself is refused.
         let Some(end) = open.last().map(end_of) else {
             return;
         };
@@ -179,7 +177,12 @@ impl Band<'_> {
         let Some(group) = last.filter(|step| step.head.code.is_group()) else {
             return;
         };
-        let from = group.offset.saturating_add(self.input.form.unit());
+        let header: usize = match group.head.code {
+            Code::LargeGroup { .. } => 2,
+            _ => 1,
+        };
+        let header = header.saturating_mul(self.input.form.unit());
+        let from = group.offset.saturating_add(header);
         let opened = next.is_some_and(|depth| depth > group.depth);
         if opened || end_of(&group) <= from {
             return;
@@ -232,10 +235,6 @@ impl Band<'_> {
         }
         said.join(" ")
     }
-}
-
-fn end_of(group: &Step) -> usize {
-    group.offset.saturating_add(group.size)
 }
 
 /// Rows below the band are too low for a code.
