@@ -14,4 +14,4 @@ if [ ! -f target/staticlib/libexports.a ]; then
   rt staticlib exports
 fi
 (cd rust && cargo build --offline --quiet --release -p command)
-exec python3 tests/page/look.py "$browser" rust/target/release/cesr target/page
+exec python3 -B tests/page/look.py "$browser" rust/target/release/cesr target/page
