@@ -3,8 +3,8 @@
  * Terms. T is text, in characters of URL-safe Base64; B is binary, in bytes. A unit is 4 characters in T, 3 bytes in B. Every call
  * returns a number: 0 for accepted, or one of the numbers below for refused. A refused call writes to no buffer, tag, info, item or
  * state: it writes only the place behind `answer`. An accepted call writes its answer from the buffer's start; bytes behind it stay.
- * The place is the character for 5, else the item's start; 0 for 1, 2, 3, 12, 13 and for a writer's 6, and for a writer's 5 the index
- * among the tag characters. Places, offsets and lengths count characters in T and bytes in B.
+ * The place is the character for 5, else the item's start; 0 for 1, 2, 3, 12, 13 and for a writer's 6 and 18, and for a writer's 5 the
+ * index among the tag characters. Places, offsets and lengths count characters in T and bytes in B.
  *
  * What the caller ensures: no pointer is null, also where its length is 0; what is written (buffer, tag, info, item, state, answer)
  * overlaps nothing else that the call is given; each length is that of the memory behind its pointer. The library keeps nothing
@@ -35,6 +35,7 @@ enum cesr_number {
     CESR_UNFIT_LENGTH = 12,       /* writer: raw length or tag length unfit for the code */
     CESR_UNFIT_STATE = 13,        /* walk state unfit for the stream */
     CESR_NOT_A_PRIMITIVE = 14,    /* primitive asked for, group or genus/version found */
+    CESR_NOT_SHORT = 18,          /* large variable code or large group whose size fits the small code */
     CESR_END = 255                /* the walk alone: the end of the stream */
 };
 
@@ -76,9 +77,10 @@ uint8_t cesr_read_text(const uint8_t *stream, size_t stream_len, size_t at, uint
  * stay as they were. */
 uint8_t cesr_read_binary(const uint8_t *stream, size_t stream_len, size_t at, uint8_t tag[11], size_t info[6], size_t *answer);
 
-/* Writes a primitive as text: 6 (any code that isn't a primitive's), 12, 5 (tags), 3. tags: how many places of tag count; the others
- * are ignored. Room asked is the exact size. *answer: the characters written, or the place. Refused, out stays as it was; accepted,
- * bytes behind the item stay. A second item goes into the rest of the buffer: out + *answer, out_len - *answer. */
+/* Writes a primitive as text: 6 (any code that isn't a primitive's), 12, 18, 5 (tags), 3. tags: how many places of tag count; the
+ * others are ignored. A variable is small up to 12,285 raw bytes, where a large one is 18, and large from 12,286 on, where a small one
+ * is 12. Room asked is the exact size. *answer: the characters written, or the place. Refused, out stays as it was; accepted, bytes
+ * behind the item stay. A second item goes into the rest of the buffer: out + *answer, out_len - *answer. */
 uint8_t cesr_write_text(uint8_t chars, uint8_t letter, const uint8_t tag[11], size_t tags, const uint8_t *raw, size_t raw_len,
                         uint8_t *out, size_t out_len, size_t *answer);
 

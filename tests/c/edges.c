@@ -131,8 +131,9 @@ static uint8_t walk_from(walks *call, const uint8_t *source, size_t length, size
     return number;
 }
 
-/* A stream cut short at each of its places, so that each header and value runs past the end of its memory. */
-static void cut_short(lent *report, walks *walk, const uint8_t *whole, size_t size) {
+/* A stream cut short at each of its places, so that each header and value runs past the end of its memory. The walk of the whole one
+ * ends as told. */
+static void cut_short(lent *report, walks *walk, const uint8_t *whole, size_t size, uint8_t told) {
     for (size_t length = 0; length <= size; length++) {
         size_t room = 17 + 18 * (length / 3);
         uint8_t *out = exact(room), *source = copied(whole, length);
@@ -141,7 +142,7 @@ static void cut_short(lent *report, walks *walk, const uint8_t *whole, size_t si
         check(report(source, length, out, room, answer) == 0, "a report", length);
         check(held(out, *answer, room), "bytes behind the report stay", length);
         uint8_t last = walk_from(walk, source, length, 0);
-        check(last == CESR_END || last == CESR_PAST_END, "the end, or an item that passes it", length);
+        check(length == size ? last == told : last == CESR_END || last == CESR_PAST_END, "the end, or an item that passes it", length);
         check(memcmp(source, whole, length) == 0, "the stream stays", length);
         free(out);
         free(source);
@@ -149,12 +150,12 @@ static void cut_short(lent *report, walks *walk, const uint8_t *whole, size_t si
     }
 }
 
-static void cut_in_both_forms(const char *text) {
+static void cut_in_both_forms(const char *text, uint8_t told) {
     size_t length = strlen(text), answer = 0;
     uint8_t *binary = exact(length / 4 * 3);
     check(cesr_text_to_binary((const uint8_t *)text, length, binary, length / 4 * 3, &answer) == 0, "whole units", length);
-    cut_short(cesr_report_text, cesr_walk_text, (const uint8_t *)text, length);
-    cut_short(cesr_report_binary, cesr_walk_binary, binary, length / 4 * 3);
+    cut_short(cesr_report_text, cesr_walk_text, (const uint8_t *)text, length, told);
+    cut_short(cesr_report_binary, cesr_walk_binary, binary, length / 4 * 3, told);
     free(binary);
 }
 
@@ -248,11 +249,15 @@ static void written(uint8_t chars, size_t raw_length) {
 static void writing(void) {
     for (size_t length = 0; length < 12; length++) {
         written(5, length);
-        written(6, length);
+        write_to(cesr_write_text, 6, length, 0, CESR_NOT_SHORT, 0);
+        write_to(cesr_write_binary, 6, length, 40, CESR_NOT_SHORT, 0);
     }
-    written(5, 12285);
-    write_to(cesr_write_text, 5, 12286, 20000, CESR_UNFIT_LENGTH, 0);
-    written(6, 12286);
+    for (size_t length = 12283; length <= 12285; length++) {
+        written(5, length);
+        write_to(cesr_write_text, 6, length, 20000, CESR_NOT_SHORT, 0);
+        write_to(cesr_write_text, 5, length + 3, 20000, CESR_UNFIT_LENGTH, 0);
+        written(6, length + 3);
+    }
     /* A fixed code takes just its length: `B` has 32 bytes. */
     write_to(cesr_write_text, 1, 32, 44, 0, 44);
     write_to(cesr_write_text, 1, 32, 43, CESR_ROOM, 0);
@@ -307,8 +312,10 @@ int main(void) {
         streams_of(items);
     }
     streams_of(2048); /* 8,192 characters */
-    cut_in_both_forms("-AAE-_AAACAA0J_AMAAB-JAC5BABAGhp--KAAAABAAAA9AABAAABAABh7AABAAAA");
-    cut_in_both_forms("EBdXt3gIXOf2BBWNHdSXCJnFJL5OuQPyM5K0neuniccM1AAF____0HD_____");
+    cut_in_both_forms("-AAE-_AAACAA0J_AMAAB-JAC5BABAGhp-KABAAAA6BABAABh4BAA", CESR_END);
+    cut_in_both_forms("EBdXt3gIXOf2BBWNHdSXCJnFJL5OuQPyM5K0neuniccM1AAF____0HD_____", CESR_END);
+    cut_in_both_forms("MAAB--KAAAABAAAA", CESR_NOT_SHORT);
+    cut_in_both_forms("MAAB9AABAAABAABh", CESR_NOT_SHORT);
     reading();
     reading_binary();
     writing();

@@ -47,6 +47,7 @@ static const uint8_t REFUSED_8[] = {0, 0, 0, 1, 0, 0, 0, 0, 0, 0, 0, 4, 8, 0, 0,
 static const uint8_t REST_4[] = {0, 0, 0, 0, 0, 0, 0, 0, 0, 0, 0, 1, 0, 0, 0, 0, 4};
 static const uint8_t REST_6[] = {0, 0, 0, 0, 0, 0, 0, 0, 0, 0, 0, 1, 0, 0, 0, 0, 6};
 static const uint8_t INNER_7[] = {0, 0, 0, 1, 0, 0, 0, 0, 0, 0, 0, 12, 7, 0, 0, 0, 1, 0, 0, 0, 0, 7, 0, 0, 0, 4, 0, 0, 0, 0};
+static const uint8_t REFUSED_18[] = {0, 0, 0, 1, 0, 0, 0, 0, 0, 0, 0, 12, 18, 0, 0, 0, 1, 0, 0, 0, 0, 18, 0, 0, 0, 0, 0, 0, 0, 0};
 static const uint8_t NOTHING[12] = {0};
 /* `-AAB0AAAMAAB`: 00000002, 00000000 00000008 04, 00000008 00000004 00; 00000001, 00000000 04 00000004; 00000000. */
 static const uint8_t LONG[] = {0, 0, 0, 2, 0, 0, 0, 0, 0, 0, 0, 8, 4, 0, 0, 0, 8, 0, 0, 0,
@@ -74,6 +75,7 @@ static void reports(void) {
     report("-0AA", 0, REST_6, sizeof REST_6);
     report("-AAC-_AAABAA", 1, INNER_7, sizeof INNER_7);
     report("-AAB0AAAMAAB", 2, LONG, sizeof LONG);
+    report("--JAAAABMAAB", 1, REFUSED_18, sizeof REFUSED_18);
 }
 
 static void binary_report(void) {
@@ -169,6 +171,7 @@ static void reading(void) {
     not_read("-AAA", 0, 14, 0);
     not_read("MAAB", 4, 4, 4);
     not_read("MAABb!!A", 4, 5, 5);
+    not_read("MAAB8AABAAAA", 4, CESR_NOT_SHORT, 4);
     check(cesr_read_text(bytes("0J_A"), 4, 0, out, 0, tag, info, &answer) == 0 && info[5] == 1, "one tag character", "0J_A");
     check(memcmp(tag, tagged, 11) == 0, "tag A, unused places 0", "0J_A");
     check(cesr_read_binary(binary, 3, 0, tag, info, &answer) == 0 && answer == 2, "read accepted", "586869");
@@ -194,6 +197,8 @@ static void writing(void) {
     check(cesr_write_text(1, 'W', tag, 0, bytes("h"), 1, out, ROOM, &answer) == 12 && answer == 0, "12 at 0", "W");
     check(cesr_write_text(2, 'J', tag, 12, bytes(""), 0, out, ROOM, &answer) == 12 && answer == 0, "12 at 0", "0J");
     check(cesr_write_text(2, 'K', tag, 2, bytes(""), 0, out, ROOM, &answer) == 5 && answer == 1, "5 at 1", "0K");
+    check(cesr_write_text(6, 'B', tag, 0, bytes("hi"), 2, out, 0, &answer) == CESR_NOT_SHORT && answer == 0, "18 at 0", "8AAB");
+    check(cesr_write_binary(6, 'B', tag, 0, bytes(""), 0, out, 0, &answer) == CESR_NOT_SHORT && answer == 0, "18 at 0", "7AAB");
     check(cesr_write_text(1, 'W', tag, 0, bytes("hi"), 2, out, 3, &answer) == 3 && answer == 0, "3 at 0", "W");
     check(held(out, 0, ROOM), "refusals leave the buffer", "writing");
 }
@@ -230,6 +235,10 @@ static void walking(void) {
     step("-AAC-_AAABAA", state, 0, 12, 0, 7, 'A');
     no_step("-AAC-_AAABAA", state, 7, 4);
     memset(state, 0, sizeof state);
+    no_step("--AAAAABMAAB", state, CESR_NOT_SHORT, 0);
+    step("-JAC--AAAAAA", state, 0, 12, 0, 7, 'J');
+    no_step("-JAC--AAAAAA", state, CESR_NOT_SHORT, 4);
+    memset(state, 0, sizeof state);
     state[CESR_STATE_FIRST] = 1;
     no_step("MAAB", state, 13, 0);
     state[CESR_STATE_FIRST] = 2;
@@ -250,6 +259,24 @@ static void nest(char *text, size_t groups) {
         memcpy(text, header, 4);
     }
     *text = 0;
+}
+
+/* A large group of so many units, by the report's verdict: 4,095 fit the small code, 4,096 do not. */
+static uint8_t large_group(size_t units) {
+    static const char digits[] = "ABCDEFGHIJKLMNOPQRSTUVWXYZabcdefghijklmnopqrstuvwxyz0123456789-_";
+    uint8_t out[44];
+    size_t answer = 99, length = 8 + 4 * units;
+    const char header[9] = {'-', '-', 'J', 'A', 'A', digits[units >> 12 & 63], digits[units >> 6 & 63], digits[units & 63], 0};
+    memcpy(longest, header, 8);
+    for (size_t unit = 0; unit < units; unit++)
+        memcpy(longest + 8 + 4 * unit, "1AAK", 4);
+    check(cesr_report_text(longest, length, out, sizeof out, &answer) == 0, "a report", header);
+    return out[12];
+}
+
+static void sizes(void) {
+    check(large_group(4095) == CESR_NOT_SHORT, "18", "4,095 units");
+    check(large_group(4096) == CESR_ACCEPTED, "accepted", "4,096 units");
 }
 
 /* 64 groups are walked into, a 65th is 11; and so in the report. */
@@ -288,6 +315,7 @@ int main(void) {
     walking();
     binary_walk();
     depths();
+    sizes();
     printf("%d checks, %d failed\n", checks, failures);
     return failures != 0;
 }

@@ -1,12 +1,15 @@
 -- The demands of the mission, over the definitions of format. Statements only, a field a sentence, each below the mission's own
 -- words in quotes (01's and 02's where they say so). What the words mean is in Words, and in damage's Words. `Claims` is proved in Proved;
 -- the deck, in format's Deck. Assumes nothing.
-use Prim.Native.Nat.{ℕ, _+_, _*_, _/_, _≤_, _<_}
+use Prim.Native.Nat.{ℕ, suc, _+_, _-_, _*_, _/_, _≤_, _<_}
 use mathlib.Core.Path.{_≡_}
 use mathlib.Core.List.{List, [], _∷_, _++_}
+use mathlib.Core.Logic.{_⊎_}
 use lib.Dec.{eqb, ltb}
 use lib.ListN.{length, getD, drop}
+use Rattle.base.specs.Pick.{pick}
 use Rattle.format.specs.declared.Kind.{Kind}
+use Rattle.format.specs.declared.Kind.the-variants.{Variable, Group}
 use Rattle.format.specs.declared.TextOffset.{TextOffset}
 use Rattle.format.specs.declared.BinaryOffset.{BinaryOffset}
 use Rattle.format.specs.declared.ToBinary.the-variants as B
@@ -29,8 +32,10 @@ use Rattle.format.specs.Reading.{readText, rawLeft, readBinary, partAt}
 use Rattle.format.specs.Writing.{writeText, textItemLeft, writeBinary, binaryItemLeft}
 use Rattle.format.specs.declared.Opening.the-variants.{Unknown}
 use Rattle.format.specs.declared.Framed.the-variants.{Item, Unframed}
-use Rattle.format.specs.Registry.{opening, headerUnits, extent}
+use Rattle.format.specs.declared.Verdict.the-variants.{Accepted, Refused}
+use Rattle.format.specs.Registry.{isOpaque, isOverrideable, opening, headerUnits, extent}
 use Rattle.format.specs.Framing.{digits4, sextet, frame}
+use Rattle.format.specs.Judging.{shift, andThen, unless, behind, hasLead, zeroBits, inTurn, contents, judge}
 use Rattle.format.specs.Values.{rawStart, rawOf}
 use Rattle.damage.specs.Words.{row, itemAt, headOf, Alike, accepted, withIndex, Damaged, ByItself, Partition}
 use Rattle.claims.specs.Order.{None, Refusal}
@@ -58,25 +63,25 @@ pub record Demand1 : Type 0 where
       → Refusal (1 ∷ 3 ∷ []) (reportRules f s (length d)) m × (reportLeft (reportAnswer f s (length d)) f s d ≡ d)
   pub reports-accepts : (f : Domain) (s d : List ℕ) (n : ℕ) → reportAnswer f s (length d) ≡ R.Written n → None (reportRules f s (length d))
   -- 01: "Reading a primitive at an offset: 1, 4 at or past the end, framing (never 7), 14, judging, then 3 for T"; framing gives 4, 5 and
-  -- 6, judging 5, 9, 8 and 10. 5 is for "character outside the alphabet (in T ..)"
+  -- 6, judging 5, 18 (02 h), 9, 8 and 10. 5 is for "character outside the alphabet (in T ..)"
   pub read-text : (s : List ℕ) (at : ℕ) (d : List ℕ) (m : ℕ) (p : TextOffset) → readText s at (length d) .found ≡ TF.Refused m p
-      → Refusal (1 ∷ 4 ∷ 5 ∷ 6 ∷ 14 ∷ 9 ∷ 8 ∷ 10 ∷ 3 ∷ []) (readTextRules s at (length d)) m
+      → Refusal (1 ∷ 4 ∷ 5 ∷ 6 ∷ 14 ∷ 18 ∷ 9 ∷ 8 ∷ 10 ∷ 3 ∷ []) (readTextRules s at (length d)) m
       × (rawLeft (readText s at (length d) .found) s at d ≡ d)
   pub read-text-accepts : (s : List ℕ) (at : ℕ) (d : List ℕ) (q : Primitive) → readText s at (length d) .found ≡ TF.Found q
       → None (readTextRules s at (length d))
   -- the same in B, where nothing is written: a refused read hands "an empty part" back
   pub read-binary : (s : List ℕ) (at m : ℕ) (p : BinaryOffset) → readBinary s at .found ≡ BF.Refused m p
-      → Refusal (1 ∷ 4 ∷ 6 ∷ 14 ∷ 9 ∷ 8 ∷ 10 ∷ []) (readBinaryRules s at) m × (partAt s at (readBinary s at .found) ≡ [])
+      → Refusal (1 ∷ 4 ∷ 6 ∷ 14 ∷ 18 ∷ 9 ∷ 8 ∷ 10 ∷ []) (readBinaryRules s at) m × (partAt s at (readBinary s at .found) ≡ [])
   pub read-binary-accepts : (s : List ℕ) (at : ℕ) (q : Primitive) → readBinary s at .found ≡ BF.Found q → None (readBinaryRules s at)
-  -- 01: "Writing, to T or B: 6 (any code that isn't a primitive's), 12, 5 (tags), 3."
+  -- 01: "Writing, to T or B: 6 (any code that isn't a primitive's), 12, 5 (tags), 3.", 02 h: 18 "directly after 12"
   pub write-text : (code : Code) (tag : List ℕ) (tags : ℕ) (raw d : List ℕ) (m p : ℕ) → writeText code tag tags raw (length d) ≡ TW.Refused m p
-      → Refusal (6 ∷ 12 ∷ 5 ∷ 3 ∷ []) (writeRules 4 code tag tags (length raw) (length d)) m
+      → Refusal (6 ∷ 12 ∷ 18 ∷ 5 ∷ 3 ∷ []) (writeRules 4 code tag tags (length raw) (length d)) m
       × (textItemLeft (writeText code tag tags raw (length d)) code tag tags raw d ≡ d)
   pub write-text-accepts : (code : Code) (tag : List ℕ) (tags : ℕ) (raw d : List ℕ) (n : TextOffset)
       → writeText code tag tags raw (length d) ≡ TW.Written n → None (writeRules 4 code tag tags (length raw) (length d))
   pub write-binary : (code : Code) (tag : List ℕ) (tags : ℕ) (raw d : List ℕ) (m p : ℕ)
       → writeBinary code tag tags raw (length d) ≡ BW.Refused m p
-      → Refusal (6 ∷ 12 ∷ 5 ∷ 3 ∷ []) (writeRules 3 code tag tags (length raw) (length d)) m
+      → Refusal (6 ∷ 12 ∷ 18 ∷ 5 ∷ 3 ∷ []) (writeRules 3 code tag tags (length raw) (length d)) m
       × (binaryItemLeft (writeBinary code tag tags raw (length d)) code tag tags raw d ≡ d)
   pub write-binary-accepts : (code : Code) (tag : List ℕ) (tags : ℕ) (raw d : List ℕ) (n : BinaryOffset)
       → writeBinary code tag tags raw (length d) ≡ BW.Written n → None (writeRules 3 code tag tags (length raw) (length d))
@@ -190,6 +195,25 @@ pub record DeeperClaims (d : Domain) : Type 0 where
   -- the same for any limit, and any that it is raised to
   pub kept : (l m : ℕ) → l ≤ m → (xs : List ℕ) → NoEleven (refusalsTo l d xs) → reportTo m d xs ≡ reportTo l d xs
 
+-- ---- 02's request h, of the verdict on an item's own sextets, where l groups may be entered. A large code has a header of two units. What
+-- it says of a writer, and of equal values, is in roundtrip's Claims
+
+pub record ShortFormClaims : Type 0 where
+  -- "Large variable codes .. whose size fits the small code are refused with new number 18, judged .. before 9 for primitives": behind 5
+  pub large-variable : (l t lead n size : ℕ) (s : List ℕ) → frame s ≡ Item (Variable t lead n) 2 size → n < 4096 → behind 2 s ≡ Accepted
+      → judge l s ≡ Refused 18 0
+  -- "and large groups .. directly after 11 for groups", "A large group below 4,096 units is thus 18": whatever it holds
+  pub eleven : (letter h size : ℕ) (s : List ℕ) → frame s ≡ Item (Group letter) h size → judge 0 s ≡ Refused 11 0
+  pub large-group : (l letter size : ℕ) (s : List ℕ) → frame s ≡ Item (Group letter) 2 size → length s ≡ 4 * size → size < 2 + 4096
+      → judge (suc l) s ≡ Refused 18 0
+  -- "`--AAABAA` with its 4,096 units still passes": under a small code, and from 4,096 units on, an item has 01's own verdict
+  pub other-variable : (l t lead n h size : ℕ) (s : List ℕ) → frame s ≡ Item (Variable t lead n) h size → (h ≡ 1) ⊎ (4096 ≤ n)
+      → judge l s ≡ andThen (behind h s) (andThen (unless 9 (hasLead lead n)) (unless 8 (zeroBits s (4 * h) (8 * lead))))
+  pub other-group : (l letter h size : ℕ) (s : List ℕ) → frame s ≡ Item (Group letter) h size → length s ≡ 4 * size
+      → (h ≡ 1) ⊎ (4096 ≤ size - h)
+      → judge (suc l) s
+      ≡ pick (isOpaque letter) (behind h s) (shift (4 * h) (inTurn (judge l) (contents (isOverrideable letter) (drop (4 * h) s))))
+
 -- ---- all of it
 
 pub record Claims : Type 0 where
@@ -200,3 +224,4 @@ pub record Claims : Type 0 where
   pub demand3-text : Demand3 text
   pub demand3-binary : Demand3 binary
   pub deeper : (d : Domain) → DeeperClaims d
+  pub short-form : ShortFormClaims

@@ -97,7 +97,17 @@ itemSize s = extent (openingOf s) (digits4 (sextet s))
 abbrev pub framing : List ℕ → List Rule
 framing s = framingRules (openingOf s) (sextet s) (length s / 4)
 
--- ---- "Judging a framed primitive: 5 behind the header, 9, 8, 10." Of its own sextets and a header of h units
+-- ---- "Judging a framed primitive: 5 behind the header, 9, 8, 10.", and by 02 h 18 "before 9". Of its own sextets and a header of h units
+
+-- 02 h: a large code "whose size fits the small code": its header is not the small one's unit, and behind it are so few
+abbrev pub FitsSmall : ℕ → ℕ → Type 0
+FitsSmall h units = (h ≡ 1 → ⊥) × (units < 4096)
+
+abbrev pub LongForm : Kind → ℕ → Type 0
+LongForm (Fixed c) h = ⊥
+LongForm (Variable t lead n) h = FitsSmall h n
+LongForm (Group letter) h = ⊥
+LongForm Genus h = ⊥
 
 -- "selector 5, 6, 8, 9 with n = 0"
 abbrev pub Empty : Kind → Type 0
@@ -123,17 +133,19 @@ OtherPrepad Genus s = ⊥
 abbrev pub judging : Kind → ℕ → List ℕ → List Rule
 judging k h s =
     5 when (StrangeFrom s (4 * h) (length s)) ∷
+    18 when (LongForm k h) ∷
     9 when (Empty k) ∷
     8 when (NotZero k h s) ∷
     10 when (OtherPrepad k s) ∷
     []
 
--- ---- "Judging a group: 11, then its items one by one .. An opaque group: 11, then 5." A step of the walk judges of a group only 11 and,
--- if opaque, 5; l more groups may be entered
+-- ---- "Judging a group: 11, then its items one by one .. An opaque group: 11, then 5.", and by 02 h 18 "directly after 11 .. in the walk too".
+-- A step of the walk judges of a group only 11, 18 and, if opaque, 5; l more groups may be entered
 
 abbrev pub groupRules : ℕ → ℕ → ℕ → List ℕ → List Rule
 groupRules l letter h s =
     11 when (l ≡ 0) ∷
+    18 when (FitsSmall h (length s / 4 - h)) ∷
     5 when ((isOpaque letter ≡ true) × StrangeFrom s (4 * h) (length s)) ∷
     []
 
@@ -160,7 +172,7 @@ readTextRules xs at room =
 abbrev pub readBinaryRules : List ℕ → ℕ → List Rule
 readBinaryRules xs at = readRules binary xs at (binary .sextets (drop at xs))
 
--- ---- "Writing, to T or B: 6 (any code that isn't a primitive's), 12, 5 (tags), 3."
+-- ---- "Writing, to T or B: 6 (any code that isn't a primitive's), 12, 5 (tags), 3.", and by 02 h 18 "directly after 12"
 
 -- "raw length or tag length unfit for the code"
 abbrev pub Unfit : Named → ℕ → ℕ → Type 0
@@ -168,11 +180,18 @@ Unfit unknown tags raw = ⊥
 Unfit (row c) tags raw = (tags ≡ c .tag) × (raw ≡ rawSize c) → ⊥
 Unfit (variable t h) tags raw = (tags ≡ 0) × (raw ≤ rawLimit h) → ⊥
 
+-- a large code where "small holds at most 12,285 raw bytes"
+abbrev pub SmallHolds : Named → ℕ → Type 0
+SmallHolds unknown raw = ⊥
+SmallHolds (row c) raw = ⊥
+SmallHolds (variable t h) raw = (h ≡ 1 → ⊥) × (raw ≤ 12285)
+
 -- u elements to the unit
 abbrev pub writeRules : ℕ → Code → List ℕ → ℕ → ℕ → ℕ → List Rule
 writeRules u code tag tags raw room =
     6 when (named code ≡ unknown) ∷
     12 when (Unfit (named code) tags raw) ∷
+    18 when (SmallHolds (named code) raw) ∷
     5 when (StrangerIn tags tag) ∷
     3 when (room < unitsOf (named code) raw * u) ∷
     []

@@ -41,7 +41,7 @@ use Rattle.format.specs.declared.BinaryWritten.the-variants as BinaryWritten
 use Rattle.format.specs.Alphabet.{sextetOf}
 use Rattle.format.specs.Units.{Domain, text, binary, textSextets, binarySextets}
 use Rattle.format.specs.Framing.{sextet, frame, frameWith}
-use Rattle.format.specs.Judging.{judgeKind, ownCheck}
+use Rattle.format.specs.Judging.{isShortest, judgeKind, ownCheck}
 use Rattle.format.specs.Conversion.{firstStranger, textToBinary, binaryToText, binaryLeft, textLeft}
 use Rattle.format.specs.Report.{rowsIn, reportAnswer, reportLeft}
 use Rattle.format.specs.Reading.{Reading, judged, readFramed, reading, from, textAnswer, readText, rawLeft, binaryAnswer, readBinary, partAt, isPrimitive}
@@ -58,7 +58,7 @@ use Rattle.claims.specs.Rules.Allowed.{end, _&_}
 use Rattle.claims.specs.Conditions as C
 use Rattle.claims.specs.Claims.{Demand1}
 use Rattle.claims.specs.Framed.{framed-found, unframed-first}
-use Rattle.claims.specs.Judged.{Judged, own-judged}
+use Rattle.claims.specs.Judged.{Judged, true-false, long-form, short-form, own-judged}
 use Rattle.claims.specs.Judged.Judged.{passes, refuses}
 
 -- ---- strangers among characters
@@ -161,26 +161,54 @@ unfit (W.variable t h) tags raw i e = λ q. go q (eqb tags 0) refl e
     go q true f g = omega (arith, leb-false raw (W.rawLimit h) g, q .1)
     go q false f g = eqb-false tags 0 f (q .0)
 
+-- two digits count the triplets of 12,285 bytes, and of no more
+few-units : (raw : ℕ) → W.countFor raw < 4096 → raw ≤ 12285
+unfolding W.countFor W.leadFor
+few-units raw l = omega arith
+
+many-units : (raw : ℕ) → raw ≤ 12285 → W.countFor raw < 4096
+unfolding W.countFor W.leadFor
+many-units raw l = omega arith
+
+long : (n : W.Named) (raw : ℕ) → W.isShort n raw ≡ false → C.SmallHolds n raw
+unfolding W.isShort
+long W.unknown raw e = absurd (true-false e)
+long (W.row c) raw e = absurd (true-false e)
+long (W.variable t h) raw e = let f = long-form h (W.countFor raw) e in (f .0, few-units raw (f .1))
+
+short : (n : W.Named) (raw : ℕ) → W.isShort n raw ≡ true → C.SmallHolds n raw → ⊥
+unfolding W.isShort
+short W.unknown raw e q = q
+short (W.row c) raw e q = q
+short (W.variable t h) raw e q = short-form h (W.countFor raw) e (q .0, many-units raw (q .1))
+
 -- what stands behind 6, of a code that is named
 module _ (u : ℕ) (n : W.Named) (tag : List ℕ) (tags raw room : ℕ) where
   abbrev writeBy : List Rule
   writeBy =
       6 when (n ≡ W.unknown) ∷
       12 when (C.Unfit n tags raw) ∷
+      18 when (C.SmallHolds n raw) ∷
       5 when (C.StrangerIn tags tag) ∷
       3 when (room < W.unitsOf n raw * u) ∷
       []
+
+  abbrev behindTwelve : List Rule
+  behindTwelve = 18 when (C.SmallHolds n raw) ∷ 5 when (C.StrangerIn tags tag) ∷ 3 when (room < W.unitsOf n raw * u) ∷ []
 
   named : (n ≡ W.unknown → ⊥) → W.isNamed n ≡ true → By writeBy (toldWriting (W.writing u n tag tags raw room))
   unfolding W.writing toldWriting
   named not i =
       rw i (skip (6 when (n ≡ W.unknown)) _ _ not
-      (pick-by (λ (w : W.Writing). By (12 when (C.Unfit n tags raw) ∷ 5 when (C.StrangerIn tags tag) ∷ 3 when (room < W.unitsOf n raw * u) ∷ []) (toldWriting w))
+      (pick-by (λ (w : W.Writing). By (12 when (C.Unfit n tags raw) ∷ behindTwelve) (toldWriting w))
       (W.isFit n tags raw) _ _
       (λ e. skip (12 when (C.Unfit n tags raw)) _ _ (fits n tags raw e)
+      (pick-by (λ (w : W.Writing). By behindTwelve (toldWriting w)) (W.isShort n raw) _ _
+      (λ s. skip (18 when (C.SmallHolds n raw)) _ _ (short n raw s)
       (ask toldWriting (ltb (firstStranger (take tags tag)) tags) 5 _ _ _ _ refl
       (λ f. stranger-in tags tag (ltb-true _ tags f)) (λ f. no-stranger-in tags tag (ltb-false _ tags f))
       (ask-lt toldWriting room (W.unitsOf n raw * u) 3 _ _ _ refl (none tt))))
+      (λ s. first (inl (long n raw s, refl)))))
       (λ e. first (inl (unfit n tags raw i e, refl)))))
 
 writes : (u : ℕ) (n : W.Named) (tag : List ℕ) (tags raw room : ℕ) → By (writeBy u n tag tags raw room) (toldWriting (W.writing u n tag tags raw room))
@@ -306,9 +334,9 @@ module _ (xs : List ℕ) (at : ℕ) where
   no-behind : (let own : List ℕ = take (4 * C.itemSize fromOffset) fromOffset in C.StrangeFrom own (4 * C.itemHead fromOffset) (length own)) → ⊥
   no-behind q = low _ (below-take 64 (4 * C.itemSize fromOffset) fromOffset known) (q .0) (q .3)
 
-  no-five : Allowed (1 ∷ 4 ∷ 6 ∷ 14 ∷ 9 ∷ 8 ∷ 10 ∷ []) (C.readBinaryRules xs at)
+  no-five : Allowed (1 ∷ 4 ∷ 6 ∷ 14 ∷ 18 ∷ 9 ∷ 8 ∷ 10 ∷ []) (C.readBinaryRules xs at)
   no-five =
-      inl tt & inl tt & inl tt & inr no-first & inl tt & inl tt & inr no-header & inl tt & inl tt & inr no-behind & inl tt & inl tt & inl tt
+      inl tt & inl tt & inl tt & inr no-first & inl tt & inl tt & inr no-header & inl tt & inl tt & inr no-behind & inl tt & inl tt & inl tt & inl tt
       & end
 
 -- ---- all of it
@@ -356,7 +384,7 @@ demand1 = record {
   reports-accepts = λ f s d n e. by-none _ (subst (By _) (ap toldReport e) (report f s (length d)));
   read-text = λ s at d m p e. (
     refusal _ (C.readTextRules s at (length d)) m (λ z. z)
-        (inl tt & inl tt & inl tt & inl tt & inl tt & inl tt & inl tt & inl tt & inl tt & inl tt & inl tt & inl tt & inl tt & inl tt & end)
+        (inl tt & inl tt & inl tt & inl tt & inl tt & inl tt & inl tt & inl tt & inl tt & inl tt & inl tt & inl tt & inl tt & inl tt & inl tt & end)
         (by-first _ m (subst (By (C.readTextRules s at (length d))) (ap toldTextFound e) (text-read s at (length d)))),
     rw e,
   );
@@ -370,13 +398,13 @@ demand1 = record {
   read-binary-accepts = λ s at q e.
       by-none (C.readBinaryRules s at) (subst (By (C.readBinaryRules s at)) (ap toldBinaryFound e) (binary-read s at));
   write-text = λ code tag tags raw d m p e. (
-    refusal _ _ m (λ z. z) (inl tt & inl tt & inl tt & inl tt & end)
+    refusal _ _ m (λ z. z) (inl tt & inl tt & inl tt & inl tt & inl tt & end)
         (by-first _ m (subst (By _) (ap toldTextWritten e) (write-text code tag tags raw (length d)))),
     rw e,
   );
   write-text-accepts = λ code tag tags raw d n e. by-none _ (subst (By _) (ap toldTextWritten e) (write-text code tag tags raw (length d)));
   write-binary = λ code tag tags raw d m p e. (
-    refusal _ _ m (λ z. z) (inl tt & inl tt & inl tt & inl tt & end)
+    refusal _ _ m (λ z. z) (inl tt & inl tt & inl tt & inl tt & inl tt & end)
         (by-first _ m (subst (By _) (ap toldBinaryWritten e) (write-binary code tag tags raw (length d)))),
     rw e,
   );

@@ -1,5 +1,5 @@
 -- The judging of a framed primitive, and a group's own check, refuse by Conditions, in order. Assumes nothing.
-use Prim.Native.Nat.{ℕ, zero, suc, _+_, _-_, _*_, _≤_, _<_}
+use Prim.Native.Nat.{ℕ, zero, suc, _+_, _-_, _*_, _/_, _≤_, _<_}
 use mathlib.Core.Path.{_≡_, refl, subst, sym}
 use mathlib.Core.List.{List, [], _∷_, _++_}
 use mathlib.Core.Bool.{Bool, true, false}
@@ -7,8 +7,8 @@ use mathlib.Core.Logic.{_⊎_, inl, inr}
 use native.Mathlib.Omega.{arith}
 use lib.ListN.{length, getD, drop, length-drop}
 use lib.Seq.{getD-drop}
-use lib.Dec.{ltb}
-use borrow.Author.Tests.{ltb-true, ltb-false}
+use lib.Dec.{ltb, leb, eqb}
+use borrow.Author.Tests.{ltb-true, ltb-false, leb-true, leb-false, eqb-true, eqb-false}
 use Rattle.base.specs.Pick.{pick, pick-by}
 use Rattle.format.specs.declared.CodeRow.{CodeRow}
 use Rattle.format.specs.declared.Kind.{Kind}
@@ -17,9 +17,9 @@ use Rattle.format.specs.declared.Verdict.{Verdict}
 use Rattle.format.specs.declared.Verdict.the-variants.{Accepted, Refused}
 use Rattle.format.specs.Registry.{isOpaque}
 use Rattle.format.specs.Framing.{sextet}
-use Rattle.format.specs.Judging.{shift, andThen, unless, scan, behind, hasLead, judgeKind, ownCheck}
+use Rattle.format.specs.Judging.{shift, andThen, unless, isShortest, scan, behind, hasLead, judgeKind, ownCheck}
 use Rattle.claims.specs.Order.{Rule, _when_, First, None}
-use Rattle.claims.specs.Conditions.{StrangeFrom, judging, groupRules, ownRules}
+use Rattle.claims.specs.Conditions.{StrangeFrom, FitsSmall, judging, groupRules, ownRules}
 
 pub data Judged (rs : List Rule) : Verdict → Type 0 where
   passes : None rs → Judged rs Accepted
@@ -64,7 +64,7 @@ unfolding unless
 unless-judged n true C f t = passes (t refl, tt)
 unless-judged n false C f t = refuses (inl (f refl, refl))
 
-true-false : true ≡ false → ⊥
+pub true-false : true ≡ false → ⊥
 true-false e = let z : _≡_ {A = ℕ} 0 1 = cc in omega arith
 
 unless-false : (n : ℕ) (b : Bool) → Judged (n when (b ≡ false) ∷ []) (unless n b)
@@ -95,6 +95,22 @@ behind-judged n s =
     here : (i : ℕ) → n ≤ i → 64 ≤ sextet s i → 64 ≤ sextet (drop n s) (i - n)
     here i l h = let e : n + (i - n) ≡ i = omega arith in rw (getD-drop n s (i - n) 0, e) h
 
+-- 18
+pub long-form : (h n : ℕ) → isShortest h n ≡ false → FitsSmall h n
+unfolding isShortest
+long-form h n =
+    pick-by (λ (b : Bool). b ≡ false → FitsSmall h n) (eqb h 1) _ _ (λ e f. absurd (true-false f))
+    (λ e f. (eqb-false h 1 e, leb-false 4096 n f))
+
+pub short-form : (h n : ℕ) → isShortest h n ≡ true → FitsSmall h n → ⊥
+unfolding isShortest
+short-form h n =
+    pick-by (λ (b : Bool). b ≡ true → FitsSmall h n → ⊥) (eqb h 1) _ _ (λ e t q. q .0 (eqb-true h 1 e))
+    (λ e t q. omega (arith, leb-true 4096 n t, q .1))
+
+short-judged : (h n : ℕ) → Judged (18 when (FitsSmall h n) ∷ []) (unless 18 (isShortest h n))
+short-judged h n = unless-judged 18 _ _ (long-form h n) (short-form h n)
+
 -- 9
 lead-missing : (lead count : ℕ) → hasLead lead count ≡ false → (0 < lead) × (count ≡ 0)
 unfolding hasLead
@@ -114,16 +130,19 @@ pub own-judged : (l : ℕ) (k : Kind) (h : ℕ) (s : List ℕ) → Judged (ownRu
 unfolding judgeKind behind ownCheck
 own-judged l (Fixed c) h s =
     then-judged _ _ _ _ (behind-judged (4 * h) s)
-    (skip (9 when ⊥) _ _ (λ q. q) (then-judged _ _ _ _ (unless-false 8 _) (unless-false 10 _)))
+    (skip (18 when ⊥) _ _ (λ q. q) (skip (9 when ⊥) _ _ (λ q. q) (then-judged _ _ _ _ (unless-false 8 _) (unless-false 10 _))))
 own-judged l (Variable t lead n) h s =
     then-judged _ _ _ _ (behind-judged (4 * h) s)
+    (then-judged _ _ _ _ (short-judged h n)
     (then-judged _ _ _ _ (unless-judged 9 _ _ (lead-missing lead n) (lead-there lead n))
-    (trail _ (10 when ⊥) _ (λ q. q) (unless-false 8 _)))
+    (trail _ (10 when ⊥) _ (λ q. q) (unless-false 8 _))))
 own-judged l (Group letter) h s = check l
   where
     check : (m : ℕ) → Judged (groupRules m letter h s) (ownCheck m letter h (drop (4 * h) s))
     check zero = refuses (inl (refl, refl))
-    check (suc m) = skip (11 when (suc m ≡ 0)) _ _ (λ e. omega arith) (opaque (isOpaque letter))
+    check (suc m) =
+        let n : length (drop (4 * h) s) / 4 ≡ length s / 4 - h = omega (arith, length-drop (4 * h) s) in
+        skip (11 when (suc m ≡ 0)) _ _ (λ e. omega arith) (rw n (then-judged _ _ _ _ (short-judged h (length s / 4 - h)) (opaque (isOpaque letter))))
       where
         opaque : (b : Bool) → Judged (5 when ((b ≡ true) × StrangeFrom s (4 * h) (length s)) ∷ []) (pick b (shift (4 * h) (scan (drop (4 * h) s))) Accepted)
         opaque true = same 5 (StrangeFrom s (4 * h) (length s)) _ _ (λ q. (refl, q)) (λ q. q .1) (behind-judged (4 * h) s)

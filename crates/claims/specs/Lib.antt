@@ -15,5 +15,6 @@ pub mod Ratio
 pub mod Parts
 pub mod Demand2
 pub mod Deeper
+pub mod Short
 pub mod Proved
 pub mod Room

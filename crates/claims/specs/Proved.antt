@@ -6,6 +6,7 @@ use Rattle.claims.specs.Header.{framing-claims}
 use Rattle.claims.specs.Lookup.{lookup-claims}
 use Rattle.claims.specs.Demand3.{text-demand3, binary-demand3}
 use Rattle.claims.specs.Deeper.{deeper-claims}
+use Rattle.claims.specs.Short.{short-form}
 
 pub proved : Claims
 proved = record {
@@ -16,4 +17,5 @@ proved = record {
   demand3-text = text-demand3;
   demand3-binary = binary-demand3;
   deeper = deeper-claims;
+  short-form = short-form;
 }

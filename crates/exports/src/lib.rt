@@ -122,7 +122,7 @@ pub extern "C" fn cesr_read_text(
     ensures { λ r. ⌜ now (tag .exit) ≡ textTagLeft (readText (now (stream .entry)) at (length (now (out .entry))) .found) (readText (now (stream .entry)) at (length (now (out .entry))) .tag) (now (tag .entry)) ⌝ }
     ensures { λ r. ⌜ now (info .exit) ≡ textInfoLeft (readText (now (stream .entry)) at (length (now (out .entry))) .found) (now (info .entry)) ⌝ }
 {
-    let read = reading::read_text(stream, TextOffset(at), out);
+    let read = reading_text::read_text(stream, TextOffset(at), out);
     let found = read.found;
     let characters = read.tag;
     match found {
@@ -154,7 +154,7 @@ pub extern "C" fn cesr_read_binary(
     ensures { λ r. ⌜ now (tag .exit) ≡ binaryTagLeft (readBinary (now (stream .entry)) at .found) (readBinary (now (stream .entry)) at .tag) (now (tag .entry)) ⌝ }
     ensures { λ r. ⌜ now (info .exit) ≡ binaryInfoLeft (readBinary (now (stream .entry)) at .found) (now (info .entry)) ⌝ }
 {
-    let read = reading::read_binary(stream, BinaryOffset(at));
+    let read = reading_binary::read_binary(stream, BinaryOffset(at));
     let found = read.found;
     let characters = read.tag;
     match found {

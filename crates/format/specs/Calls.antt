@@ -1,6 +1,6 @@
 -- 01, "Numbers a vendor sees" and "The report": calls with what they answer and what the buffer holds afterwards, as one table under a
 -- single claim. Each order of numbers is shown by a call that tells a number from the one asked next (but 9, 8, 10, which no item tells
--- apart: D60). Text is written by its characters' numbers; a buffer holds nines. What is expected is 01's word. Assumes nothing.
+-- apart: D60, and a writer's 18 and 5: D111). Text is written by its characters' numbers; a buffer holds nines. What is expected is 01's word. Assumes nothing.
 use Prim.Native.Nat.{ℕ, _*_, _/_, _≤_, _<_}
 use mathlib.Core.Path.{_≡_, refl}
 use mathlib.Core.List.{List, [], _∷_}
@@ -114,14 +114,15 @@ calls =
     asked (ReadText (48 ∷ 74 ∷ 95 ∷ 65 ∷ []) 0 (9 ∷ [])) (read (record { code = (C.Fixed 2 74); size = 1; start = binaryOffset 3; raw = 0; tags = 1 }) (65 ∷ 0 ∷ 0 ∷ 0 ∷ 0 ∷ 0 ∷ 0 ∷ 0 ∷ 0 ∷ 0 ∷ 0 ∷ []) (9 ∷ [])) ∷  -- `0J_A` at 0, room 1: a tag: no raw, at the item's end
     asked (ReadText (49 ∷ 65 ∷ 65 ∷ 78 ∷ 65 ∷ 66 ∷ 67 ∷ 68 ∷ 69 ∷ 70 ∷ 71 ∷ 72 ∷ []) 0 []) (read (record { code = (C.Fixed 4 78); size = 3; start = binaryOffset 9; raw = 0; tags = 8 }) (65 ∷ 66 ∷ 67 ∷ 68 ∷ 69 ∷ 70 ∷ 71 ∷ 72 ∷ 0 ∷ 0 ∷ 0 ∷ []) []) ∷  -- `1AANABCDEFGH` at 0, room 0: eight tag characters
     asked (ReadText (53 ∷ 66 ∷ 65 ∷ 66 ∷ 65 ∷ 71 ∷ 104 ∷ 112 ∷ []) 0 (9 ∷ 9 ∷ [])) (read (record { code = (C.Small 66); size = 2; start = binaryOffset 4; raw = 2; tags = 0 }) (0 ∷ 0 ∷ 0 ∷ 0 ∷ 0 ∷ 0 ∷ 0 ∷ 0 ∷ 0 ∷ 0 ∷ 0 ∷ []) (104 ∷ 105 ∷ [])) ∷  -- `5BABAGhp` at 0, room 2: small
-    asked (ReadText (56 ∷ 65 ∷ 65 ∷ 66 ∷ 65 ∷ 65 ∷ 65 ∷ 66 ∷ 65 ∷ 71 ∷ 104 ∷ 112 ∷ []) 0 (9 ∷ 9 ∷ [])) (read (record { code = (C.Large 66); size = 3; start = binaryOffset 7; raw = 2; tags = 0 }) (0 ∷ 0 ∷ 0 ∷ 0 ∷ 0 ∷ 0 ∷ 0 ∷ 0 ∷ 0 ∷ 0 ∷ 0 ∷ []) (104 ∷ 105 ∷ [])) ∷  -- `8AABAAABAGhp` at 0, room 2: large
+    asked (ReadText (56 ∷ 65 ∷ 65 ∷ 66 ∷ 65 ∷ 65 ∷ 65 ∷ 66 ∷ 65 ∷ 71 ∷ 104 ∷ 112 ∷ []) 0 []) (refused 18 0 []) ∷  -- `8AABAAABAGhp` at 0, room 0: large, 18, then 3
+    asked (ReadText (45 ∷ 45 ∷ 65 ∷ 65 ∷ 65 ∷ 65 ∷ 65 ∷ 65 ∷ []) 0 (9 ∷ [])) (refused 14 0 (9 ∷ [])) ∷  -- `--AAAAAA` at 0, room 1: 14, then 18
     asked (ReadBinary (48 ∷ 0 ∷ 1 ∷ []) 3) (refused 4 3 []) ∷  -- `MAAB` in B at 3: 4 at the end
     asked (ReadBinary (48 ∷ 0 ∷ 1 ∷ 49 ∷ 0 ∷ 0 ∷ []) 3) (refused 8 3 []) ∷  -- `MAABMQAA` in B at 3: places in bytes
     asked (ReadBinary (248 ∷ 0 ∷ 1 ∷ 49 ∷ 0 ∷ 0 ∷ []) 0) (refused 14 0 []) ∷  -- `-AABMQAA` in B at 0: 14
     asked (ReadBinary (251 ∷ 240 ∷ 0 ∷ 0 ∷ 16 ∷ 0 ∷ []) 0) (refused 14 0 []) ∷  -- `-_AAABAA` in B at 0: never 7
     asked (ReadBinary (48 ∷ 0 ∷ 1 ∷ 48 ∷ 255 ∷ 255 ∷ []) 3) (read (record { code = (C.Fixed 1 77); size = 1; start = binaryOffset 1; raw = 2; tags = 0 }) (0 ∷ 0 ∷ 0 ∷ 0 ∷ 0 ∷ 0 ∷ 0 ∷ 0 ∷ 0 ∷ 0 ∷ 0 ∷ []) (255 ∷ 255 ∷ [])) ∷  -- `MAABMP__` in B at 3: the part where it lies
     asked (ReadBinary (208 ∷ 159 ∷ 192 ∷ []) 0) (read (record { code = (C.Fixed 2 74); size = 1; start = binaryOffset 3; raw = 0; tags = 1 }) (65 ∷ 0 ∷ 0 ∷ 0 ∷ 0 ∷ 0 ∷ 0 ∷ 0 ∷ 0 ∷ 0 ∷ 0 ∷ []) []) ∷  -- `0J_A` in B at 0: an empty part
-    asked (ReadBinary (244 ∷ 0 ∷ 1 ∷ 0 ∷ 0 ∷ 1 ∷ 0 ∷ 0 ∷ 97 ∷ []) 0) (read (record { code = (C.Large 66); size = 3; start = binaryOffset 8; raw = 1; tags = 0 }) (0 ∷ 0 ∷ 0 ∷ 0 ∷ 0 ∷ 0 ∷ 0 ∷ 0 ∷ 0 ∷ 0 ∷ 0 ∷ []) (97 ∷ [])) ∷  -- `9AABAAABAABh` in B at 0: behind the lead bytes
+    asked (ReadBinary (244 ∷ 0 ∷ 1 ∷ 0 ∷ 0 ∷ 1 ∷ 0 ∷ 0 ∷ 97 ∷ []) 0) (refused 18 0 []) ∷  -- `9AABAAABAABh` in B at 0: 18
     asked (WriteText (C.Fixed 3 65) (33 ∷ 33 ∷ 33 ∷ 33 ∷ 33 ∷ 33 ∷ 33 ∷ 33 ∷ 33 ∷ 33 ∷ 33 ∷ []) 12 [] []) (refused 6 0 []) ∷  -- no code of three characters: 6, then 12
     asked (WriteText (C.Fixed 1 98) (33 ∷ 33 ∷ 33 ∷ 33 ∷ 33 ∷ 33 ∷ 33 ∷ 33 ∷ 33 ∷ 33 ∷ 33 ∷ []) 0 [] []) (refused 6 0 []) ∷  -- `b`: 6
     asked (WriteText (C.Small 71) (33 ∷ 33 ∷ 33 ∷ 33 ∷ 33 ∷ 33 ∷ 33 ∷ 33 ∷ 33 ∷ 33 ∷ 33 ∷ []) 0 [] []) (refused 6 0 []) ∷  -- type G: 6
@@ -142,11 +143,14 @@ calls =
     asked (WriteText (C.Small 66) (33 ∷ 33 ∷ 33 ∷ 33 ∷ 33 ∷ 33 ∷ 33 ∷ 33 ∷ 33 ∷ 33 ∷ 33 ∷ []) 0 (0 ∷ 104 ∷ 105 ∷ []) (9 ∷ 9 ∷ 9 ∷ 9 ∷ 9 ∷ 9 ∷ 9 ∷ 9 ∷ [])) (written 8 (52 ∷ 66 ∷ 65 ∷ 66 ∷ 65 ∷ 71 ∷ 104 ∷ 112 ∷ [])) ∷  -- `4BABAGhp`
     asked (WriteText (C.Small 66) (33 ∷ 33 ∷ 33 ∷ 33 ∷ 33 ∷ 33 ∷ 33 ∷ 33 ∷ 33 ∷ 33 ∷ 33 ∷ []) 0 (104 ∷ 105 ∷ []) (9 ∷ 9 ∷ 9 ∷ 9 ∷ 9 ∷ 9 ∷ 9 ∷ 9 ∷ [])) (written 8 (53 ∷ 66 ∷ 65 ∷ 66 ∷ 65 ∷ 71 ∷ 104 ∷ 112 ∷ [])) ∷  -- `5BABAGhp`
     asked (WriteText (C.Small 66) (33 ∷ 33 ∷ 33 ∷ 33 ∷ 33 ∷ 33 ∷ 33 ∷ 33 ∷ 33 ∷ 33 ∷ 33 ∷ []) 0 (97 ∷ []) (9 ∷ 9 ∷ 9 ∷ 9 ∷ 9 ∷ 9 ∷ 9 ∷ 9 ∷ [])) (written 8 (54 ∷ 66 ∷ 65 ∷ 66 ∷ 65 ∷ 65 ∷ 66 ∷ 104 ∷ [])) ∷  -- `6BABAABh`
-    asked (WriteText (C.Large 72) (33 ∷ 33 ∷ 33 ∷ 33 ∷ 33 ∷ 33 ∷ 33 ∷ 33 ∷ 33 ∷ 33 ∷ 33 ∷ []) 0 (104 ∷ 105 ∷ []) (9 ∷ 9 ∷ 9 ∷ 9 ∷ 9 ∷ 9 ∷ 9 ∷ 9 ∷ 9 ∷ 9 ∷ 9 ∷ 9 ∷ [])) (written 12 (56 ∷ 65 ∷ 65 ∷ 72 ∷ 65 ∷ 65 ∷ 65 ∷ 66 ∷ 65 ∷ 71 ∷ 104 ∷ 112 ∷ [])) ∷  -- `8AAHAAABAGhp`: the caller names large
+    asked (WriteText (C.Large 71) (33 ∷ 33 ∷ 33 ∷ 33 ∷ 33 ∷ 33 ∷ 33 ∷ 33 ∷ 33 ∷ 33 ∷ 33 ∷ []) 0 (104 ∷ 105 ∷ []) (9 ∷ 9 ∷ 9 ∷ 9 ∷ 9 ∷ 9 ∷ 9 ∷ 9 ∷ 9 ∷ 9 ∷ 9 ∷ 9 ∷ [])) (refused 6 0 (9 ∷ 9 ∷ 9 ∷ 9 ∷ 9 ∷ 9 ∷ 9 ∷ 9 ∷ 9 ∷ 9 ∷ 9 ∷ 9 ∷ [])) ∷  -- large of type G: 6, then 18
+    asked (WriteText (C.Large 72) (33 ∷ 33 ∷ 33 ∷ 33 ∷ 33 ∷ 33 ∷ 33 ∷ 33 ∷ 33 ∷ 33 ∷ 33 ∷ []) 1 (104 ∷ 105 ∷ []) (9 ∷ 9 ∷ 9 ∷ 9 ∷ 9 ∷ 9 ∷ 9 ∷ 9 ∷ 9 ∷ 9 ∷ 9 ∷ 9 ∷ [])) (refused 12 0 (9 ∷ 9 ∷ 9 ∷ 9 ∷ 9 ∷ 9 ∷ 9 ∷ 9 ∷ 9 ∷ 9 ∷ 9 ∷ 9 ∷ [])) ∷  -- large with a tag character: 12, then 18
+    asked (WriteText (C.Large 72) (33 ∷ 33 ∷ 33 ∷ 33 ∷ 33 ∷ 33 ∷ 33 ∷ 33 ∷ 33 ∷ 33 ∷ 33 ∷ []) 0 (104 ∷ 105 ∷ []) (9 ∷ 9 ∷ 9 ∷ 9 ∷ 9 ∷ 9 ∷ 9 ∷ 9 ∷ 9 ∷ 9 ∷ 9 ∷ 9 ∷ [])) (refused 18 0 (9 ∷ 9 ∷ 9 ∷ 9 ∷ 9 ∷ 9 ∷ 9 ∷ 9 ∷ 9 ∷ 9 ∷ 9 ∷ 9 ∷ [])) ∷  -- the caller names large, and small holds it: 18
+    asked (WriteText (C.Large 72) (33 ∷ 33 ∷ 33 ∷ 33 ∷ 33 ∷ 33 ∷ 33 ∷ 33 ∷ 33 ∷ 33 ∷ 33 ∷ []) 0 [] []) (refused 18 0 []) ∷  -- 18, then 3
     asked (WriteBinary (C.Fixed 1 77) (33 ∷ 33 ∷ 33 ∷ 33 ∷ 33 ∷ 33 ∷ 33 ∷ 33 ∷ 33 ∷ 33 ∷ 33 ∷ []) 0 (0 ∷ 1 ∷ []) (9 ∷ 9 ∷ [])) (refused 3 0 (9 ∷ 9 ∷ [])) ∷  -- 3 in B
     asked (WriteBinary (C.Fixed 1 77) (33 ∷ 33 ∷ 33 ∷ 33 ∷ 33 ∷ 33 ∷ 33 ∷ 33 ∷ 33 ∷ 33 ∷ 33 ∷ []) 0 (0 ∷ 1 ∷ []) (9 ∷ 9 ∷ 9 ∷ 9 ∷ [])) (written 3 (48 ∷ 0 ∷ 1 ∷ 9 ∷ [])) ∷  -- `MAAB` in B
     asked (WriteBinary (C.Fixed 1 88) (65 ∷ 33 ∷ 65 ∷ 33 ∷ 33 ∷ 33 ∷ 33 ∷ 33 ∷ 33 ∷ 33 ∷ 33 ∷ []) 3 [] []) (refused 5 1 []) ∷  -- 5, then 3, in B
-    asked (WriteBinary (C.Large 66) (33 ∷ 33 ∷ 33 ∷ 33 ∷ 33 ∷ 33 ∷ 33 ∷ 33 ∷ 33 ∷ 33 ∷ 33 ∷ []) 0 (97 ∷ []) (9 ∷ 9 ∷ 9 ∷ 9 ∷ 9 ∷ 9 ∷ 9 ∷ 9 ∷ 9 ∷ [])) (written 9 (244 ∷ 0 ∷ 1 ∷ 0 ∷ 0 ∷ 1 ∷ 0 ∷ 0 ∷ 97 ∷ [])) ∷  -- `9AABAAABAABh` in B
+    asked (WriteBinary (C.Large 66) (33 ∷ 33 ∷ 33 ∷ 33 ∷ 33 ∷ 33 ∷ 33 ∷ 33 ∷ 33 ∷ 33 ∷ 33 ∷ []) 0 (97 ∷ []) (9 ∷ 9 ∷ 9 ∷ 9 ∷ 9 ∷ 9 ∷ 9 ∷ 9 ∷ [])) (refused 18 0 (9 ∷ 9 ∷ 9 ∷ 9 ∷ 9 ∷ 9 ∷ 9 ∷ 9 ∷ [])) ∷  -- 18, then 3, in B
     []
 
 -- ---- what it means
@@ -185,7 +189,7 @@ unfolding given toText quadletOf firstStranger textToBinary binaryLeft binaryToT
     rowBytes refusalBytes remainderBytes concat section report reportAnswer reportLeft codeOf isPrimitive tagsOf primitiveOf judged
     readFramed reading from placeFrom padded noTag textAnswer readText textRaw rawLeft binaryAnswer readBinary partAt W.namedFixed W.named
     W.rawSize W.fitsRow W.rawLimit W.fitsVariable W.leadFor W.countFor W.codeSextets W.rawPrefix W.tagPrefix W.rowPrefix
-    W.variableHeader W.variablePrefix W.itemBytes W.unitsOf W.isFit W.isNamed W.writing W.writtenBytes W.textOutcome W.binaryOutcome
+    W.variableHeader W.variablePrefix W.itemBytes W.unitsOf W.isFit W.isNamed W.isShort W.writing W.writtenBytes W.textOutcome W.binaryOutcome
     W.writeText W.writeBinary W.textItemLeft W.binaryItemLeft
 answered (ToBinary s d) = inBinary (textToBinary s (length d)) (binaryLeft (textToBinary s (length d)) s d)
 answered (ToText s d) = inText (binaryToText s (length d)) (textLeft (binaryToText s (length d)) s d)
@@ -206,7 +210,7 @@ pub data Answers : List Asked → Type 0 where
 
 pub calls-hold : Answers calls
 unfolding answered calls
-calls-hold = refl & refl & refl & refl & refl & refl & refl & refl & refl & refl & refl & refl & refl & refl & refl & refl & refl & refl & refl & refl & refl & refl & refl & refl & refl & refl & refl & refl & refl & refl & refl & refl & refl & refl & refl & refl & refl & refl & refl & refl & refl & refl & refl & refl & refl & refl & refl & refl & refl & refl & refl & refl & refl & refl & refl & refl & refl & refl & refl & refl & refl & refl & refl & refl & refl & refl & refl & refl & refl & refl & refl & refl & refl & refl & refl & refl & refl & refl & refl & refl & refl & refl & refl & refl & end
+calls-hold = refl & refl & refl & refl & refl & refl & refl & refl & refl & refl & refl & refl & refl & refl & refl & refl & refl & refl & refl & refl & refl & refl & refl & refl & refl & refl & refl & refl & refl & refl & refl & refl & refl & refl & refl & refl & refl & refl & refl & refl & refl & refl & refl & refl & refl & refl & refl & refl & refl & refl & refl & refl & refl & refl & refl & refl & refl & refl & refl & refl & refl & refl & refl & refl & refl & refl & refl & refl & refl & refl & refl & refl & refl & refl & refl & refl & refl & refl & refl & refl & refl & refl & refl & refl & refl & refl & refl & refl & end
 
 -- ---- 1, which no table shows: "stream longer than 4,194,304 characters or 3,145,728 bytes". One that is longer by one is not whole units,
 -- nor is there room; one of just that length is not refused with it

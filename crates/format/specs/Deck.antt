@@ -2,6 +2,7 @@
 -- by its characters' numbers, with the paper's own line behind it; what is expected is the paper's. Assumes nothing.
 use Prim.Native.Nat.{ℕ, zero, suc, _+_, _*_, _/_, _%_}
 use mathlib.Core.Path.{_≡_, refl}
+use mathlib.Core.Bool.{true, false}
 use mathlib.Core.List.{List, [], _∷_}
 use lib.ListN.{length}
 use Rattle.base.specs.Each.{each}
@@ -15,7 +16,7 @@ use Rattle.format.specs.Conversion.{toBinary}
 use Rattle.format.specs.Registry.{codes, isType, isGroup, isOpaque, isOverrideable, fixedAmong, fixed, opening, extent}
 use Rattle.format.specs.Framing.{fit, known, second, headed, frameWith, isOurs, ruled, frame, frameRuled, scale}
 use Rattle.format.specs.Cutting.{cutBy, cutF, cut}
-use Rattle.format.specs.Judging.{shift, andThen, unless, scan, behind, hasLead, zeroBits, prepadRight, judgeKind, judgeBy}
+use Rattle.format.specs.Judging.{shift, andThen, unless, isShortest, scan, behind, hasLead, zeroBits, prepadRight, judgeKind, judgeBy}
 use Rattle.format.specs.Judging.{inTurn, frame4, frameRuled4, contents, ownCheck, group, judge}
 use Rattle.format.specs.Report.{ItemRow, RemainderRow, rowsOf, remainderOf, refusal, refusalsOf, rows, refusals, remainder}
 use Rattle.format.specs.Report.{placed, frameIn, judgeIn, rowsIn, remainderIn}
@@ -75,6 +76,10 @@ deck =
     example (around 64 []) accepted ∷  -- "64 accepted,
     example (around 65 []) (refused 11 256) ∷  -- 65 refused 11"
     example (45 ∷ 45 ∷ 65 ∷ 65 ∷ 65 ∷ 66 ∷ 65 ∷ 65 ∷ []) (unframed 4 0) ∷  -- `--AAABAA` heads a large group of 4,096 units
+    -- 02 h: "A large group below 4,096 units is thus 18"; streams that count 4,095 and 4,096 are in format_readings/Large
+    example (45 ∷ 45 ∷ 65 ∷ 65 ∷ 65 ∷ 65 ∷ 65 ∷ 65 ∷ []) (refused 18 0) ∷  -- `--AAAAAA` 18
+    example (45 ∷ 74 ∷ 65 ∷ 68 ∷ 45 ∷ 45 ∷ 65 ∷ 65 ∷ 65 ∷ 65 ∷ 65 ∷ 66 ∷ 77 ∷ 65 ∷ 65 ∷ 66 ∷ []) (refused 18 4) ∷  -- `-JAD--AAAAABMAAB` 18 at 4
+    example (55 ∷ 65 ∷ 65 ∷ 66 ∷ 65 ∷ 65 ∷ 65 ∷ 65 ∷ []) (refused 18 0) ∷  -- `7AABAAAA` 18, as any large variable value that the small code holds
     -- `E8wYuBjhslETYaLZcxMkWrhVbMcA8RS1pKYl7nJ77ntA` is refused 8
     example
     (69 ∷ 56 ∷ 119 ∷ 89 ∷ 117 ∷ 66 ∷ 106 ∷ 104 ∷ 115 ∷ 108 ∷ 69 ∷ 84 ∷ 89 ∷ 97 ∷ 76 ∷ 90 ∷ 99 ∷ 120 ∷ 77 ∷ 107 ∷ 87 ∷ 114 ∷
@@ -83,7 +88,8 @@ deck =
     []
 
 -- ---- the order of the numbers: "Framing an item: 4 (first unit), 5 (its first bad character), 6, 4 (second unit), 5, 4 (extent)",
--- "Judging a framed primitive: 5 behind the header, 9, 8, 10"
+-- "Judging a framed primitive: 5 behind the header, 9, 8, 10", "Judging a group: 11, then its items one by one"; by 02 h 18 "directly after
+-- 11 for groups" and "before 9 for primitives"
 
 unfoldable pub order : List Example
 order =
@@ -94,7 +100,14 @@ order =
     example (55 ∷ 65 ∷ 65 ∷ 66 ∷ 33 ∷ 65 ∷ 65 ∷ 66 ∷ []) (unframed 5 0) ∷  -- `7AAB!AAB`: 5, then 4 (extent)
     example (45 ∷ 95 ∷ 65 ∷ 65 ∷ 65 ∷ 66 ∷ 65 ∷ 65 ∷ []) (unframed 7 0) ∷  -- `-_AAABAA`: at top level 7 is part of framing
     example (48 ∷ 72 ∷ 69 ∷ 65 ∷ 65 ∷ 33 ∷ 65 ∷ 65 ∷ []) (refused 5 5) ∷  -- `0HEAA!AA`: 5 behind the header, then 8
-    example (56 ∷ 65 ∷ 65 ∷ 66 ∷ 65 ∷ 65 ∷ 65 ∷ 65 ∷ []) (refused 9 0) ∷  -- `8AABAAAA`: 9
+    example (56 ∷ 65 ∷ 65 ∷ 66 ∷ 65 ∷ 65 ∷ 65 ∷ 66 ∷ []) (unframed 4 0) ∷  -- `8AABAAAB`: 4 (extent), then 18
+    example (56 ∷ 65 ∷ 65 ∷ 66 ∷ 65 ∷ 65 ∷ 65 ∷ 66 ∷ 95 ∷ 65 ∷ 65 ∷ 33 ∷ []) (refused 5 11) ∷  -- `8AABAAAB_AA!`: 5 behind the header, then 18
+    example (56 ∷ 65 ∷ 65 ∷ 66 ∷ 65 ∷ 65 ∷ 65 ∷ 65 ∷ []) (refused 18 0) ∷  -- `8AABAAAA`: 18, then 9
+    example (56 ∷ 65 ∷ 65 ∷ 66 ∷ 65 ∷ 65 ∷ 65 ∷ 66 ∷ 95 ∷ 65 ∷ 65 ∷ 65 ∷ []) (refused 18 0) ∷  -- `8AABAAAB_AAA`: 18, then 8
+    example (around 64 (45 ∷ 45 ∷ 65 ∷ 65 ∷ 65 ∷ 65 ∷ 65 ∷ 65 ∷ [])) (refused 11 256) ∷  -- within 64 groups: 11, then 18
+    example (45 ∷ 45 ∷ 65 ∷ 65 ∷ 65 ∷ 65 ∷ 65 ∷ 66 ∷ 77 ∷ 81 ∷ 65 ∷ 65 ∷ []) (refused 18 0) ∷  -- `--AAAAABMQAA`: 18, then its items
+    example (45 ∷ 45 ∷ 65 ∷ 65 ∷ 65 ∷ 65 ∷ 65 ∷ 67 ∷ 45 ∷ 95 ∷ 65 ∷ 65 ∷ 65 ∷ 66 ∷ 65 ∷ 65 ∷ []) (refused 18 0) ∷  -- `--AAAAAC-_AAABAA`: an inner 7 too
+    example (45 ∷ 45 ∷ 75 ∷ 65 ∷ 65 ∷ 65 ∷ 65 ∷ 66 ∷ 33 ∷ 65 ∷ 65 ∷ 65 ∷ []) (refused 18 0) ∷  -- `--KAAAAB!AAA`: of an opaque group 18, then 5
     example (45 ∷ 75 ∷ 65 ∷ 66 ∷ 65 ∷ 65 ∷ 33 ∷ 65 ∷ []) (refused 5 6) ∷  -- `-KABAA!A`: an opaque group, 5
     -- `-AACMQAA_AAA`: the first refusal stands, with number and place
     example (45 ∷ 65 ∷ 65 ∷ 67 ∷ 77 ∷ 81 ∷ 65 ∷ 65 ∷ 95 ∷ 65 ∷ 65 ∷ 65 ∷ []) (refused 8 4) ∷
@@ -120,7 +133,7 @@ valueBy e (Unframed n p) s = []
 unfoldable pub given : Domain → List ℕ → Expected → Seen
 unfolding around charOf rows remainder rowsOf remainderOf cut cutF cutBy frameIn judgeIn placed frameRuled frame frameWith ruled
     isOurs headed second known fit opening extent fixed fixedAmong codes isType isGroup isOpaque isOverrideable scale
-    textSextets sextetOf judge judgeBy judgeKind group ownCheck inTurn contents frame4 frameRuled4 andThen shift unless scan
+    textSextets sextetOf judge judgeBy judgeKind group ownCheck inTurn contents frame4 frameRuled4 andThen shift unless isShortest scan
     behind zeroBits hasLead prepadRight binarySextets sextetsOf bytesOf tripletOf toBinary each rawStart rawOf tagOf bytesIn
 given d xs e = record { items = rowsIn d xs; left = remainderIn d xs; value = valueBy e (frame (d .sextets xs)) (d .sextets xs) }
 
@@ -156,15 +169,20 @@ pub deck-holds : Holds text (λ s. s) deck × Holds binary toBinary deck
 unfolding given deck
 deck-holds = (
   refl & refl & refl & refl & refl & refl & refl & refl & refl & refl & refl & refl & refl & refl & refl & refl & refl &
-      refl & refl & refl & refl & refl & refl & refl & refl & refl & refl & end,
+      refl & refl & refl & refl & refl & refl & refl & refl & refl & refl & refl & refl & refl & end,
   refl & refl & refl & refl & refl & refl & refl & refl & refl & refl & refl & refl & refl & refl & refl & refl & refl &
-      refl & refl & refl & refl & refl & refl & refl & refl & refl & refl & end,
+      refl & refl & refl & refl & refl & refl & refl & refl & refl & refl & refl & refl & refl & end,
 )
 
 -- the order, in text: some of its characters are outside the alphabet
 pub order-holds : Holds text (λ s. s) order
 unfolding given order
-order-holds = refl & refl & refl & refl & refl & refl & refl & refl & refl & refl & end
+order-holds = refl & refl & refl & refl & refl & refl & refl & refl & refl & refl & refl & refl & refl & refl & refl & refl & refl & end
+
+-- 02 h: "A large group below 4,096 units is thus 18, and `--AAABAA` with its 4,096 units still passes": the number itself
+pub least-large : (isShortest 2 4095 ≡ false) × (isShortest 2 4096 ≡ true)
+unfolding isShortest
+least-large = (refl, refl)
 
 -- ---- reports
 

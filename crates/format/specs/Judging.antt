@@ -1,11 +1,12 @@
 -- 01, "Judging a framed primitive: 5 behind the header, 9, 8, 10. Judging a group: 11, then its items one by one, each framed
--- (an inner 7 next), then judged; the first refusal stands, with number and place. An opaque group: 11, then 5." Over an item's
--- own sextets; places in sextets from its start. Assumes nothing.
+-- (an inner 7 next), then judged; the first refusal stands, with number and place. An opaque group: 11, then 5." 02 h: 18 "judged directly
+-- after 11 for groups, in the walk too, and before 9 for primitives". Over an item's own sextets; places in sextets from its start.
+-- Assumes nothing.
 use Prim.Native.Nat.{ℕ, zero, suc, _+_, _-_, _*_, _/_, _^_}
 use mathlib.Core.List.{List, [], _∷_}
 use mathlib.Core.Bool.{Bool, true, false}
 use lib.ListN.{length, getD, drop}
-use lib.Dec.{ltb, eqb}
+use lib.Dec.{ltb, leb, eqb}
 use Rattle.base.specs.Pick.{pick}
 use Rattle.format.specs.declared.CodeRow.{CodeRow}
 use Rattle.format.specs.declared.Kind.{Kind}
@@ -35,6 +36,12 @@ andThen (Refused n p) v = Refused n p
 unfoldable pub unless : ℕ → Bool → Verdict
 unless n true = Accepted
 unless n false = Refused n 0
+
+-- ---- 02 h: only the short form
+
+-- 18: "Large variable codes and large groups whose size fits the small code": its two digits count up to 4,095 units. h: the header's units
+unfoldable pub isShortest : ℕ → ℕ → Bool
+isShortest h count = pick (eqb h 1) true (leb 4096 count)
 
 -- ---- primitives
 
@@ -66,7 +73,9 @@ unfoldable pub judgeKind : Kind → ℕ → List ℕ → (ℕ → ℕ → List �
 judgeKind (Fixed c) h s inner =
     andThen (behind h s) (andThen (unless 8 (zeroBits s (c .chars) (zeroBitsOf c))) (unless 10 (prepadRight s (c .chars) (prepadOf c))))
 judgeKind (Variable t lead count) h s inner =
-    andThen (behind h s) (andThen (unless 9 (hasLead lead count)) (unless 8 (zeroBits s (4 * h) (8 * lead))))
+    andThen (behind h s)
+    (andThen (unless 18 (isShortest h count))
+    (andThen (unless 9 (hasLead lead count)) (unless 8 (zeroBits s (4 * h) (8 * lead)))))
 judgeKind (Group letter) h s inner = inner letter h (drop (4 * h) s)
 judgeKind Genus h s inner = Accepted
 
@@ -94,10 +103,11 @@ unfoldable pub contents : Bool → List ℕ → Cut
 contents first [] = done
 contents first (x ∷ s) = cutBy (pick first (frameRuled4 (x ∷ s)) (frame4 (x ∷ s))) (x ∷ s) (cut frame4)
 
--- a group's own check, where l more may be entered: 11, and if opaque 5. The walk makes this one alone
+-- a group's own check, where l more may be entered: 11, 18, and if opaque 5. The walk makes this one alone
 unfoldable pub ownCheck : ℕ → ℕ → ℕ → List ℕ → Verdict
 ownCheck zero letter h ys = Refused 11 0
-ownCheck (suc l) letter h ys = pick (isOpaque letter) (shift (4 * h) (scan ys)) Accepted
+ownCheck (suc l) letter h ys =
+    andThen (unless 18 (isShortest h (length ys / 4))) (pick (isOpaque letter) (shift (4 * h) (scan ys)) Accepted)
 
 -- a group: its own check, then its items one by one, unless it is opaque
 unfoldable pub group : ℕ → ℕ → ℕ → List ℕ → Verdict

@@ -14,5 +14,4 @@ pub mod Writing
 pub mod Deck
 pub mod Characters
 pub mod RawSizes
-pub mod Readings
 pub mod Calls

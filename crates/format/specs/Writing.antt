@@ -1,6 +1,6 @@
 -- 01, "Writing, to T or B: 6 (any code that isn't a primitive's), 12, 5 (tags), 3. Codes other than tags take no tag characters
 -- and tags no raw, else 12. For a variable type the caller names small or large, and the lead follows from the raw length; small
--- holds at most 12,285 raw bytes, large 3,145,722." The text written is the binary's text. Assumes nothing.
+-- holds at most 12,285 raw bytes, large 3,145,722." 02 h: 18 "directly after 12". The text written is the binary's text. Assumes nothing.
 use Prim.Native.Nat.{ℕ, _+_, _-_, _*_, _/_, _%_, _^_}
 use mathlib.Core.List.{List, [], _∷_, _++_, map}
 use mathlib.Core.Bool.{Bool, true, false}
@@ -24,6 +24,7 @@ use Rattle.format.specs.Alphabet.{sextetOf}
 use Rattle.format.specs.Units.{bytesOf}
 use Rattle.format.specs.Offsets.{textOffset, binaryOffset}
 use Rattle.format.specs.Registry.{fixed, isType, zeroBitsOf, prepadOf}
+use Rattle.format.specs.Judging.{isShortest}
 use Rattle.format.specs.Values.{rawStart}
 use Rattle.format.specs.Conversion.{toText, firstStranger}
 
@@ -109,7 +110,7 @@ unitsOf unknown raw = 0
 unitsOf (row c) raw = c .size / 4
 unitsOf (variable t h) raw = h + countFor raw
 
--- ---- the call: 6, 12, 5, 3
+-- ---- the call: 6, 12, 18, 5, 3
 
 pub data Writing : Type 0 where
   refused : ℕ → ℕ → Writing
@@ -125,14 +126,22 @@ isNamed unknown = false
 isNamed (row c) = true
 isNamed (variable t h) = true
 
+-- 18: a large code for a value that the small one holds
+unfoldable pub isShort : Named → ℕ → Bool
+isShort unknown raw = true
+isShort (row c) raw = true
+isShort (variable t h) raw = isShortest h (countFor raw)
+
 -- u elements to the unit; "a writer ignores the places behind that number"
 unfoldable pub writing : ℕ → Named → List ℕ → ℕ → ℕ → ℕ → Writing
 writing u n tag tags raw room =
     pick (isNamed n)
     (pick (isFit n tags raw)
+    (pick (isShort n raw)
     (pick (ltb (firstStranger (take tags tag)) tags) (refused 5 (firstStranger (take tags tag)))
     (pick (ltb room (unitsOf n raw * u)) (refused 3 0)
     (written (unitsOf n raw))))
+    (refused 18 0))
     (refused 12 0))
     (refused 6 0)
 

@@ -4,92 +4,11 @@ use format::Framed;
 use format::Kind;
 use format::Opening;
 ghost use mathlib.Core.Path.{_≡_};
-ghost use mathlib.Core.List.{_++_};
 ghost use lib.ListN.{getD};
-ghost use Prim.Native.Nat.{_+_, _*_, _≤_};
-ghost use Rattle.format.specs.Alphabet.{sextetTable};
 ghost use Rattle.format.specs.Units.{textSextets, binarySextets};
 ghost use Rattle.format.specs.Registry.{opening};
 ghost use Rattle.format.specs.Framing.{fit, known, second, headed, frameWith, isOurs, ruled, frameRuled};
-ghost use Rattle.framing.specs.Heads.{unitOf, headOf, nextBy};
-
-// ---- the first three units, as sextets; 0 past the end
-
-fn text_sextet(values: &[u8; 256], s: &[u8], i: usize) -> u8
-    requires { ⌜ now values ≡ sextetTable ⌝ }
-    ensures { λ r. ⌜ r ≡ getD (textSextets (now (s .entry))) i 0 ⌝ }
-{
-    if i < s.len() {
-        let c = s[i];
-        values[c as usize]
-    } else {
-        0
-    }
-}
-
-fn text_unit(values: &[u8; 256], s: &[u8], at: usize) -> [u8; 4]
-    requires { ⌜ (now values ≡ sextetTable) × (at ≤ 8) ⌝ }
-    ensures { λ r. ⌜ r ≡ unitOf (textSextets (now (s .entry))) at ⌝ }
-{
-    [
-        text_sextet(values, s, at),
-        text_sextet(values, s, at + 1),
-        text_sextet(values, s, at + 2),
-        text_sextet(values, s, at + 3),
-    ]
-}
-
-fn join(a: [u8; 4], b: [u8; 4], c: [u8; 4]) -> [u8; 12]
-    ensures { λ r. ⌜ r ≡ a ++ (b ++ c) ⌝ }
-{
-    [
-        a[0],
-        a[1],
-        a[2],
-        a[3],
-        b[0],
-        b[1],
-        b[2],
-        b[3],
-        c[0],
-        c[1],
-        c[2],
-        c[3],
-    ]
-}
-
-// The sextets of a text's first three units, 64 for a character outside the alphabet.
-pub fn text_head(s: &[u8]) -> [u8; 12]
-    ensures { λ r. ⌜ r ≡ headOf (textSextets (now (s .entry))) ⌝ }
-{
-    let values = alphabet::sextets();
-    let a = text_unit(&values, s, 0);
-    let b = text_unit(&values, s, 4);
-    let c = text_unit(&values, s, 8);
-    join(a, b, c)
-}
-
-fn binary_unit(s: &[u8], k: usize) -> [u8; 4]
-    requires { ⌜ k ≤ 2 ⌝ }
-    ensures { λ r. ⌜ r ≡ unitOf (binarySextets (now (s .entry))) (4 * k) ⌝ }
-{
-    let at = 3 * k;
-    if at + 3 <= s.len() {
-        units::unpack([s[at], s[at + 1], s[at + 2]])
-    } else {
-        [0, 0, 0, 0]
-    }
-}
-
-// The sextets of a binary's first three whole units.
-pub fn binary_head(s: &[u8]) -> [u8; 12]
-    ensures { λ r. ⌜ r ≡ headOf (binarySextets (now (s .entry))) ⌝ }
-{
-    let a = binary_unit(s, 0);
-    let b = binary_unit(s, 1);
-    let c = binary_unit(s, 2);
-    join(a, b, c)
-}
+ghost use Rattle.framing.specs.Next.{nextBy};
 
 // ---- the header rule
 
@@ -289,13 +208,13 @@ pub fn frame_next_head(cs: [u8; 12], len: usize, first: bool) -> Framed
 pub fn frame_ruled_text(s: &[u8]) -> Framed
     ensures { λ r. ⌜ r ≡ frameRuled (textSextets (now (s .entry))) ⌝ }
 {
-    let head = text_head(s);
+    let head = framing_head::text_head(s);
     frame_ruled_head(head, s.len() / 4)
 }
 
 pub fn frame_ruled_binary(s: &[u8]) -> Framed
     ensures { λ r. ⌜ r ≡ frameRuled (binarySextets (now (s .entry))) ⌝ }
 {
-    let head = binary_head(s);
+    let head = framing_head::binary_head(s);
     frame_ruled_head(head, s.len() / 3)
 }

@@ -115,13 +115,16 @@ behind-near h s l = up (shift (4 * h) (scan (drop (4 * h) s))) (shift-near (4 * 
 own-check-near : (l letter h : ℕ) (s : List ℕ) → h ≤ 2 → Near (length s + 8) (ownCheck l letter h (drop (4 * h) s))
 unfolding ownCheck behind
 own-check-near zero letter h s few = omega arith
-own-check-near (suc l) letter h s few = pick-by (Near (length s + 8)) (isOpaque letter) _ _ (λ _. behind-near h s few) (λ _. tt)
+own-check-near (suc l) letter h s few =
+    then-near _ _ _ (unless-near _ 18 _) (pick-by (Near (length s + 8)) (isOpaque letter) _ _ (λ _. behind-near h s few) (λ _. tt))
 
 -- the place of an item's own refusal
 pub own-near : (k : Kind) (h l : ℕ) (s : List ℕ) → h ≤ 2 → Near (length s + 8) (judgeKind k h s (ownCheck l))
 unfolding judgeKind
 own-near (Fixed c) h l s few = then-near _ _ _ (behind-near h s few) (then-near _ _ _ (unless-near _ 8 _) (unless-near _ 10 _))
-own-near (Variable t a b) h l s few = then-near _ _ _ (behind-near h s few) (then-near _ _ _ (unless-near _ 9 _) (unless-near _ 8 _))
+own-near (Variable t a b) h l s few =
+    then-near _ _ _ (behind-near h s few)
+    (then-near _ _ _ (unless-near _ 18 _) (then-near _ _ _ (unless-near _ 9 _) (unless-near _ 8 _)))
 own-near (Group letter) h l s few = own-check-near l letter h s few
 own-near Genus h l s few = tt
 

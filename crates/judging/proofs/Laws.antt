@@ -1,21 +1,18 @@
 -- The code's checks are format's: the search for a stranger is the scan, and the first sextets are all that 8, 9 and 10 look at.
 -- Assumes nothing.
-use mathlib.Core.Path.{_≡_, refl, sym, ap, _∙_}
-use mathlib.Core.Bool.{Bool, true, false}
-use mathlib.Core.List.{List, [], _∷_, map}
+use mathlib.Core.Path.{_≡_, refl, sym, _∙_}
+use mathlib.Core.Bool.{true}
+use mathlib.Core.List.{List, [], _∷_}
 use mathlib.Core.Logic.{⊎-elim}
 use Prim.Native.Nat.{ℕ, zero, suc, _+_, _-_, _*_, _/_, _<_, _≤_}
-use native.Mathlib.Nat.{zero-div}
 use native.Mathlib.Omega.{arith}
-use lib.Dec.{ltb, eqb}
-use lib.ListN.{length, getD, take, drop, length-drop, length-take, length-map, drop-of-length-le, List·getD-eq-default}
-use lib.Seq.{getD-take, take-all, length-take-le}
+use lib.ListN.{length, take, drop, length-drop, length-map, drop-of-length-le}
+use lib.Seq.{take-all, length-take-le}
 use borrow.Author.Tests.{lt-ltb, le-ltb}
-use Rattle.base.specs.Pick.{pick}
-use Rattle.base.specs.Cases.{lt-or-ge, whether}
-use Rattle.base.specs.Lists.{map-take, map-drop, same-table}
-use Rattle.base.specs.Digits.{Below, none, more, below-drop}
-use Rattle.format.specs.declared.CodeRow.{CodeRow}
+use Rattle.base.specs.Pick.{pick, pick-by}
+use Rattle.base.specs.Cases.{lt-or-ge}
+use Rattle.base.specs.Lists.{map-take, map-drop}
+use Rattle.base.specs.Digits.{below-drop}
 use Rattle.format.specs.declared.Kind.{Kind}
 use Rattle.format.specs.declared.Kind.the-variants.{Fixed, Variable, Group, Genus}
 use Rattle.format.specs.declared.Verdict.{Verdict}
@@ -24,15 +21,16 @@ use Rattle.format.specs.Alphabet.{sextetOf}
 use Rattle.format.specs.Units.{textSextets, binarySextets}
 use Rattle.format.specs.Conversion.{firstStranger}
 use Rattle.format.specs.Registry.{isOpaque, zeroBitsOf, prepadOf}
-use Rattle.format.specs.Judging.{shift, andThen, unless, scan, behind, hasLead, zeroBits, prepadRight, judgeKind, ownCheck}
-use Rattle.laws.specs.Registry.{Sound}
+use Rattle.format.specs.Judging.{shift, andThen, scan, behind, zeroBits, prepadRight, judgeKind, ownCheck}
 use Rattle.laws.specs.Framing.{Shaped}
 use Rattle.laws.specs.Domains.{binary-reader}
+use Rattle.laws.specs.Levels.{then-accepts}
 use Rattle.laws.specs.Scan.{scan-below}
 use Rattle.laws.specs.Conversion.{binary-below}
-use Rattle.framing.specs.Heads.{headOf}
-use Rattle.framing.proofs.Laws.{head-at}
-use Rattle.judging.specs.Own.{fixedChecks, variableChecks, groupOwn, ownBy}
+use Rattle.framing_head.specs.Heads.{headOf}
+use Rattle.framing_head.proofs.Laws.{head-at, within-head}
+use Rattle.judging_header.specs.Checks.{fixedChecks, variableChecks, groupChecks}
+use Rattle.judging.specs.Own.{ownBy}
 
 -- ---- 5
 
@@ -77,20 +75,6 @@ pub behind-binary : (b : List ℕ) (h : ℕ) → behind h (binarySextets b) ≡ 
 unfolding behind shift
 behind-binary b h = rw (scan-below (drop (4 * h) (binarySextets b)) (below-drop 64 (4 * h) (binarySextets b) (binary-below b)))
 
--- ---- an item's first sextets
-
-pub part-in : (s : List ℕ) (n i : ℕ) → i / 4 < n → getD s i 0 ≡ getD (take (4 * n) s) i 0
-part-in s n i h = sym (getD-take (4 * n) s i 0 (omega arith))
-
-pub part-out : (s : List ℕ) (n i : ℕ) → n ≤ i / 4 → 0 ≡ getD (take (4 * n) s) i 0
-part-out s n i h = sym (List·getD-eq-default (take (4 * n) s) 0 {n = i} (omega (arith, length-take (4 * n) s)))
-
--- cutting before or after the first sextets are taken
-pub within-head : (s : List ℕ) (n : ℕ) → headOf (take (4 * n) (headOf s)) ≡ headOf (take (4 * n) s)
-unfolding headOf
-within-head s n = same-table (λ i. getD (take (4 * n) (headOf s)) i 0) (λ i. getD (take (4 * n) s) i 0) 12 (λ i h.
-    ⊎-elim (λ l. sym (part-in (headOf s) n i l) ∙ head-at s i h ∙ part-in s n i l) (λ g. sym (part-out (headOf s) n i g) ∙ part-out s n i g) (lt-or-ge (i / 4) n))
-
 -- ---- 8, 9, 10
 
 zero-head : (s : List ℕ) (i z : ℕ) → i + 2 < 12 → zeroBits (headOf s) i z ≡ zeroBits s i z
@@ -101,34 +85,27 @@ prepad-head : (s : List ℕ) (i p : ℕ) → i < 12 → prepadRight (headOf s) i
 unfolding prepadRight
 prepad-head s i p h = rw (head-at s i h)
 
--- past the sextets that are held, every bit is zero
-pub zero-past : (cs : List ℕ) (h z : ℕ) → length cs ≡ 12 → 2 < h → zeroBits cs (4 * h) z ≡ true
-unfolding zeroBits
-zero-past cs h z l g =
-    rw (
-      List·getD-eq-default cs 0 {n = 4 * h} (omega arith),
-      List·getD-eq-default cs 0 {n = 4 * h + 1} (omega arith),
-      List·getD-eq-default cs 0 {n = 4 * h + 2} (omega arith),
-      zero-div,
-    )
+-- a group, by what its checks answered
+module _ (letter h count l : ℕ) (v : Verdict) (e : v ≡ groupChecks h count l) where
+  pub group-opaque : (b r : Verdict) → r ≡ andThen v b → isOpaque letter ≡ true
+      → r ≡ andThen (groupChecks h count l) (pick (isOpaque letter) b Accepted)
+  group-opaque b r q o = rw (o, ← e) q
 
-pub group-opaque : (letter : ℕ) (b : Verdict) (l : ℕ) → (l ≡ 0 → ⊥) → isOpaque letter ≡ true → groupOwn letter b l ≡ b
-unfolding groupOwn
-group-opaque letter b zero n e = absurd (n refl)
-group-opaque letter b (suc l) n e = rw e
+  -- nothing behind its header is looked at, or is outside the alphabet
+  pub group-plain : (b : Verdict) → pick (isOpaque letter) b Accepted ≡ Accepted
+      → v ≡ andThen (groupChecks h count l) (pick (isOpaque letter) b Accepted)
+  group-plain b p = rw (p, ← e) (sym (then-accepts v))
 
-pub group-plain : (letter : ℕ) (b : Verdict) (l : ℕ) → (l ≡ 0 → ⊥) → isOpaque letter ≡ false → groupOwn letter b l ≡ Accepted
-unfolding groupOwn
-group-plain letter b zero n e = absurd (n refl)
-group-plain letter b (suc l) n e = rw e
+pub all-pass : (letter : ℕ) → pick (isOpaque letter) Accepted Accepted ≡ Accepted
+all-pass letter = pick-by (λ (v : Verdict). v ≡ Accepted) (isOpaque letter) _ _ (λ _. refl) (λ _. refl)
 
-pub group-open : (letter l : ℕ) → (l ≡ 0 → ⊥) → groupOwn letter Accepted l ≡ Accepted
-group-open letter l n = ⊎-elim (λ e. group-opaque letter Accepted l n e) (λ e. group-plain letter Accepted l n e) (whether (isOpaque letter))
-
-own-group : (letter h l : ℕ) (s : List ℕ) → groupOwn letter (behind h s) l ≡ ownCheck l letter h (drop (4 * h) s)
-unfolding groupOwn ownCheck behind
-own-group letter h zero s = refl
-own-group letter h (suc l) s = refl
+own-group : (letter h n l : ℕ) (s : List ℕ) → length s ≡ 4 * n
+    → andThen (groupChecks h (n - h) l) (pick (isOpaque letter) (behind h s) Accepted) ≡ ownCheck l letter h (drop (4 * h) s)
+unfolding groupChecks ownCheck behind andThen
+own-group letter h n zero s long = refl
+own-group letter h n (suc l) s long =
+    let e : length (drop (4 * h) s) / 4 ≡ n - h = omega (arith, length-drop (4 * h) s) in
+    rw e
 
 -- what the code finds of an item's own sextets, those of its n units, is what format's judging finds
 pub own-judged : (k : Kind) (h n l : ℕ) (s : List ℕ) → h ≤ 2 → length s ≡ 4 * n → Shaped k h n
@@ -138,7 +115,7 @@ own-judged (Fixed c) h n l s few long shape =
     let m : c .chars ≤ 4 = shape .0 .chars .1 in
     rw (zero-head s (c .chars) (zeroBitsOf c) (omega arith), prepad-head s (c .chars) (prepadOf c) (omega arith))
 own-judged (Variable t lead count) h n l s few long shape = rw (zero-head s (4 * h) (8 * lead) (omega arith))
-own-judged (Group letter) h n l s few long shape = own-group letter h l s
+own-judged (Group letter) h n l s few long shape = own-group letter h n l s long
 own-judged Genus h n l s few long shape = refl
 
 -- ---- an item's own checks, from what the code has at hand

@@ -125,7 +125,8 @@ module _ (Q : List ℕ → Type 0) (P : Verdict → Type 0) (R : Reaches Q P) wh
   kind-by (Fixed c) h s go q g =
       and-then _ _ (behind-by h s q) (and-then _ _ (unless-by 8 _ (omega arith)) (unless-by 10 _ (omega arith)))
   kind-by (Variable t l m) h s go q g =
-      and-then _ _ (behind-by h s q) (and-then _ _ (unless-by 9 _ (omega arith)) (unless-by 8 _ (omega arith)))
+      and-then _ _ (behind-by h s q)
+      (and-then _ _ (unless-by 18 _ (omega arith)) (and-then _ _ (unless-by 9 _ (omega arith)) (unless-by 8 _ (omega arith))))
   kind-by (Group l) h s go q g = g l h (drop (4 * h) s) (R .drops (4 * h) s q)
   kind-by Genus h s go q g = R .accepts
 
@@ -137,7 +138,9 @@ module _ (Q : List ℕ → Type 0) (P : Verdict → Type 0) (R : Reaches Q P) wh
   pub check-by : (l : ℕ) → Inner (ownCheck l)
   unfolding ownCheck
   check-by zero letter h ys q = R .refuses 11 (omega arith)
-  check-by (suc l) letter h ys q = pick-by P (isOpaque letter) _ _ (λ _. R .counts-on h _ (R .scans ys q)) (λ _. R .accepts)
+  check-by (suc l) letter h ys q =
+      and-then _ _ (unless-by 18 _ (omega arith))
+      (pick-by P (isOpaque letter) _ _ (λ _. R .counts-on h _ (R .scans ys q)) (λ _. R .accepts))
 
   group-by : (l : ℕ) → Inner (group l)
   unfolding group

@@ -1,12 +1,12 @@
 -- The report's loop, a turn at a time, its last stores, and the calls' answers, over either form. Assumes nothing.
 use Prim.Native.Nat.{ℕ, _+_, _-_, _*_, _/_, _^_, _≤_, _<_}
 use mathlib.Core.Path.{_≡_, refl, sym, ap, _∙_, subst}
-use mathlib.Core.List.{List, [], _∷_, _++_}
+use mathlib.Core.List.{List}
 use native.Mathlib.Omega.{arith}
 use native.Mathlib.Nat.{mul-comm, le-div-iff-mul-le}
 use mir.Syntax.{w64}
 use mir.Val as val
-use lib.ListN.{length, length-append}
+use lib.ListN.{length}
 use lib.Seq.{sets, sets-eq, length-sets}
 use borrow.Author.Tests.{lt-ltb, le-ltb}
 use Rattle.format.specs.declared.Form.{Form}
@@ -23,16 +23,19 @@ use Rattle.format.specs.Alphabet.{sextetTable}
 use Rattle.runs.specs.Plain.{plainTable, classTable}
 use Rattle.runs.specs.Levels.{Clear, clear-less}
 use Rattle.report_first.specs.First.{Lent}
-use Rattle.report_rows.specs.Stores.{put, put-fits, row-long, be4-long}
+use Rattle.report_rows.specs.Stores.{put, row-long, be4-long}
 use Rattle.report_filling.specs.Filling.{reportOf, filled-start, filled-few, filled-counts, stop-rows, end-rows, stop-all, end-all}
 use Rattle.report_count.specs.Counts.{Total}
-use Rattle.report_turn.specs.declared.Turn.{Turn}
-use Rattle.report_turn.specs.declared.Turn.the-variants.{Stored, Rest}
-use Rattle.report_turn.specs.Turns.{Fill, Filling, After, Turned, Turns}
-use Rattle.report.specs.Turns.{Read, Counted, Begun, Ends, Ended, Fits, Last, Written, Answered}
-use Rattle.report.specs.declared.End.{End}
-use Rattle.report.specs.declared.End.the-variants.{Whole}
-use Rattle.report.specs.declared.End.the-variants as E
+use Rattle.report_general.specs.declared.Turn.{Turn}
+use Rattle.report_general.specs.declared.Turn.the-variants.{Stored, Rest}
+use Rattle.report_general.specs.Turns.{Fill, Filling, After, Turned}
+use Rattle.report_turn.specs.Turns.{Turns}
+use Rattle.report_last.specs.Last.{refusedOf, Last, Lasts}
+use Rattle.report_last.proofs.Laws.{puts, put-counts, put-last}
+use Rattle.report.specs.Turns.{Read, Counted, Begun, Ends, Ended, Written, Answered}
+use Rattle.report_last.specs.declared.End.{End}
+use Rattle.report_last.specs.declared.End.the-variants.{Whole}
+use Rattle.report_last.specs.declared.End.the-variants as E
 
 -- the report of a domain is that of its framing, judge and rows
 report-is : (f : Form) (s : List ℕ) → report (domain f) s ≡ reportOf (frameIn (domain f)) (judgeIn (domain f)) (frames (domain f) (reader f)) rowBytes 9 row-long s
@@ -132,7 +135,7 @@ module _ {f : Form} {u : ℕ} {values classes rows s : List ℕ} {known n : ℕ}
       pub falls : (m j b : ℕ) → r ≡ Stored m j b → length s - (a + m) < length s - a
       falls m j b e = let h = moves m j b e in omega (arith, h .0, h .1)
 
-      ends-there : (x : ℕ) → r ≡ Rest x → (o : List ℕ) → Fill f s o n 0 0 0 out → Ends f u s o n (E.Rest a k x) out₂
+      ends-there : (x : ℕ) → r ≡ Rest x → (o : List ℕ) → Fill f s o n 0 0 0 out → Ends f s o n (E.Rest (u * a) k x) out₂
       unfolding Ends
       ends-there x e o φ =
           let w = subst (λ (t : Turn). After f u s o n a i k t out₂) e (after o φ) in
@@ -140,12 +143,12 @@ module _ {f : Form} {u : ℕ} {values classes rows s : List ℕ} {known n : ℕ}
           let stop = stop-rows (frameIn (domain f)) (judgeIn (domain f)) (frames (domain f) (reader f)) rowBytes 9 row-long s o n is-n (u * a) i k out₂ (w .2) l (w .1) in
           let c = filled-counts (frameIn (domain f)) (judgeIn (domain f)) (frames (domain f) (reader f)) rowBytes 9 row-long s o n is-n (u * a) i k out₂ (w .2) stop in
           let q = stop-all (frameIn (domain f)) (judgeIn (domain f)) (frames (domain f) (reader f)) rowBytes 9 row-long s o n is-n (u * a) i k out₂ (w .2) l (w .1) in
-          (c .1, q .0 ∙ ap (sets o 0) (sym (report-is f s)), ap length (report-is f s) ∙ q .1, omega arith)
+          (c .1, q .0 ∙ ap (sets o 0) (sym (report-is f s)), ap length (report-is f s) ∙ q .1)
 
-      pub ends-rest : (x : ℕ) → r ≡ Rest x → Ended f u s n out (E.Rest a k x) out₂
+      pub ends-rest : (x : ℕ) → r ≡ Rest x → Ended f s n out (E.Rest (u * a) k x) out₂
       ends-rest x e = record { ends = ends-there x e }
 
-    ends-here : length s ≤ u * a → (o : List ℕ) → Fill f s o n 0 0 0 out → Ends f u s o n (Whole k) out₁
+    ends-here : length s ≤ u * a → (o : List ℕ) → Fill f s o n 0 0 0 out → Ends f s o n (Whole k) out₁
     unfolding Ends
     ends-here l o φ =
         let φ′ = T .fills o φ in
@@ -155,27 +158,8 @@ module _ {f : Form} {u : ℕ} {values classes rows s : List ℕ} {known n : ℕ}
         let q = end-all (frameIn (domain f)) (judgeIn (domain f)) (frames (domain f) (reader f)) rowBytes 9 row-long s o n is-n (u * a) i k out₁ φ′ l in
         (c .1, q .0 ∙ ap (sets o 0) (sym (report-is f s)), ap length (report-is f s) ∙ q .1)
 
-    pub ends-whole : length s ≤ u * a → Ended f u s n out (Whole k) out₁
+    pub ends-whole : length s ≤ u * a → Ended f s n out (Whole k) out₁
     ends-whole l = record { ends = ends-here l }
-
--- ---- the last stores
-
-puts : (o : List ℕ) (p : ℕ) (x : List ℕ) {after : List ℕ} → p + length x ≤ length o → after ≡ put o p x → after ≡ sets o p x
-puts o p x h e = e ∙ put-fits o p x h
-
-module _ (o : List ℕ) (n k : ℕ) (room : 17 + 18 * n ≤ length o) (few : k ≤ n) {one two : List ℕ} (a : one ≡ put o (4 + 9 * n) (be4 k)) where
-  pub put-counts : (c : ℕ) → two ≡ put one (8 + 9 * n + 9 * k) (be4 c) → two ≡ sets (sets o (4 + 9 * n) (be4 k)) (8 + 9 * n + 9 * k) (be4 c)
-  put-counts c b =
-      let x = puts o (4 + 9 * n) (be4 k) (omega (arith, be4-long k)) a in
-      puts (sets o (4 + 9 * n) (be4 k)) (8 + 9 * n + 9 * k) (be4 c) (omega (arith, be4-long c, length-sets o (4 + 9 * n) (be4 k))) (b ∙ rw x)
-
-  pub put-last : {three : List ℕ} (at m : ℕ) → two ≡ put one (8 + 9 * n + 9 * k) (be4 1) → three ≡ put two (12 + 9 * n + 9 * k) (be4 at ++ (m ∷ []))
-      → three ≡ sets (sets (sets o (4 + 9 * n) (be4 k)) (8 + 9 * n + 9 * k) (be4 1)) (12 + 9 * n + 9 * k) (be4 at ++ (m ∷ []))
-  put-last at m b c =
-      let y = put-counts 1 b in
-      let z : length (be4 at ++ (m ∷ [])) ≡ 5 = length-append (be4 at) (m ∷ []) ∙ omega (arith, be4-long at) in
-      let w = length-sets (sets o (4 + 9 * n) (be4 k)) (8 + 9 * n + 9 * k) (be4 1) in
-      puts _ (12 + 9 * n + 9 * k) (be4 at ++ (m ∷ [])) (omega (arith, length-sets o (4 + 9 * n) (be4 k))) (c ∙ rw y)
 
 -- ---- what is filled
 
@@ -191,36 +175,29 @@ module _ {f : Form} {u : ℕ} {values classes rows s : List ℕ} {known n : ℕ}
     filled = rw stored-count (begin f s o n);
   }
 
-  pub ended : (r : End) (last : List ℕ) → Ended f u s n out r last → Ends f u s o n r last
+  pub ended : (r : End) (last : List ℕ) → Ended f s n out r last → Ends f s o n r last
   ended r last E = E .ends o (rw stored-count (begin f s o n))
 
 -- the last stores make the report
 module _ {f : Form} {u : ℕ} {values classes rows s : List ℕ} {known n : ℕ} {o : List ℕ} (C : Counted f u values classes rows s known n o) where
-  pub ends-fit : (e : End) (mid : List ℕ) → Ends f u s o n e mid → Fits u n e
+  ends-few : (e : End) (mid : List ℕ) → Ends f s o n e mid → refusedOf e ≤ n
+  unfolding Ends refusedOf
+  ends-few (Whole k) mid w = w .0
+  ends-few (E.Rest p k x) mid w = w .0
+
+  by-last : (e : End) (mid : List ℕ) → Ends f s o n e mid → length mid ≡ length o → (r : ℕ) (last : List ℕ) → Last n e mid r last → Written f s o r last
   unfolding Ends
-  ends-fit (Whole k) mid w = w .0
-  ends-fit (E.Rest a k x) mid w = (w .0, omega (arith, w .3, C .read .few, limit-most f))
+  by-last (Whole k) mid w z r last c = record {
+    long = c .0 ∙ sym (w .2);
+    held = put-counts mid n k (omega (arith, C .room)) (w .0) refl 0 (c .1) ∙ w .1;
+  }
+  by-last (E.Rest p k x) mid w z r last c = record {
+    long = c .0 ∙ sym (w .2);
+    held = put-last mid n k (omega (arith, C .room)) (w .0) refl p x refl (c .1) ∙ w .1;
+  }
 
-  pub ends-last : (e : End) (mid : List ℕ) → Ends f u s o n e mid → (r : ℕ) (last : List ℕ) → Last u n e mid r last → Written f s o r last
-  unfolding Ends
-  ends-last (Whole k) mid w r last c = record { long = c .0 ∙ sym (w .2); held = c .1 ∙ w .1 }
-  ends-last (E.Rest a k x) mid w r last c = record { long = c .0 ∙ sym (w .2); held = c .1 ∙ w .1 }
-
--- by the way that it ended
-pub fits-whole : (u n : ℕ) (e : End) (k : ℕ) → Fits u n e → e ≡ Whole k → k ≤ n
-fits-whole u n e k F q = subst (Fits u n) q F
-
-fits-rest : (u n : ℕ) (e : End) (a k x : ℕ) → Fits u n e → e ≡ E.Rest a k x → (k ≤ n) × (u * a ≤ 9223372036854775807)
-fits-rest u n e a k x F q = subst (Fits u n) q F
-
-pub rest-few : (u n : ℕ) (e : End) (a k x : ℕ) → Fits u n e → e ≡ E.Rest a k x → k ≤ n
-rest-few u n e a k x F q = fits-rest u n e a k x F q .0
-
-pub rest-fits : (u n : ℕ) (e : End) (a k x : ℕ) → Fits u n e → e ≡ E.Rest a k x → val.Fits w64 (u * a)
-rest-fits u n e a k x F q = omega (arith, fits-rest u n e a k x F q .1)
-
-pub last-by : (u n : ℕ) (e e′ : End) (out : List ℕ) (r : ℕ) (out′ : List ℕ) → e ≡ e′ → Last u n e′ out r out′ → Last u n e out r out′
-last-by u n e e′ out r out′ q L = subst (λ (x : End). Last u n x out r out′) (sym q) L
+  pub ends-last : (e : End) (mid : List ℕ) → Ends f s o n e mid → length mid ≡ length o → (r : ℕ) (last : List ℕ) → Lasts n e mid r last → Written f s o r last
+  ends-last e mid w z r last c = by-last e mid w z r last (c .right (omega (arith, C .room)) (ends-few e mid w))
 
 -- ---- the answers
 

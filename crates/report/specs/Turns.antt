@@ -10,9 +10,9 @@ use Rattle.format.specs.Units.{domain}
 use Rattle.format.specs.Report.{rowsIn, be4, report, reportAnswer, reportLeft}
 use Rattle.runs.specs.Levels.{Clear}
 use Rattle.report_first.specs.First.{Lent}
-use Rattle.report_turn.specs.Turns.{Fill}
-use Rattle.report.specs.declared.End.{End}
-use Rattle.report.specs.declared.End.the-variants.{Whole, Rest}
+use Rattle.report_general.specs.Turns.{Fill}
+use Rattle.report_last.specs.declared.End.{End}
+use Rattle.report_last.specs.declared.End.the-variants.{Whole, Rest}
 
 -- a stream within the limit, u elements to the unit, known from its start to a unit, and the tables
 pub record Read (f : Form) (u : ℕ) (values classes rows s : List ℕ) (known : ℕ) : Type 0 where
@@ -34,30 +34,18 @@ pub record Begun (f : Form) (u : ℕ) (values classes rows s : List ℕ) (known 
   pub filled : Fill f s held n 0 0 0 out
 
 -- what all turns leave: the last stores make the report
-unfoldable pub Ends : Form → ℕ → List ℕ → List ℕ → ℕ → End → List ℕ → Type 0
-Ends f u s o n (Whole k) out =
+unfoldable pub Ends : Form → List ℕ → List ℕ → ℕ → End → List ℕ → Type 0
+Ends f s o n (Whole k) out =
     (k ≤ n) × (sets (sets out (4 + 9 * n) (be4 k)) (8 + 9 * n + 9 * k) (be4 0) ≡ sets o 0 (report (domain f) s))
     × (length (report (domain f) s) ≡ 12 + 9 * n + 9 * k)
-Ends f u s o n (Rest a k x) out =
+Ends f s o n (Rest p k x) out =
     (k ≤ n)
-    × (sets (sets (sets out (4 + 9 * n) (be4 k)) (8 + 9 * n + 9 * k) (be4 1)) (12 + 9 * n + 9 * k) (be4 (u * a) ++ (x ∷ [])) ≡ sets o 0 (report (domain f) s))
-    × (length (report (domain f) s) ≡ 17 + 9 * n + 9 * k) × (u * a ≤ length s)
+    × (sets (sets (sets out (4 + 9 * n) (be4 k)) (8 + 9 * n + 9 * k) (be4 1)) (12 + 9 * n + 9 * k) (be4 p ++ (x ∷ [])) ≡ sets o 0 (report (domain f) s))
+    × (length (report (domain f) s) ≡ 17 + 9 * n + 9 * k)
 
 -- whatever the buffer held before the first of them
-pub record Ended (f : Form) (u : ℕ) (s : List ℕ) (n : ℕ) (out : List ℕ) (r : End) (out′ : List ℕ) : Type 0 where
-  pub ends : (o : List ℕ) → Fill f s o n 0 0 0 out → Ends f u s o n r out′
-
--- ---- the last section
-
-abbrev pub Fits : ℕ → ℕ → End → Type 0
-Fits u n (Whole k) = k ≤ n
-Fits u n (Rest a k x) = (k ≤ n) × (u * a ≤ 9223372036854775807)
-
-abbrev pub Last : ℕ → ℕ → End → List ℕ → ℕ → List ℕ → Type 0
-Last u n (Whole k) out r out′ = (r ≡ 12 + 9 * n + 9 * k) × (out′ ≡ sets (sets out (4 + 9 * n) (be4 k)) (8 + 9 * n + 9 * k) (be4 0))
-Last u n (Rest a k x) out r out′ =
-    (r ≡ 17 + 9 * n + 9 * k)
-    × (out′ ≡ sets (sets (sets out (4 + 9 * n) (be4 k)) (8 + 9 * n + 9 * k) (be4 1)) (12 + 9 * n + 9 * k) (be4 (u * a) ++ (x ∷ [])))
+pub record Ended (f : Form) (s : List ℕ) (n : ℕ) (out : List ℕ) (r : End) (out′ : List ℕ) : Type 0 where
+  pub ends : (o : List ℕ) → Fill f s o n 0 0 0 out → Ends f s o n r out′
 
 -- ---- the whole
 

@@ -4,69 +4,16 @@
 // is a unit in front of which, from the present one on, all characters are known.
 use format::Form;
 use format::Reported;
-use report_turn::Turn;
+use report_general::Turn;
+use report_last::End;
 ghost use mathlib.Core.Path.{_≡_};
-ghost use mathlib.Core.List.{[], _∷_, _++_};
 ghost use Prim.Native.Nat.{_+_, _*_, _≤_};
 ghost use lib.ListN.{length};
-ghost use lib.Seq.{sets};
 ghost use Rattle.format.specs.Units.{domain, text, binary};
-ghost use Rattle.format.specs.Report.{be4, reportAnswer, reportLeft};
-ghost use Rattle.report.specs.Turns.{Read, Counted, Begun, Ends, Ended, Fits, Last, Written, Answered};
+ghost use Rattle.format.specs.Report.{reportAnswer, reportLeft};
+ghost use Rattle.report.specs.Turns.{Read, Counted, Begun, Ends, Ended, Written, Answered};
 
 // ---- the rows
-
-// How the rows ended, so many items being refused: with the stream, or at a unit where nothing is framed, for this reason.
-pub enum End {
-    Whole {
-        refused: usize,
-    },
-    Rest {
-        at: usize,
-        refused: usize,
-        number: u8,
-    },
-}
-
-// ---- the last section
-
-// The count of refusals, and no remainder: the report's length.
-fn finish(out: &mut [u8], n: usize, k: usize) -> usize
-    requires { ⌜ (17 + 18 * n ≤ length (now out)) × (k ≤ n) ⌝ }
-    ensures { λ r. ⌜ (r ≡ 12 + 9 * n + 9 * k) × (now (out .exit) ≡ sets (sets (now (out .entry)) (4 + 9 * n) (be4 k)) (8 + 9 * n + 9 * k) (be4 0)) ⌝ }
-{
-    report_rows::put_number(out, 4 + 9 * n, k);
-    report_rows::put_number(out, 8 + 9 * n + 9 * k, 0);
-    12 + 9 * n + 9 * k
-}
-
-// The count of refusals, and the remainder.
-fn finish_rest(out: &mut [u8], n: usize, k: usize, offset: usize, number: u8) -> usize
-    requires { ⌜ (17 + 18 * n ≤ length (now out)) × (k ≤ n) ⌝ }
-    ensures { λ r. ⌜ (r ≡ 17 + 9 * n + 9 * k) × (now (out .exit) ≡ sets (sets (sets (now (out .entry)) (4 + 9 * n) (be4 k)) (8 + 9 * n + 9 * k) (be4 1)) (12 + 9 * n + 9 * k) (be4 offset ++ (number ∷ []))) ⌝ }
-{
-    report_rows::put_number(out, 4 + 9 * n, k);
-    report_rows::put_number(out, 8 + 9 * n + 9 * k, 1);
-    report_rows::put_remainder(out, 12 + 9 * n + 9 * k, offset, number);
-    17 + 9 * n + 9 * k
-}
-
-// The last section, where so many elements make a unit.
-fn put_last(out: &mut [u8], u: usize, n: usize, end: End) -> usize
-    requires { ⌜ (17 + 18 * n ≤ length (now out)) × Fits u n end ⌝ }
-    ensures { λ r. ⌜ Last u n end (now (out .entry)) r (now (out .exit)) ⌝ }
-{
-    match end {
-        End::Whole { refused } => finish(out, n, refused),
-        End::Rest {
-            at,
-            refused,
-            number,
-        } => finish_rest(out, n, refused, u * at, number),
-    }
-}
-
-// ---- all rows
 
 // All rows of a stream, one turn after the other.
 fn put_all(
@@ -81,7 +28,7 @@ fn put_all(
     n: usize,
 ) -> End
     requires { ⌜ Begun form u (now values) (now classes) (now rows) (now s) known n (now out) ⌝ }
-    ensures { λ r. ⌜ Ended form u (now (s .entry)) n (now (out .entry)) r (now (out .exit)) ⌝ }
+    ensures { λ r. ⌜ Ended form (now (s .entry)) n (now (out .entry)) r (now (out .exit)) ⌝ }
 {
     let mut clean = known;
     let mut a = 0;
@@ -91,8 +38,9 @@ fn put_all(
         clean = report_first::known(form, s, a, clean);
         match report_turn::put_turn(form, values, classes, rows, s, out, n, clean, a, i, k) {
             Turn::Rest { number } => {
+                let offset = u * a;
                 return End::Rest {
-                    at: a,
+                    offset,
                     refused: k,
                     number,
                 };
@@ -124,7 +72,7 @@ fn put_items(
     n: usize,
 ) -> End
     requires { ⌜ Counted form u (now values) (now classes) (now rows) (now s) known n (now out) ⌝ }
-    ensures { λ r. ⌜ Ends form u (now (s .entry)) (now (out .entry)) n r (now (out .exit)) ⌝ }
+    ensures { λ r. ⌜ Ends form (now (s .entry)) (now (out .entry)) n r (now (out .exit)) ⌝ }
 {
     report_rows::put_number(out, 0, n);
     put_all(form, u, values, classes, rows, s, out, known, n)
@@ -146,7 +94,7 @@ fn fill(
     ensures { λ r. ⌜ Written form (now (s .entry)) (now (out .entry)) r (now (out .exit)) ⌝ }
 {
     let end = put_items(form, u, values, classes, rows, s, out, known, n);
-    put_last(out, u, n, end)
+    report_last::put_last(out, n, end)
 }
 
 // ---- the calls
@@ -185,7 +133,7 @@ fn report(form: Form, s: &[u8], out: &mut [u8]) -> Reported
     let known = report_first::known(form, s, 0, 0);
     report_by(
         form,
-        report_item::unit(form),
+        report_units::unit(form),
         &values,
         &classes,
         &rows,

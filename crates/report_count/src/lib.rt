@@ -57,7 +57,7 @@ pub fn count(
 ) -> usize
     ensures { λ r. ⌜ Total form (now (values .entry)) (now (classes .entry)) (now (rows .entry)) (now (s .entry)) known r ⌝ }
 {
-    let u = report_item::unit(form);
+    let u = report_units::unit(form);
     let mut clean = known;
     let mut a = 0;
     let mut i = 0;

@@ -3,19 +3,14 @@
 use format::Form;
 use format::Framed;
 use judging::MAX_DEPTH;
-ghost use mathlib.Core.Path.{_≡_};
 ghost use mathlib.Core.Bool.{true};
 ghost use Prim.Native.Nat.{_+_, _-_, _/_, _≤_, _<_};
 ghost use lib.ListN.{length};
-ghost use Rattle.format.specs.declared.Verdict.the-variants.{Accepted};
 ghost use Rattle.format.specs.Units.{domain};
-ghost use Rattle.format.specs.Registry.{isOverrideable};
 ghost use Rattle.format.specs.Judging.{maxDepth};
-ghost use Rattle.laws.specs.Levels.{level};
-ghost use Rattle.runs.specs.Plain.{groupAt, letterAt};
 ghost use Rattle.runs.specs.Levels.{Clear};
 ghost use Rattle.report_first.specs.First.{Lent};
-ghost use Rattle.report_fast.specs.Fast.{Reach, Ready, Good, Accepts, Take, Passes};
+ghost use Rattle.report_fast.specs.Fast.{Reach, Accepts, Take, Passes};
 
 // ---- items accepted whole, where all is known
 
@@ -76,7 +71,7 @@ fn other(
     requires { ⌜ Reach form (now s) at stop × (at < stop) ⌝ }
     ensures { λ r. ⌜ Take form (now (values .entry)) (now (classes .entry)) (now (rows .entry)) (now (s .entry)) levels first at stop r ⌝ }
 {
-    match report_item::found(form, s, levels, first, at, stop) {
+    match report_found::found(form, s, levels, first, at, stop) {
         Framed::Unframed {
             number: _,
             place: _,
@@ -141,6 +136,29 @@ fn accepts(
     true
 }
 
+// The same of any units: what is past the end is not accepted.
+pub fn passes(
+    form: Form,
+    values: &[u8; 256],
+    classes: &[u8; 256],
+    rows: &[u16; 192],
+    s: &[u8],
+    levels: usize,
+    first: bool,
+    at: usize,
+    stop: usize,
+) -> bool
+    ensures { λ r. ⌜ Passes form (now (values .entry)) (now (classes .entry)) (now (rows .entry)) (now (s .entry)) levels first at stop r ⌝ }
+{
+    if report_units::units(form, s.len()) < stop {
+        return false;
+    }
+    if stop < at {
+        return false;
+    }
+    accepts(form, values, classes, rows, s, levels, first, at, stop)
+}
+
 // ---- at top level
 
 // The size of the item at a unit, if it ends in front of another unit and is accepted; else 0.
@@ -178,68 +196,9 @@ pub fn accepted(
 ) -> usize
     ensures { λ r. ⌜ (r ≤ length (now (s .entry)) / domain form .unit - at) × (length (now (s .entry)) ≤ domain form .limit → Lent (now (values .entry)) (now (classes .entry)) (now (rows .entry)) → Clear (domain form .sextets (now (s .entry))) at clean → Accepts (domain form) (now (s .entry)) at r) ⌝ }
 {
-    let end = report_first::least(clean, report_item::units(form, s.len()));
+    let end = report_first::least(clean, report_units::units(form, s.len()));
     if end <= at {
         return 0;
     }
     accepted_within(form, values, classes, rows, s, at, end)
-}
-
-// Whether the small group of so many units at a unit of a stream is accepted and known up to a unit. Groups that stand one in the other
-// are entered at once.
-pub fn group_accepted(
-    form: Form,
-    values: &[u8; 256],
-    classes: &[u8; 256],
-    rows: &[u16; 192],
-    s: &[u8],
-    clean: usize,
-    at: usize,
-    size: usize,
-) -> bool
-    ensures { λ r. ⌜ (length (now (s .entry)) ≤ domain form .limit → Lent (now (values .entry)) (now (classes .entry)) (now (rows .entry)) → Clear (domain form .sextets (now (s .entry))) at clean → groupAt (domain form .sextets (now (s .entry))) at ≡ size → r ≡ true → Good (domain form) (now (s .entry)) at size) ⌝ }
-{
-    let end = report_first::least(clean, report_item::units(form, s.len()));
-    if end <= at {
-        return false;
-    }
-    if end - at < size {
-        return false;
-    }
-    if size == 0 {
-        return false;
-    }
-    inside_accepted(form, values, classes, rows, s, at, at + size)
-}
-
-// Its contents.
-fn inside_accepted(
-    form: Form,
-    values: &[u8; 256],
-    classes: &[u8; 256],
-    rows: &[u16; 192],
-    s: &[u8],
-    at: usize,
-    stop: usize,
-) -> bool
-    requires { ⌜ Reach form (now s) at stop × (at < stop) ⌝ }
-    ensures { λ r. ⌜ (Ready form (now (values .entry)) (now (classes .entry)) (now (rows .entry)) (now (s .entry)) at stop → groupAt (domain form .sextets (now (s .entry))) at ≡ stop - at → r ≡ true → level (domain form .sextets (now (s .entry))) (maxDepth - 1) (isOverrideable (letterAt (domain form .sextets (now (s .entry))) at)) (at + 1) stop ≡ Accepted) ⌝ }
-{
-    let d = report_first::nested(form, values, classes, rows, s, at + 1, stop, MAX_DEPTH - 1);
-    let i = at + 1 + d;
-    if report_first::plain(form, values, classes, rows, s, i) == stop - i {
-        return true;
-    }
-    let first = report_first::marks(form, values, classes, rows, s, at + d);
-    accepts(
-        form,
-        values,
-        classes,
-        rows,
-        s,
-        MAX_DEPTH - 1 - d,
-        first,
-        i,
-        stop,
-    )
 }

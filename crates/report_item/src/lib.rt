@@ -12,42 +12,14 @@ ghost use Rattle.format.specs.Units.{domain};
 ghost use Rattle.format.specs.Framing.{frameRuled};
 ghost use Rattle.format.specs.Report.{placed};
 ghost use Rattle.laws.specs.Levels.{level};
-ghost use Rattle.report_item.specs.Items.{Inside, Here, moved, Near, Finds, Whole, Judges};
-
-// Elements of a stream to a unit.
-pub fn unit(form: Form) -> usize
-    ensures { λ r. ⌜ r ≡ domain form .unit ⌝ }
-{
-    match form {
-        Form::Text => 4,
-        Form::Binary => 3,
-    }
-}
-
-// The whole units of a stream of so many elements.
-pub fn units(form: Form, len: usize) -> usize
-    ensures { λ r. ⌜ r ≡ len / domain form .unit ⌝ }
-{
-    match form {
-        Form::Text => len / 4,
-        Form::Binary => len / 3,
-    }
-}
-
-pub fn limit(form: Form) -> usize
-    ensures { λ r. ⌜ r ≡ domain form .limit ⌝ }
-{
-    match form {
-        Form::Text => 4194304,
-        Form::Binary => 3145728,
-    }
-}
+ghost use Rattle.report_found.specs.Finds.{Inside};
+ghost use Rattle.report_item.specs.Items.{Whole, Judges};
 
 // The item at a unit, framed as at top level; past the end nothing is.
 pub fn framed(form: Form, s: &[u8], at: usize) -> Framed
     ensures { λ r. ⌜ r ≡ frameRuled (domain form .sextets (drop (domain form .unit * at) (now (s .entry)))) ⌝ }
 {
-    if units(form, s.len()) < at {
+    if report_units::units(form, s.len()) < at {
         return Framed::Unframed {
             number: 4,
             place: 0,
@@ -67,77 +39,12 @@ pub fn framed(form: Form, s: &[u8], at: usize) -> Framed
 
 // ---- the items of a group
 
-// A refusal's place counted on.
-fn moved(f: Framed, by: usize) -> Framed
-    requires { ⌜ Near by f ⌝ }
-    ensures { λ r. ⌜ r ≡ moved by f ⌝ }
-{
-    match f {
-        Framed::Item {
-            kind: _,
-            head: _,
-            size: _,
-        } => f,
-        Framed::Unframed { number, place } => Framed::Unframed {
-            number,
-            place: by + place,
-        },
-    }
-}
-
-// The next item of a group from a unit on, framed and judged by its own checks, with a refusal's place in the stream.
-fn next(form: Form, s: &[u8], levels: usize, first: bool, at: usize, stop: usize) -> Framed
-    requires { ⌜ Here form (now s) at stop ⌝ }
-    ensures { λ r. ⌜ Finds form (now (s .entry)) levels first at stop r ⌝ }
-{
-    match form {
-        Form::Text => {
-            let from = 4 * at;
-            let to = 4 * stop;
-            moved(report_next::next_text(&s[from..to], first, levels), 4 * at)
-        }
-        Form::Binary => {
-            let from = 3 * at;
-            let to = 3 * stop;
-            moved(
-                report_next::next_binary(&s[from..to], first, levels),
-                4 * at,
-            )
-        }
-    }
-}
-
-// The same of any units: what is past the end or the limit is not framed.
-pub fn found(form: Form, s: &[u8], levels: usize, first: bool, at: usize, stop: usize) -> Framed
-    ensures { λ r. ⌜ Finds form (now (s .entry)) levels first at stop r ⌝ }
-{
-    if limit(form) < s.len() {
-        return Framed::Unframed {
-            number: 1,
-            place: 0,
-        };
-    }
-    if units(form, s.len()) < stop {
-        return Framed::Unframed {
-            number: 4,
-            place: 0,
-        };
-    }
-    if stop <= at {
-        return Framed::Unframed {
-            number: 4,
-            place: 0,
-        };
-    }
-    next(form, s, levels, first, at, stop)
-}
-
 // The next item judged whole: as it is framed if it is accepted, else its refusal.
 fn whole(form: Form, s: &[u8], levels: usize, first: bool, at: usize, stop: usize) -> Framed
     requires { ⌜ Inside (domain form) (now s) at stop × (at < stop) ⌝ }
     ensures { λ r. ⌜ Whole (domain form .sextets (now (s .entry))) levels first at stop r ⌝ }
 {
-    let item = found(form, s, levels, first, at, stop);
+    let item = report_found::found(form, s, levels, first, at, stop);
     match item {
         Framed::Unframed {
             number: _,
@@ -190,7 +97,7 @@ fn placed(form: Form, v: Verdict) -> Verdict
         Verdict::Accepted => v,
         Verdict::Refused { number, place } => Verdict::Refused {
             number,
-            place: place / 4 * unit(form) + place % 4,
+            place: place / 4 * report_units::unit(form) + place % 4,
         },
     }
 }
@@ -200,8 +107,8 @@ fn placed(form: Form, v: Verdict) -> Verdict
 pub fn verdict(form: Form, s: &[u8], at: usize, size: usize) -> Verdict
     ensures { λ r. ⌜ Judges (domain form) (now (s .entry)) at size r ⌝ }
 {
-    let all = units(form, s.len());
-    if limit(form) < s.len() {
+    let all = report_units::units(form, s.len());
+    if report_units::limit(form) < s.len() {
         return Verdict::Refused {
             number: 1,
             place: 0,

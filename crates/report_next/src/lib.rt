@@ -11,7 +11,7 @@ ghost use Rattle.report_next.specs.Next.{nextOwn, isEntered, isRuled};
 pub fn next_text(part: &[u8], first: bool, levels: usize) -> Framed
     ensures { λ r. ⌜ r ≡ nextOwn first (textSextets (now (part .entry))) levels ⌝ }
 {
-    let cs = framing::text_head(part);
+    let cs = framing_head::text_head(part);
     let framed = framing::frame_next_head(cs, part.len() / 4, first);
     match framed {
         Framed::Unframed {
@@ -19,7 +19,7 @@ pub fn next_text(part: &[u8], first: bool, levels: usize) -> Framed
             place: _,
         } => framed,
         Framed::Item { kind, head, size } => {
-            let own = judging::within(cs, size);
+            let own = framing_head::within(cs, size);
             let end = 4 * size;
             let v = judging::own_text(kind, head, size, own, &part[..end], levels);
             judging::told(framed, v)
@@ -30,7 +30,7 @@ pub fn next_text(part: &[u8], first: bool, levels: usize) -> Framed
 pub fn next_binary(part: &[u8], first: bool, levels: usize) -> Framed
     ensures { λ r. ⌜ r ≡ nextOwn first (binarySextets (now (part .entry))) levels ⌝ }
 {
-    let cs = framing::binary_head(part);
+    let cs = framing_head::binary_head(part);
     let framed = framing::frame_next_head(cs, part.len() / 3, first);
     match framed {
         Framed::Unframed {
@@ -38,7 +38,7 @@ pub fn next_binary(part: &[u8], first: bool, levels: usize) -> Framed
             place: _,
         } => framed,
         Framed::Item { kind, head, size } => {
-            let own = judging::within(cs, size);
+            let own = framing_head::within(cs, size);
             let v = judging::own_binary(kind, head, size, own, levels);
             judging::told(framed, v)
         }

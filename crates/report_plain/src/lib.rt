@@ -80,14 +80,14 @@ fn put_within(
     requires { ⌜ Behind form (now s) at size end ⌝ }
     ensures { λ r. ⌜ Followed form (now (values .entry)) (now (rows .entry)) (now (s .entry)) at size end (now (out .entry)) row r (now (out .exit)) ⌝ }
 {
-    let u = report_item::unit(form);
+    let u = report_units::unit(form);
     let x = s[u * at];
     let limit = limit(form, values, rows, x, size);
     if limit == 0 {
         return 0;
     }
     let from = u * (at + size);
-    report_rows::put_alike(form, values, s, x, limit, u * size, from, u * end, out, row)
+    report_alike::put_alike(form, values, s, x, limit, u * size, from, u * end, out, row)
 }
 
 // The rows, at a place of the buffer, of the plain primitives with the letter and size of the item at a unit that follow it and are
@@ -106,7 +106,7 @@ pub fn put_followers(
 ) -> usize
     ensures { λ r. ⌜ (r * size ≤ length (now (s .entry)) / domain form .unit - (at + size)) × (0 < size → Lent (now (values .entry)) (now (classes .entry)) (now (rows .entry)) → Run (plainAt plainTable (domain form .sextets (now (s .entry)))) size (min clean (length (now (s .entry)) / domain form .unit)) (at + size) r) × (now (out .exit) ≡ sets (now (out .entry)) row (concat rowBytes (runOf (domain form .unit * (at + size)) (domain form .unit * size) r))) ⌝ }
 {
-    let end = report_first::least(clean, report_item::units(form, s.len()));
+    let end = report_first::least(clean, report_units::units(form, s.len()));
     if end <= at {
         return 0;
     }

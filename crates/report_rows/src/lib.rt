@@ -1,18 +1,14 @@
-// The bytes of a report, stored at places of a lent buffer: numbers, rows of items, refusals, the remainder, and the rows of accepted
-// items that begin alike, each stored as the item is looked at. What does not fit is not stored. Where each stands is the caller's, so
-// that rows may have any width: the law of filling in specs/ is over it.
-use format::Form;
+// The bytes of a report, stored at places of a lent buffer: numbers, rows of items, refusals, the remainder. What does not fit is not
+// stored. Where each stands is the caller's, so that rows may have any width: the law of filling in report_filling is over it.
 use format::Verdict;
 ghost use mathlib.Core.Path.{_≡_};
 ghost use mathlib.Core.List.{[], _∷_, _++_};
-ghost use Prim.Native.Nat.{_+_, _*_, _≤_, _<_};
+ghost use Prim.Native.Nat.{_+_, _≤_, _<_};
 ghost use lib.Dec.{leb};
-ghost use Rattle.base.specs.Pick.{pick};
-ghost use lib.ListN.{length, getD};
+ghost use lib.ListN.{length};
 ghost use lib.Seq.{sets};
-ghost use Rattle.format.specs.Report.{be4, rowBytes, refusalBytes, concat, refusal, verdictByte};
-ghost use Rattle.report_rows.specs.Stores.{put, runOf};
-ghost use Rattle.report_rows.specs.Alike.{isAlike, Alike, Roomy};
+ghost use Rattle.format.specs.Report.{be4, refusalBytes, concat, refusal, verdictByte};
+ghost use Rattle.report_rows.specs.Stores.{put};
 
 fn has_room(len: usize, at: usize, n: usize) -> bool
     ensures { λ r. ⌜ r ≡ leb (at + n) len ⌝ }
@@ -93,7 +89,8 @@ fn put_refusal(out: &mut [u8], at: usize, index: usize, number: u8, place: usize
     }
 }
 
-pub fn put_remainder(out: &mut [u8], at: usize, offset: usize, number: u8)
+// A number and a refusal's number behind it: the remainder, or the end of a row.
+pub fn put_told(out: &mut [u8], at: usize, offset: usize, number: u8)
     ensures { λ _. ⌜ now (out .exit) ≡ put (now (out .entry)) at (be4 offset ++ (number ∷ [])) ⌝ }
 {
     if has_room(out.len(), at, 5) {
@@ -126,145 +123,4 @@ pub fn put_item(
             1
         }
     }
-}
-
-// ---- accepted items of one size that follow one another and begin alike
-
-fn wide(x: u8) -> usize
-    ensures { λ r. ⌜ (r ≡ x) × (r < 256) ⌝ }
-{
-    x as usize
-}
-
-// The value of a character by a table.
-fn value(values: &[u8; 256], s: &[u8], at: usize) -> usize
-    requires { ⌜ at < length (now s) ⌝ }
-    ensures { λ r. ⌜ r ≡ getD (now (values .entry)) (getD (now (s .entry)) at 0) 0 ⌝ }
-{
-    wide(values[wide(s[at])])
-}
-
-// The same first element, and in a text a second one whose value is below a limit.
-fn is_alike(form: Form, values: &[u8; 256], s: &[u8], x: u8, limit: usize, at: usize) -> bool
-    requires { ⌜ at + 1 < length (now s) ⌝ }
-    ensures { λ r. ⌜ r ≡ isAlike form (now (values .entry)) (now (s .entry)) x limit at ⌝ }
-{
-    if s[at] != x {
-        return false;
-    }
-    match form {
-        Form::Text => value(values, s, at + 1) < limit,
-        Form::Binary => true,
-    }
-}
-
-// The row of the item at an element, if it begins so.
-fn store_if(
-    form: Form,
-    values: &[u8; 256],
-    s: &[u8],
-    x: u8,
-    limit: usize,
-    size: usize,
-    p: usize,
-    out: &mut [u8],
-    at: usize,
-) -> bool
-    requires { ⌜ (p + 1 < length (now s)) × (at + 9 ≤ length (now out)) ⌝ }
-    ensures { λ r. ⌜ (r ≡ isAlike form (now (values .entry)) (now (s .entry)) x limit p) × (now (out .exit) ≡ pick r (sets (now (out .entry)) at (be4 p ++ (be4 size ++ (0 ∷ [])))) (now (out .entry))) ⌝ }
-{
-    if is_alike(form, values, s, x, limit, p) {
-        store_row(out, at, p, size, 0);
-        return true;
-    }
-    false
-}
-
-// Their rows, for which there is room.
-fn store_alike(
-    form: Form,
-    values: &[u8; 256],
-    s: &[u8],
-    x: u8,
-    limit: usize,
-    size: usize,
-    from: usize,
-    end: usize,
-    out: &mut [u8],
-    at: usize,
-) -> usize
-    requires { ⌜ (1 < size) × (size ≤ 4194304) × (from ≤ end) × (end ≤ length (now s)) × Roomy from size end at (length (now out)) ⌝ }
-    ensures { λ r. ⌜ Alike form (now (values .entry)) (now (s .entry)) x limit size from end r × (now (out .exit) ≡ sets (now (out .entry)) at (concat rowBytes (runOf from size r))) ⌝ }
-{
-    let mut p = from;
-    let mut r = 0;
-    while p + size <= end {
-        if !store_if(form, values, s, x, limit, size, p, out, at + 9 * r) {
-            return r;
-        }
-        p = p + size;
-        r = r + 1;
-    }
-    r
-}
-
-fn least(x: usize, y: usize) -> usize
-    ensures { λ r. ⌜ (r ≤ x) × (r ≤ y) ⌝ }
-{
-    if x < y { x } else { y }
-}
-
-// As many of them as there is room for.
-fn store_most(
-    form: Form,
-    values: &[u8; 256],
-    s: &[u8],
-    x: u8,
-    limit: usize,
-    size: usize,
-    from: usize,
-    end: usize,
-    out: &mut [u8],
-    at: usize,
-) -> usize
-    requires { ⌜ (1 < size) × (size ≤ 4194304) × (from ≤ end) × (end ≤ length (now s)) × (at ≤ length (now out)) ⌝ }
-    ensures { λ r. ⌜ Alike form (now (values .entry)) (now (s .entry)) x limit size from end r × (now (out .exit) ≡ sets (now (out .entry)) at (concat rowBytes (runOf from size r))) ⌝ }
-{
-    let most = least((out.len() - at) / 9, 4194304);
-    let room = least(end - from, most * size);
-    store_alike(form, values, s, x, limit, size, from, from + room, out, at)
-}
-
-// The rows of items of so many elements from an element on, as far as they begin alike, end in front of another element and have room:
-// how many they are.
-pub fn put_alike(
-    form: Form,
-    values: &[u8; 256],
-    s: &[u8],
-    x: u8,
-    limit: usize,
-    size: usize,
-    from: usize,
-    end: usize,
-    out: &mut [u8],
-    at: usize,
-) -> usize
-    ensures { λ r. ⌜ Alike form (now (values .entry)) (now (s .entry)) x limit size from end r × (now (out .exit) ≡ sets (now (out .entry)) at (concat rowBytes (runOf from size r))) ⌝ }
-{
-    if size < 2 {
-        return 0;
-    }
-    if 4194304 < size {
-        return 0;
-    }
-    if s.len() < end {
-        return 0;
-    }
-    if end < from {
-        return 0;
-    }
-    if out.len() < at {
-        return 0;
-    }
-    store_most(form, values, s, x, limit, size, from, end, out, at)
 }

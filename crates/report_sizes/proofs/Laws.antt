@@ -1,10 +1,10 @@
 -- Sizes, and runs of items of one size. Assumes nothing.
-use Prim.Native.Nat.{ℕ, suc, _+_, _-_, _*_, _/_, _≤_, _<_}
+use Prim.Native.Nat.{ℕ, _+_, _-_, _*_, _/_, _≤_, _<_}
 use mathlib.Core.Path.{_≡_, refl, sym}
 use mathlib.Core.Bool.{true}
 use mathlib.Core.List.{List}
 use native.Mathlib.Omega.{arith}
-use native.Mathlib.Nat.{suc-mul, mul-comm, le-div-iff-mul-le}
+use native.Mathlib.Nat.{mul-comm, le-div-iff-mul-le}
 use lib.ListN.{length, drop, length-drop}
 use Rattle.format.specs.declared.Form.{Form}
 use Rattle.format.specs.declared.Form.the-variants.{Text, Binary}
@@ -18,32 +18,8 @@ use Rattle.laws.specs.Domains.{reader}
 use Rattle.laws.specs.Frames.{frames}
 use Rattle.runs.specs.Plain.{plainTable, sizedAt, groupAt}
 use Rattle.runs.specs.Levels.{Clear, group-drop, sized-drop}
-use Rattle.runs.specs.Runs.{Run, run-none, run-more}
+use Rattle.runs.specs.Runs.{Run}
 use Rattle.report_sizes.specs.Sizes.{Tells, sizeOf, sizeAt}
-
--- ---- a run, by the place that it has reached
-
-pub record Reached (P : ℕ → ℕ) (k stop from r at : ℕ) : Type 0 where
-  pub run : Run P k stop from r
-  pub place : at ≡ from + r * k
-  pub few : r ≤ at
-  pub near : at ≤ stop
-
-module _ (P : ℕ → ℕ) (k stop from : ℕ) where
-  pub reached-start : 0 < k → from ≤ stop → Reached P k stop from 0 from
-  reached-start p h = record { run = run-none P k stop from p; place = omega arith; few = omega arith; near = h }
-
-  pub reached-more : (r at : ℕ) → Reached P k stop from r at → P at ≡ k → at + k ≤ stop → Reached P k stop from (r + 1) (at + k)
-  reached-more r at R e h =
-      let z : r + 1 ≡ suc r = omega arith in
-      let some = R .run .some in
-      let is = R .place in
-      record {
-        run = run-more P k stop from r (R .run) (rw is at e) (rw is at h);
-        place = rw z (omega (arith, suc-mul r k));
-        few = omega (arith, R .few);
-        near = h;
-      }
 
 -- by another rule that says the same where the first does
 pub run-by : (p q : ℕ → ℕ) (k stop at r : ℕ) → ((i : ℕ) → i + k ≤ stop → p i ≡ k → q i ≡ k) → Run p k stop at r → Run q k stop at r

@@ -1,6 +1,5 @@
 // The sizes of a stream's items, of either form: of the one at a unit, by its first unit where that tells, else by framing; and how
-// many that begin like it follow it, and so have its size. The tables are lent. Positions count units, but in loops elements, which
-// spares a multiplication a turn.
+// many that begin like it follow it, and so have its size. The tables are lent. Positions count units.
 use format::Form;
 use format::Framed;
 ghost use mathlib.Core.Path.{_≡_};
@@ -12,7 +11,7 @@ ghost use Rattle.runs.specs.Plain.{groupAt};
 ghost use Rattle.runs.specs.Levels.{Clear};
 ghost use Rattle.runs.specs.Runs.{Run};
 ghost use Rattle.report_first.specs.First.{Lent};
-ghost use Rattle.report_sizes.specs.Sizes.{Grouped, Tells, sizeOf, sizeAt, same, sameTwo, sameUnit, isLike, likeBy, likeIn, letterBy, Span, Elements, Followers};
+ghost use Rattle.report_sizes.specs.Sizes.{Grouped, Tells, sizeOf, sizeAt, letterBy};
 
 // ---- sizes
 
@@ -53,7 +52,7 @@ pub fn group_size(
     if clean <= at {
         return 0;
     }
-    let all = report_item::units(form, s.len());
+    let all = report_units::units(form, s.len());
     if all <= at {
         return 0;
     }
@@ -92,7 +91,7 @@ pub fn size(
 ) -> usize
     ensures { λ r. ⌜ (r ≤ length (now (s .entry)) / domain form .unit - at) × (Lent (now (values .entry)) (now (classes .entry)) (now (rows .entry)) → Clear (domain form .sextets (now (s .entry))) at clean → r ≡ sizeAt (domain form) (now (s .entry)) at) ⌝ }
 {
-    let all = report_item::units(form, s.len());
+    let all = report_units::units(form, s.len());
     let m = told(form, values, classes, rows, s, clean, at);
     if 0 < m {
         if at < all {
@@ -105,98 +104,6 @@ pub fn size(
 }
 
 // ---- items behind it that begin alike, and so have its size
-
-fn same(s: &[u8], p: usize, q: usize) -> bool
-    requires { ⌜ (p < length (now s)) × (q < length (now s)) ⌝ }
-    ensures { λ r. ⌜ r ≡ same (now (s .entry)) p q ⌝ }
-{
-    s[p] == s[q]
-}
-
-fn same_two(s: &[u8], p: usize, q: usize) -> bool
-    requires { ⌜ (p + 1 < length (now s)) × (q + 1 < length (now s)) ⌝ }
-    ensures { λ r. ⌜ r ≡ sameTwo (now (s .entry)) p q ⌝ }
-{
-    if same(s, p, q) {
-        return same(s, p + 1, q + 1);
-    }
-    false
-}
-
-// Whether the units at two elements are the same.
-fn same_unit(form: Form, s: &[u8], p: usize, q: usize) -> bool
-    requires { ⌜ (p + domain form .unit ≤ length (now s)) × (q + domain form .unit ≤ length (now s)) ⌝ }
-    ensures { λ r. ⌜ r ≡ sameUnit form (now (s .entry)) p q ⌝ }
-{
-    match form {
-        Form::Text => {
-            if same_two(s, p, q) {
-                return same_two(s, p + 2, q + 2);
-            }
-            false
-        }
-        Form::Binary => {
-            if same_two(s, p, q) {
-                return same(s, p + 2, q + 2);
-            }
-            false
-        }
-    }
-}
-
-// By the first element, or by the whole first unit.
-fn is_like(form: Form, s: &[u8], whole: bool, p: usize, q: usize) -> bool
-    requires { ⌜ (p + domain form .unit ≤ length (now s)) × (q + domain form .unit ≤ length (now s)) ⌝ }
-    ensures { λ r. ⌜ r ≡ isLike form (now (s .entry)) whole p q ⌝ }
-{
-    if whole {
-        return same_unit(form, s, p, q);
-    }
-    same(s, p, q)
-}
-
-// How many items of so many elements follow the one at an element and begin like it, up to another element.
-fn run(form: Form, s: &[u8], whole: bool, at: usize, size: usize, end: usize) -> usize
-    requires { ⌜ Elements form (now s) at size end ⌝ }
-    ensures { λ r. ⌜ Run (likeBy form (now (s .entry)) whole at size) size end (at + size) r ⌝ }
-{
-    let mut p = at + size;
-    let mut r = 0;
-    while p + size <= end {
-        if !is_like(form, s, whole, at, p) {
-            return r;
-        }
-        p = p + size;
-        r = r + 1;
-    }
-    r
-}
-
-// The same in units.
-fn run_units(form: Form, s: &[u8], whole: bool, at: usize, size: usize, end: usize) -> usize
-    requires { ⌜ Span form (now s) at size end ⌝ }
-    ensures { λ r. ⌜ Run (likeIn form (now (s .entry)) whole at size) size end (at + size) r ⌝ }
-{
-    let u = report_item::unit(form);
-    run(form, s, whole, u * at, u * size, u * end)
-}
-
-// And as far as characters are known.
-fn followers(form: Form, s: &[u8], whole: bool, clean: usize, at: usize, size: usize) -> usize
-    ensures { λ r. ⌜ Followers form (now (s .entry)) whole clean at size r ⌝ }
-{
-    let end = report_first::least(clean, report_item::units(form, s.len()));
-    if size == 0 {
-        return 0;
-    }
-    if end <= at {
-        return 0;
-    }
-    if end - at < size {
-        return 0;
-    }
-    run_units(form, s, whole, at, size, end)
-}
 
 fn wide(x: u8) -> usize
     ensures { λ r. ⌜ (r ≡ x) × (r < 256) ⌝ }
@@ -228,7 +135,7 @@ pub fn of_letter(
 ) -> usize
     ensures { λ r. ⌜ (r * size ≤ length (now (s .entry)) / domain form .unit - (at + size)) × (Lent (now (values .entry)) (now (classes .entry)) (now (rows .entry)) → Clear (domain form .sextets (now (s .entry))) at clean → 0 < size → Run (sizeAt (domain form) (now (s .entry))) size (length (now (s .entry)) / domain form .unit) (at + size) r) ⌝ }
 {
-    if report_item::units(form, s.len()) <= at {
+    if report_units::units(form, s.len()) <= at {
         return 0;
     }
     let a = letter(form, values, s, at);
@@ -238,12 +145,12 @@ pub fn of_letter(
     if runs::letter_row(rows, a) % 64 != size {
         return 0;
     }
-    followers(form, s, false, clean, at, size)
+    report_followers::followers(form, s, false, clean, at, size)
 }
 
 // How many groups with the header of the one at a unit follow it.
 pub fn of_header(form: Form, s: &[u8], clean: usize, at: usize, size: usize) -> usize
     ensures { λ r. ⌜ (r * size ≤ length (now (s .entry)) / domain form .unit - (at + size)) × (Clear (domain form .sextets (now (s .entry))) at clean → groupAt (domain form .sextets (now (s .entry))) at ≡ size → 0 < size → Run (sizeAt (domain form) (now (s .entry))) size (length (now (s .entry)) / domain form .unit) (at + size) r) ⌝ }
 {
-    followers(form, s, true, clean, at, size)
+    report_followers::followers(form, s, true, clean, at, size)
 }

@@ -3,80 +3,17 @@
 // it is given are within the stream and the buffer is filled up to there. Positions count units, u elements each; in text, `clean` is a
 // unit in front of which, from the present one on, all characters are known.
 use format::Form;
-use format::Framed;
+use report_general::Turn;
 ghost use mathlib.Core.Path.{_≡_};
-ghost use Prim.Native.Nat.{ℕ, _-_, _*_, _/_, _≤_, _<_};
-ghost use lib.ListN.{length, drop};
-ghost use Rattle.format.specs.declared.Kind.{Kind};
+ghost use Prim.Native.Nat.{_-_, _*_, _/_, _≤_, _<_};
+ghost use lib.ListN.{length};
 ghost use Rattle.format.specs.Units.{domain};
-ghost use Rattle.format.specs.Framing.{frameRuled};
 ghost use Rattle.runs.specs.Plain.{groupAt};
 ghost use Rattle.runs.specs.Levels.{Clear};
 ghost use Rattle.report_first.specs.First.{Lent};
 ghost use Rattle.report_fast.specs.Fast.{Good};
-ghost use Rattle.report_turn.specs.Turns.{Placed, Turned, Turns};
-
-// What a turn stored: rows of so many items, of which so many are refused, up to so many units further on; or nothing, for this reason.
-pub enum Turn {
-    Stored {
-        units: usize,
-        items: usize,
-        refused: usize,
-    },
-    Rest {
-        number: u8,
-    },
-}
-
-// A framed item of so many units by the general way.
-fn put_framed(
-    form: Form,
-    u: usize,
-    s: &[u8],
-    out: &mut [u8],
-    n: usize,
-    a: usize,
-    i: usize,
-    k: usize,
-    size: usize,
-) -> Turn
-    requires { ⌜ Placed form u (now s) n a i k × (size ≤ length (now s) / domain form .unit - a) ⌝ }
-    ensures { λ r. ⌜ ((t : Kind) (h : ℕ) → frameRuled (domain form .sextets (drop (domain form .unit * a) (now (s .entry)))) ≡ Framed.Item t h size → Turned form u (now (s .entry)) n a i k (now (out .entry)) r (now (out .exit))) ⌝ }
-{
-    let v = report_item::verdict(form, s, a, size);
-    let row = 4 + 9 * i;
-    let to = 8 + 9 * n + 9 * k;
-    let refused = report_rows::put_item(out, row, to, i, u * a, u * size, v);
-    Turn::Stored {
-        units: size,
-        items: 1,
-        refused,
-    }
-}
-
-// What stands at a unit by the general way.
-fn put_judged(
-    form: Form,
-    u: usize,
-    s: &[u8],
-    out: &mut [u8],
-    n: usize,
-    a: usize,
-    i: usize,
-    k: usize,
-) -> Turn
-    requires { ⌜ Placed form u (now s) n a i k ⌝ }
-    ensures { λ r. ⌜ Turned form u (now (s .entry)) n a i k (now (out .entry)) r (now (out .exit)) ⌝ }
-{
-    match report_item::framed(form, s, a) {
-        Framed::Unframed { number, place: _ } => Turn::Rest { number },
-        Framed::Item {
-            kind: _,
-            head: _,
-            size,
-        } => put_framed(form, u, s, out, n, a, i, k, size),
-    }
-}
+ghost use Rattle.report_general.specs.Turns.{Placed, Turned};
+ghost use Rattle.report_turn.specs.Turns.{Turns};
 
 // A small group of so many units, by the fast way where that accepts it.
 fn put_group(
@@ -97,7 +34,7 @@ fn put_group(
     requires { ⌜ Placed form u (now s) n a i k × (size ≤ length (now s) / domain form .unit - a) ⌝ }
     ensures { λ r. ⌜ (Lent (now (values .entry)) (now (classes .entry)) (now (rows .entry)) → Clear (domain form .sextets (now (s .entry))) a clean → groupAt (domain form .sextets (now (s .entry))) a ≡ size → Turned form u (now (s .entry)) n a i k (now (out .entry)) r (now (out .exit))) ⌝ }
 {
-    if report_fast::group_accepted(form, values, classes, rows, s, clean, a, size) {
+    if report_group::group_accepted(form, values, classes, rows, s, clean, a, size) {
         report_rows::put_row(out, 4 + 9 * i, u * a, u * size, 0);
         return Turn::Stored {
             units: size,
@@ -105,7 +42,7 @@ fn put_group(
             refused: 0,
         };
     }
-    put_judged(form, u, s, out, n, a, i, k)
+    report_general::put_general(form, s, out, n, a, i, k)
 }
 
 // An accepted item of so many units, and the plain primitives of its letter that follow it.
@@ -173,7 +110,7 @@ fn put_here(
     if 0 < p {
         return put_accepted(form, u, values, classes, rows, s, out, n, clean, a, i, k, p);
     }
-    put_judged(form, u, s, out, n, a, i, k)
+    report_general::put_general(form, s, out, n, a, i, k)
 }
 
 // What stands at a unit, where so many items of n are stored, and so many of them refused.
@@ -192,31 +129,9 @@ pub fn put_turn(
 ) -> Turn
     ensures { λ r. ⌜ Turns form (now (values .entry)) (now (classes .entry)) (now (rows .entry)) (now (s .entry)) n clean a i k (now (out .entry)) r (now (out .exit)) ⌝ }
 {
-    // Places that no report has in such a buffer; no refusal's number is 0.
-    if out.len() / 18 < n {
-        return Turn::Rest { number: 0 };
+    if report_general::is_place(form, s, out.len(), n, a, i, k) {
+        let u = report_units::unit(form);
+        return put_here(form, u, values, classes, rows, s, out, n, clean, a, i, k);
     }
-    if n < i {
-        return Turn::Rest { number: 0 };
-    }
-    if n < k {
-        return Turn::Rest { number: 0 };
-    }
-    if report_item::units(form, s.len()) < a {
-        return Turn::Rest { number: 0 };
-    }
-    put_here(
-        form,
-        report_item::unit(form),
-        values,
-        classes,
-        rows,
-        s,
-        out,
-        n,
-        clean,
-        a,
-        i,
-        k,
-    )
+    Turn::Rest { number: 0 }
 }

@@ -46,7 +46,7 @@ own-inside (Variable t l m) h n s o =
 own-inside (Group l) h n s o = absurd (o .form)
 own-inside Genus h n s o = absurd (o .form)
 
-raw-length : (k : Kind) (h n : ℕ) (s : List ℕ) → Own k h n s → length (rawOf k h s) ≡ 3 * n - rawStart k h
+pub raw-length : (k : Kind) (h n : ℕ) (s : List ℕ) → Own k h n s → length (rawOf k h s) ≡ 3 * n - rawStart k h
 unfolding rawOf
 raw-length k h n s o = length-drop (rawStart k h) (bytesIn s) ∙ omega (arith, bytes-length s, o .size)
 
@@ -151,21 +151,21 @@ text-by xs at room g n c l f r =
 -- ---- what an answer comes from
 
 -- the sextets of a stream that is not too long, and what is found there
-record From (s : List ℕ) (long limit : ℕ) (p : Primitive) : Type 0 where
-  kind : Kind
-  head : ℕ
-  size : ℕ
-  short : long ≤ limit
-  reads : reading s ≡ found kind head size
-  item : p ≡ primitiveOf kind head size
+pub record From (s : List ℕ) (long limit : ℕ) (p : Primitive) : Type 0 where
+  pub kind : Kind
+  pub head : ℕ
+  pub size : ℕ
+  pub short : long ≤ limit
+  pub reads : reading s ≡ found kind head size
+  pub item : p ≡ primitiveOf kind head size
 
-abbrev BinaryFrom : List ℕ → ℕ → Primitive → Type 0
+abbrev pub BinaryFrom : List ℕ → ℕ → Primitive → Type 0
 BinaryFrom xs at p = From (binarySextets (drop at xs)) (length xs) (binary .limit) p
 
-abbrev TextFrom : List ℕ → ℕ → Primitive → Type 0
+abbrev pub TextFrom : List ℕ → ℕ → Primitive → Type 0
 TextFrom xs at p = From (textSextets (drop at xs)) (length xs) (text .limit) p
 
-binary-from : (xs : List ℕ) (at : ℕ) (p : Primitive) → readBinary xs at .found ≡ B.Found p
+pub binary-from : (xs : List ℕ) (at : ℕ) (p : Primitive) → readBinary xs at .found ≡ B.Found p
     → BinaryFrom xs at p
 unfolding readBinary binaryAnswer from
 binary-from xs at p =
@@ -178,7 +178,7 @@ binary-from xs at p =
     by l (refused m q) f e = let z : _≡_ {A = ℕ} 0 1 = cc in absurd (omega arith)
     by l (found k h n) f e = record { kind = k; head = h; size = n; short = l; reads = f; item = cc }
 
-text-from : (xs : List ℕ) (at room : ℕ) (p : Primitive) → readText xs at room .found ≡ T.Found p
+pub text-from : (xs : List ℕ) (at room : ℕ) (p : Primitive) → readText xs at room .found ≡ T.Found p
     → TextFrom xs at p × (p .raw ≤ room)
 unfolding readText textAnswer from primitiveOf
 text-from xs at room p =
@@ -252,3 +252,25 @@ text-whole xs at room p e =
     rw (g .item)
     (text-there (take (n * 4) (drop at xs)) (omega (arith, length-take-le (n * 4) (drop at xs) inside))
     (rw (text-reader .taken (drop at xs) n inside, ← four) (o .0 .low)))
+
+-- ---- how long the raw value is that a call hands back
+
+pub binary-raw : (xs : List ℕ) (at : ℕ) (p : Primitive) → readBinary xs at .found ≡ B.Found p → length (partAt xs at (B.Found p)) ≡ p .raw
+unfolding partAt primitiveOf
+binary-raw xs at p e =
+    let g = binary-from xs at p e in
+    let n = g .size in
+    let o = read-own (binarySextets (drop at xs)) (g .kind) (g .head) n (g .reads) in
+    let i = own-inside (g .kind) (g .head) n _ (o .0) in
+    let ls = binary-length (drop at xs) in
+    rw (g .item) (length-take-le _ (drop (at + rawStart (g .kind) (g .head)) xs) (omega (arith, o .1, length-drop at xs, length-drop (at + rawStart (g .kind) (g .head)) xs)))
+
+pub text-raw : (xs : List ℕ) (at room : ℕ) (p : Primitive) (d : List ℕ) → readText xs at room .found ≡ T.Found p
+    → length (take (p .raw) (rawLeft (T.Found p) xs at d)) ≡ p .raw
+unfolding rawLeft textRaw from primitiveOf
+text-raw xs at room p d e =
+    let g = text-from xs at room p e .0 in
+    let n = g .size in
+    let o = read-own (textSextets (drop at xs)) (g .kind) (g .head) n (g .reads) in
+    let l = raw-length (g .kind) (g .head) n _ (o .0) in
+    rw (g .item, g .reads, take-at _ (drop (3 * n - rawStart (g .kind) (g .head)) d) _ l) l

@@ -1,5 +1,6 @@
--- Single primitives there and back, and the limits of their sizes, over the definitions of format. Statements only, a field a sentence, each below what is asked in
--- words (01's where they say so). `RoundTrip` is proved in Proved. Assumes nothing.
+-- Single primitives there and back, the limits of their sizes, and that a value has one spelling, over the definitions of format.
+-- Statements only, a field a sentence, each below what is asked in words (01's and 02's where they say so). `RoundTrip` is proved in Proved.
+-- Assumes nothing.
 use Prim.Native.Nat.{ℕ, _+_, _*_, _^_, _<_, _≤_}
 use mathlib.Core.Path.{_≡_}
 use mathlib.Core.List.{List, _++_}
@@ -153,17 +154,19 @@ pub record ReadWrites : Type 0 where
 
 -- ---- 01: "small holds at most 12,285 raw bytes, large 3,145,722"
 
--- a variable code with a header of so many units holds at most so many raw bytes: the writer takes these where there is room, and
--- gives 12 for more, in either form
-pub record Holds (code : ℕ → Code) (head most : ℕ) : Type 0 where
-  pub accepts : (u letter raw room : ℕ) (tag : List ℕ) → isType (sextetOf letter) ≡ true → raw ≤ most
+-- a variable code with a header of so many units holds at least and at most so many raw bytes: the writer takes these where there is
+-- room, gives 12 for more, and for less 18 (02 h), in either form
+pub record Holds (code : ℕ → Code) (head least most : ℕ) : Type 0 where
+  pub accepts : (u letter raw room : ℕ) (tag : List ℕ) → isType (sextetOf letter) ≡ true → least ≤ raw → raw ≤ most
       → (head + countFor raw) * u ≤ room → writing u (named (code letter)) tag 0 raw room ≡ written (head + countFor raw)
   pub refuses : (u letter raw room : ℕ) (tag : List ℕ) → isType (sextetOf letter) ≡ true → most < raw
       → writing u (named (code letter)) tag 0 raw room ≡ refused 12 0
+  pub too-few : (u letter raw room : ℕ) (tag : List ℕ) → isType (sextetOf letter) ≡ true → raw < least
+      → writing u (named (code letter)) tag 0 raw room ≡ refused 18 0
 
 pub record Limits : Type 0 where
-  pub small : Holds Code.Small 1 12285
-  pub large : Holds Code.Large 2 3145722
+  pub small : Holds Code.Small 1 0 12285
+  pub large : Holds Code.Large 2 12286 3145722
   -- where the numbers come from: a small one is held exactly if two digits count its triplets, a large one exactly if its item is no
   -- longer than a stream may be, in text and in binary
   pub small-digits : (raw : ℕ) → raw ≤ 12285 → countFor raw < 64 ^ 2
@@ -185,9 +188,38 @@ pub record Orders : Type 0 where
       → let nine = unless 9 (hasLead lead count) in let eight = unless 8 (zeroBits s (4 * h) (8 * lead)) in
       andThen nine eight ≡ andThen eight nine
 
+-- ---- 02 h: "for accepted primitives equal type and raw value .. mean equal text, shown once over every variable type". A fixed code is a type by
+-- itself, and a tag's value is its characters
+
+-- a code's type: small and large are not told apart
+abbrev pub typeOf : Code → Code
+typeOf (Code.Fixed chars letter) = Code.Fixed chars letter
+typeOf (Code.Small letter) = Code.Small letter
+typeOf (Code.Large letter) = Code.Small letter
+
+pub record OneSpelling : Type 0 where
+  -- on the sextets of either form, of at most as many units as a stream may have
+  pub sextets : (s s′ : List ℕ) (k k′ : Kind) (h h′ n n′ : ℕ) → reading s ≡ found k h n → reading s′ ≡ found k′ h′ n′
+      → n * 4 ≤ text .limit → n′ * 4 ≤ text .limit → typeOf (codeOf k h) ≡ typeOf (codeOf k′ h′)
+      → let own = take (4 * n) s in let own′ = take (4 * n′) s′ in
+      tagOf k own ≡ tagOf k′ own′ → rawOf k h own ≡ rawOf k′ h′ own′ → own ≡ own′
+  -- by the calls, "equal text": the items' own characters; d and d′ are the buffers that the raw values were written to
+  pub text-calls : (xs xs′ : List ℕ) (at at′ room room′ : ℕ) (p p′ : Primitive) (d d′ : List ℕ)
+      → readText xs at room .found ≡ TextFound.Found p → readText xs′ at′ room′ .found ≡ TextFound.Found p′
+      → typeOf (p .code) ≡ typeOf (p′ .code) → readText xs at room .tag ≡ readText xs′ at′ room′ .tag
+      → take (p .raw) (rawLeft (TextFound.Found p) xs at d) ≡ take (p′ .raw) (rawLeft (TextFound.Found p′) xs′ at′ d′)
+      → take (p .size * 4) (drop at xs) ≡ take (p′ .size * 4) (drop at′ xs′)
+  -- and equal binary: their own bytes
+  pub binary-calls : (xs xs′ : List ℕ) (at at′ : ℕ) (p p′ : Primitive) → Below 256 xs → Below 256 xs′
+      → readBinary xs at .found ≡ BinaryFound.Found p → readBinary xs′ at′ .found ≡ BinaryFound.Found p′
+      → typeOf (p .code) ≡ typeOf (p′ .code) → readBinary xs at .tag ≡ readBinary xs′ at′ .tag
+      → partAt xs at (BinaryFound.Found p) ≡ partAt xs′ at′ (BinaryFound.Found p′)
+      → take (p .size * 3) (drop at xs) ≡ take (p′ .size * 3) (drop at′ xs′)
+
 pub record RoundTrip : Type 0 where
   pub written-reads : WrittenReads
   pub written-converts : WrittenConverts
   pub read-writes : ReadWrites
   pub limits : Limits
   pub orders : Orders
+  pub spelling : OneSpelling

@@ -17,11 +17,11 @@ use Rattle.format.specs.declared.Kind.the-variants.{Variable}
 use Rattle.format.specs.Registry.{isType}
 use Rattle.format.specs.Units.{bytesOf, textSextets, binarySextets}
 use Rattle.format.specs.Framing.{sextet, digits4}
-use Rattle.format.specs.Judging.{zeroBits, hasLead}
+use Rattle.format.specs.Judging.{isShortest, zeroBits, hasLead}
 use Rattle.format.specs.Values.{bytesIn, rawStart, rawOf, tagOf}
 use Rattle.format.specs.Reading.{codeOf, tagsOf}
 use Rattle.format.specs.Writing.{variable, rawLimit, fitsVariable, leadFor, countFor}
-use Rattle.format.specs.Writing.{variableHeader, variablePrefix, isNamed, isFit, itemBytes, unitsOf}
+use Rattle.format.specs.Writing.{variableHeader, variablePrefix, isNamed, isFit, isShort, itemBytes, unitsOf}
 use Rattle.laws.specs.Conversion.{binary-below}
 use Rattle.laws.specs.Values.{binary-bytes}
 use Rattle.roundtrip.specs.Bytes.{Quad, quad, quad-of, below-any, bytes-length, binary-length, bytes-front}
@@ -142,7 +142,7 @@ module _ (t l m h n : ℕ) (s : List ℕ) (o : Own (Variable t l m) h n s) where
 
   pub counted-writes : n ≤ 1048576
       → Writes (variable t h) (tagOf (Variable t l m) s) (tagsOf (Variable t l m)) (rawOf (Variable t l m) h s) n s
-  unfolding tagOf tagsOf isNamed isFit fitsVariable unitsOf itemBytes variablePrefix textSextets
+  unfolding tagOf tagsOf isNamed isFit isShort fitsVariable unitsOf itemBytes variablePrefix textSextets
   counted-writes few =
       let f = o .form in
       let led = has-lead l m (f .led) in
@@ -159,6 +159,7 @@ module _ (t l m h n : ℕ) (s : List ℕ) (o : Own (Variable t l m) h n s) where
       record {
         known = refl;
         fits = le-leb _ (rawLimit h) (rw lr (within-limit few));
+        shortest = rw count (f .shortest);
         count = refl;
         alphabet = none;
         units = rw count (sym (f .units));
@@ -204,8 +205,8 @@ module _ (t : ℕ) (raw : List ℕ) (ty : isType t ≡ true) (low : Below 256 ra
   led p = omega (arith, lead-fills (length raw))
 
   -- a header's sextets, and then the value's
-  module _ (h : ℕ) (short : h + count ≤ 1048576) (front : List ℕ) (lf : length front ≡ 4 * h) (fl : Below 64 front)
-      (head : Headed t lead count h (sextet (front ++ behind))) where
+  module _ (h : ℕ) (short : h + count ≤ 1048576) (shortest : isShortest h count ≡ true) (front : List ℕ)
+      (lf : length front ≡ 4 * h) (fl : Below 64 front) (head : Headed t lead count h (sextet (front ++ behind))) where
     parts : drop (4 * h) (front ++ behind) ≡ behind
     parts = drop-at front behind (4 * h) lf
 
@@ -227,6 +228,7 @@ module _ (t : ℕ) (raw : List ℕ) (ty : isType t ≡ true) (low : Below 256 ra
         few = lead-few (length raw);
         units = refl;
         head = head;
+        shortest = shortest;
         led = lead-has lead count led;
         zeros = zeros;
       };
@@ -255,23 +257,24 @@ module _ (t : ℕ) (raw : List ℕ) (ty : isType t ≡ true) (low : Below 256 ra
     }
 
   small-made : length raw ≤ 12285 → Made (variable t 1) [] 0 raw
+  unfolding isShortest
   small-made l =
       let m : count ≤ 4095 = omega (arith, lead-fills (length raw), lead-few (length raw)) in
       let k : 56 + lead < 64 = omega (arith, lead-few (length raw)) in
       let a : count / 64 < 64 = omega arith in
       let b : count % 64 < 64 = omega arith in
-      made 1 (omega arith) ((56 + lead) ∷ t ∷ (count / 64) ∷ (count % 64) ∷ []) refl (more k (more (type-low t ty) (more a (more b none))))
+      made 1 (omega arith) refl ((56 + lead) ∷ t ∷ (count / 64) ∷ (count % 64) ∷ []) refl (more k (more (type-low t ty) (more a (more b none))))
       (small refl refl refl (omega arith))
 
-  large-made : length raw ≤ 3145722 → Made (variable t 2) [] 0 raw
-  large-made l =
+  large-made : length raw ≤ 3145722 → isShortest 2 count ≡ true → Made (variable t 2) [] 0 raw
+  large-made l long =
       let m : count ≤ 1048574 = omega (arith, lead-fills (length raw), lead-few (length raw)) in
       let k : 59 + lead < 64 = omega (arith, lead-few (length raw)) in
-      made 2 (omega arith) ((59 + lead) ∷ 0 ∷ 0 ∷ t ∷ digitsOf 64 4 count) refl
+      made 2 (omega arith) long ((59 + lead) ∷ 0 ∷ 0 ∷ t ∷ digitsOf 64 4 count) refl
       (more k (more (lit< tt) (more (lit< tt) (more (type-low t ty) (digits-below 64 4 count (lit< tt))))))
       (large refl refl refl refl refl (omega (arith, number-digits 64 4 count (lit< tt))))
 
-  pub counted-made : (h : ℕ) → (h ≡ 1) ⊎ (h ≡ 2) → length raw ≤ rawLimit h → Made (variable t h) [] 0 raw
+  pub counted-made : (h : ℕ) → (h ≡ 1) ⊎ (h ≡ 2) → length raw ≤ rawLimit h → isShortest h count ≡ true → Made (variable t h) [] 0 raw
   unfolding rawLimit
-  counted-made h (inl e) l = subst (λ (k : ℕ). Made (variable t k) [] 0 raw) (sym e) (small-made (rw e at l))
-  counted-made h (inr e) l = subst (λ (k : ℕ). Made (variable t k) [] 0 raw) (sym e) (large-made (rw e at l))
+  counted-made h (inl e) l short = subst (λ (k : ℕ). Made (variable t k) [] 0 raw) (sym e) (small-made (rw e at l))
+  counted-made h (inr e) l short = subst (λ (k : ℕ). Made (variable t k) [] 0 raw) (sym e) (large-made (rw e at l) (rw e at short))

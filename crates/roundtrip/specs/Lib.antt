@@ -13,4 +13,5 @@ pub mod Sextets
 pub mod Calls
 pub mod Limits
 pub mod Orders
+pub mod Spelling
 pub mod Proved

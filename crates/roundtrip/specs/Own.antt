@@ -10,7 +10,7 @@ use Rattle.format.specs.declared.Kind.{Kind}
 use Rattle.format.specs.declared.Kind.the-variants.{Fixed, Variable, Group, Genus}
 use Rattle.format.specs.Registry.{zeroBitsOf, prepadOf, isType}
 use Rattle.format.specs.Framing.{sextet, digits4}
-use Rattle.format.specs.Judging.{hasLead, zeroBits, prepadRight}
+use Rattle.format.specs.Judging.{isShortest, hasLead, zeroBits, prepadRight}
 use Rattle.format.specs.Writing.{codeSextets}
 use Rattle.roundtrip.specs.Rows.{Row}
 
@@ -33,6 +33,7 @@ pub record Counted (t l m h n : ℕ) (s : List ℕ) : Type 0 where
   pub few : l ≤ 2
   pub units : n ≡ h + m
   pub head : Headed t l m h (sextet s)
+  pub shortest : isShortest h m ≡ true
   pub led : hasLead l m ≡ true
   pub zeros : zeroBits s (4 * h) (8 * l) ≡ true
 

@@ -21,6 +21,7 @@ use Rattle.roundtrip.specs.Claims.{Given, itemOf, Accepts, BinaryAccepts
 use Rattle.roundtrip.specs.Claims.{TextAccepts, binaryBuffer, textBuffer, BinaryReads, TextReads}
 use Rattle.roundtrip.specs.Limits.{limits}
 use Rattle.roundtrip.specs.Orders.{orders}
+use Rattle.roundtrip.specs.Spelling.{spelling}
 use Rattle.roundtrip.specs.Claims.{WrittenReads, WrittenConverts, ReadWrites, RoundTrip}
 
 -- ---- what a call wrote
@@ -125,4 +126,5 @@ proved = record {
   read-writes = read-writes;
   limits = limits;
   orders = orders;
+  spelling = spelling;
 }

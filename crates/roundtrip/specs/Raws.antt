@@ -15,7 +15,7 @@ use Rattle.format.specs.Units.{textSextets, binarySextets}
 use Rattle.format.specs.Judging.{prepadRight}
 use Rattle.format.specs.Values.{bytesIn, rawStart, rawOf, tagOf}
 use Rattle.format.specs.Reading.{codeOf, tagsOf}
-use Rattle.format.specs.Writing.{row, rawSize, fitsRow, rawPrefix, rowPrefix, isNamed, isFit, itemBytes, unitsOf}
+use Rattle.format.specs.Writing.{row, rawSize, fitsRow, rawPrefix, rowPrefix, isNamed, isFit, isShort, itemBytes, unitsOf}
 use Rattle.laws.specs.Conversion.{binary-below}
 use Rattle.laws.specs.Values.{binary-bytes, raw-inside}
 use Rattle.roundtrip.specs.Bytes.{quad-of, no-length, bytes-length, binary-length}
@@ -54,7 +54,7 @@ module _ (c : CodeRow) (n : ℕ) (r : Row c n) (t : c .tag ≡ 0) where
 
   pub raw-writes : (h : ℕ) (s : List ℕ) → Own (Fixed c) h n s
       → Writes (row c) (tagOf (Fixed c) s) (tagsOf (Fixed c)) (rawOf (Fixed c) h s) n s
-  unfolding tagsOf rawOf rawStart isNamed unitsOf itemBytes textSextets
+  unfolding tagsOf rawOf rawStart isNamed isShort unitsOf itemBytes textSextets
   raw-writes h s o =
       let f = o .form in
       let e = o .size in
@@ -65,6 +65,7 @@ module _ (c : CodeRow) (n : ℕ) (r : Row c n) (t : c .tag ≡ 0) where
       record {
         known = refl;
         fits = fits (drop m (bytesIn s)) l;
+        shortest = refl;
         count = rw (no-tag s, t);
         alphabet = rw (no-tag s) none;
         units = omega (arith, r .units);

@@ -20,7 +20,7 @@ use Rattle.format.specs.Offsets.{textOffset, binaryOffset}
 use Rattle.format.specs.Conversion.{toBinary, toText, firstStranger, textToBinary, binaryToText}
 use Rattle.format.specs.Values.{bytesIn, rawOf, tagOf}
 use Rattle.format.specs.Reading.{codeOf, tagsOf, found, reading, padded}
-use Rattle.format.specs.Writing.{Named, named, Writing, refused, written, writing, writtenBytes, isNamed, isFit, unitsOf}
+use Rattle.format.specs.Writing.{Named, named, Writing, refused, written, writing, writtenBytes, isNamed, isFit, isShort, unitsOf}
 use Rattle.format.specs.Writing.{textOutcome, binaryOutcome, writeText, writeBinary}
 use Rattle.laws.specs.Conversion.{length-to-text, binary-to-text-sextets, text-below, binary-back, no-stranger, all-known}
 use Rattle.roundtrip.specs.Bytes.{bytes-length, bytes-in-below, sextets-join, sextets-back}
@@ -35,6 +35,7 @@ use Rattle.roundtrip.specs.Claims.{Given, tagGiven, itemOf, Accepts, Rea
 record Accepted (u : ℕ) (name : Named) (tag : List ℕ) (tags raw room n : ℕ) : Type 0 where
   known : isNamed name ≡ true
   fits : isFit name tags raw ≡ true
+  shortest : isShort name raw ≡ true
   strangers : tags ≤ firstStranger (take tags tag)
   units : unitsOf name raw ≡ n
   there : unitsOf name raw * u ≤ room
@@ -49,9 +50,11 @@ accepted u name tag tags raw room n =
     let P : Writing → Type 0 = λ w. w ≡ written n → Accepted u name tag tags raw room n in
     pick-by P (isNamed name) _ _
     (λ a. pick-by P (isFit name tags raw) _ _
-    (λ b. pick-by P (ltb (firstStranger (take tags tag)) tags) _ _ (λ _. unwritten 5 _ n)
+    (λ b. pick-by P (isShort name raw) _ _
+    (λ s. pick-by P (ltb (firstStranger (take tags tag)) tags) _ _ (λ _. unwritten 5 _ n)
     (λ c. pick-by P (ltb room (unitsOf name raw * u)) _ _ (λ _. unwritten 3 0 n)
-    (λ r e. record { known = a; fits = b; strangers = ltb-false _ tags c; units = cc; there = ltb-false room _ r })))
+    (λ r e. record { known = a; fits = b; shortest = s; strangers = ltb-false _ tags c; units = cc; there = ltb-false room _ r })))
+    (λ _. unwritten 18 0 n))
     (λ _. unwritten 12 0 n))
     (λ _. unwritten 6 0 n)
 
@@ -81,7 +84,7 @@ module _ (u room n : ℕ) (g : Given) (w : Accepts u g room n) where
   item : Made (named (g .code)) (tagGiven g) (g .tags) (g .raw)
   item =
       made (tagGiven g) (g .raw) (g .tags) tag-count (all-known (tagGiven g) (omega (arith, fits .strangers, tag-count))) (g .bytes)
-      (g .code) (fits .fits)
+      (g .code) (fits .fits) (fits .shortest)
 
   size-is : item .size ≡ n
   size-is = sym (item .units) ∙ fits .units
@@ -181,6 +184,7 @@ reads-written s k h n e few =
       name,
       w .known,
       w .fits,
+      w .shortest,
       tag,
       le-ltb (firstStranger (tagOf k own)) (tagsOf k) (omega (arith, no-stranger (tagOf k own) (w .alphabet), w .count)),
       w .units,

@@ -21,7 +21,7 @@ use Rattle.format.specs.Units.{bytesOf, textSextets}
 use Rattle.format.specs.Judging.{prepadRight}
 use Rattle.format.specs.Values.{bytesIn, rawStart, rawOf, tagOf}
 use Rattle.format.specs.Reading.{codeOf, tagsOf}
-use Rattle.format.specs.Writing.{row, rawSize, fitsRow, codeSextets, tagPrefix, rowPrefix, isNamed, isFit, itemBytes, unitsOf}
+use Rattle.format.specs.Writing.{row, rawSize, fitsRow, codeSextets, tagPrefix, rowPrefix, isNamed, isFit, isShort, itemBytes, unitsOf}
 use Rattle.laws.specs.Alphabet.{sextet-char}
 use Rattle.laws.specs.Units.{chars-back}
 use Rattle.laws.specs.Registry.{Code, one, two, four, Tag}
@@ -194,12 +194,13 @@ module _ (c : CodeRow) (n : ℕ) (r : Row c n) (t : c .tag ≡ 0 → ⊥) where
         sym (take-append-drop (c .chars) s) ∙ rw (o .form .code, d, tag-back)
 
     pub tag-writes : Writes (row c) (tagOf (Fixed c) s) (tagsOf (Fixed c)) (rawOf (Fixed c) h s) n s
-    unfolding tagsOf isNamed isFit fitsRow unitsOf itemBytes textSextets
+    unfolding tagsOf isNamed isFit isShort fitsRow unitsOf itemBytes textSextets
     tag-writes =
         let nothing = no-raw h s (o .size) in
         record {
           known = refl;
           fits = rw (nothing, eq-eqb (c .tag) (c .tag) refl, raw-size);
+          shortest = refl;
           count = tag-length;
           alphabet = rw tag-back rest-low;
           units = omega (arith, r .units);

@@ -15,7 +15,7 @@ use Rattle.format.specs.Alphabet.{charOf}
 use Rattle.format.specs.Units.{textSextets}
 use Rattle.format.specs.Values.{bytesIn, rawOf, tagOf}
 use Rattle.format.specs.Reading.{codeOf, tagsOf}
-use Rattle.format.specs.Writing.{Named, unknown, row, variable, isNamed, isFit, itemBytes, unitsOf}
+use Rattle.format.specs.Writing.{Named, unknown, row, variable, isNamed, isFit, isShort, itemBytes, unitsOf}
 use Rattle.roundtrip.specs.Own.{Own}
 
 -- what a framed primitive is to the writer
@@ -35,6 +35,7 @@ codeFor (variable t h) = pick (eqb h 1) (C.Small (charOf t)) (C.Large (charOf t)
 pub record Writes (name : Named) (tag : List ℕ) (tags : ℕ) (raw : List ℕ) (n : ℕ) (s : List ℕ) : Type 0 where
   pub known : isNamed name ≡ true
   pub fits : isFit name tags (length raw) ≡ true
+  pub shortest : isShort name (length raw) ≡ true
   pub count : length tag ≡ tags
   pub alphabet : Below 64 (textSextets tag)
   pub units : unitsOf name (length raw) ≡ n

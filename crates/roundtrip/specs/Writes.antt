@@ -24,7 +24,7 @@ use Rattle.format.specs.Registry.{isType, fixed}
 use Rattle.format.specs.Framing.{sextet}
 use Rattle.format.specs.Values.{rawOf, tagOf}
 use Rattle.format.specs.Reading.{codeOf, tagsOf}
-use Rattle.format.specs.Writing.{Named, unknown, row, variable, namedFixed, named, rawSize, fitsRow, rawLimit, fitsVariable, isNamed, isFit}
+use Rattle.format.specs.Writing.{Named, unknown, row, variable, namedFixed, named, rawSize, fitsRow, rawLimit, fitsVariable, isNamed, isFit, isShort}
 use Rattle.laws.specs.Alphabet.{sextet-char, char-sextet}
 use Rattle.roundtrip.specs.Bytes.{no-length}
 use Rattle.roundtrip.specs.Rows.{Row, row-found, type-low}
@@ -113,25 +113,28 @@ variable-fits h tags raw =
 
 module _ (tag raw : List ℕ) (tags : ℕ) (count : length tag ≡ tags) (alphabet : Below 64 (textSextets tag)) (bytes : Below 256 raw) where
   variable-made : (t h : ℕ) → isType t ≡ true → (h ≡ 1) ⊎ (h ≡ 2) → fitsVariable h tags (length raw) ≡ true
-      → Made (variable t h) tag tags raw
-  variable-made t h ty small-or-large f =
+      → isShort (variable t h) (length raw) ≡ true → Made (variable t h) tag tags raw
+  unfolding isShort
+  variable-made t h ty small-or-large f short =
       let v = variable-fits h tags (length raw) f in
       let none : tag ≡ [] = no-length tag (count ∙ v .0) in
-      rw (none, v .0) (counted-made t raw ty bytes h small-or-large (v .1))
+      rw (none, v .0) (counted-made t raw ty bytes h small-or-large (v .1) short)
 
-  made-by : (code : Code) (name : Named) → Names code name → isFit name tags (length raw) ≡ true → Made name tag tags raw
+  made-by : (code : Code) (name : Named) → Names code name → isFit name tags (length raw) ≡ true → isShort name (length raw) ≡ true
+      → Made name tag tags raw
   unfolding isFit
-  made-by _ _ (fixedCode {c} {n} {chars} {letter} r a b) f =
+  made-by _ _ (fixedCode {c} {n} {chars} {letter} r a b) f short =
       let v = row-fits c tags (length raw) f in
       ⊎-elim (λ e. raw-made c n r (eqb-true (c .tag) 0 e) tag raw tags (v .0) (v .1) count bytes)
       (λ e. tag-made c n r (eqb-false (c .tag) 0 e) tag raw tags (v .0) (v .1) count alphabet)
       (whether (eqb (c .tag) 0))
-  made-by _ _ (smallCode {letter} t) f = variable-made (sextetOf letter) 1 t (inl refl) f
-  made-by _ _ (largeCode {letter} t) f = variable-made (sextetOf letter) 2 t (inr refl) f
-  made-by _ _ noCode f = let z : _≡_ {A = ℕ} 0 1 = cc in absurd (omega arith)
+  made-by _ _ (smallCode {letter} t) f short = variable-made (sextetOf letter) 1 t (inl refl) f short
+  made-by _ _ (largeCode {letter} t) f short = variable-made (sextetOf letter) 2 t (inr refl) f short
+  made-by _ _ noCode f short = let z : _≡_ {A = ℕ} 0 1 = cc in absurd (omega arith)
 
-  pub made : (code : Code) → isFit (named code) tags (length raw) ≡ true → Made (named code) tag tags raw
-  made code f = made-by code (named code) (names code) f
+  pub made : (code : Code) → isFit (named code) tags (length raw) ≡ true → isShort (named code) (length raw) ≡ true
+      → Made (named code) tag tags raw
+  made code f short = made-by code (named code) (names code) f short
 
 pub made-code : (code : Code) → isNamed (named code) ≡ true → codeFor (named code) ≡ code
 made-code code k = code-is code (named code) (names code) k

@@ -24,7 +24,7 @@ use Rattle.format.specs.declared.Verdict.{Verdict}
 use Rattle.format.specs.declared.Verdict.the-variants.{Accepted, Refused}
 use Rattle.format.specs.Registry.{opening, isGroup, isOpaque, isOverrideable, zeroBitsOf, prepadOf}
 use Rattle.format.specs.Framing.{sextet, fit, headed, frameWith, ruled, frame, frameRuled}
-use Rattle.format.specs.Judging.{shift, andThen, unless, scan, behind, zeroBits, prepadRight, judgeKind, ownCheck, inTurn, contents, group, judge}
+use Rattle.format.specs.Judging.{shift, andThen, unless, isShortest, scan, behind, zeroBits, prepadRight, judgeKind, ownCheck, inTurn, contents, group, judge}
 use Rattle.laws.specs.Framing.{Known, known-next}
 use Rattle.laws.specs.Scan.{scan-below}
 use Rattle.laws.specs.Levels.{shift-accepted, then-accepts, part, part-length, part-drop, part-take, frameNext, shift-shift, level, level-end, level-item, Taken, taken-level}
@@ -166,7 +166,7 @@ module _ (s : List ℕ) (at to : ℕ) (k : Clear s at to) (l : at < to) where
 -- what is inside a group that is entered
 inside-group : (s : List ℕ) (at n m letter : ℕ) → 0 < m → isOpaque letter ≡ false
     → shift (4 * at) (judgeKind (Group letter) 1 (part s at (at + n)) (group m)) ≡ level s (m - 1) (isOverrideable letter) (at + 1) (at + n)
-unfolding judgeKind group ownCheck andThen judge level
+unfolding judgeKind group ownCheck isShortest unless andThen judge level
 inside-group s at n zero letter p o = absurd (omega arith)
 inside-group s at n (suc m) letter p o =
     let z : suc m - 1 ≡ m = omega arith in

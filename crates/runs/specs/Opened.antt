@@ -22,7 +22,7 @@ use Rattle.format.specs.declared.Verdict.{Verdict}
 use Rattle.format.specs.declared.Verdict.the-variants.{Accepted}
 use Rattle.format.specs.Registry.{fixed, isType, isGroup, isOpaque, zeroBitsOf, prepadOf, opening}
 use Rattle.format.specs.Framing.{sextet, ruled}
-use Rattle.format.specs.Judging.{shift, andThen, unless, behind, hasLead, zeroBits, prepadRight, judgeKind}
+use Rattle.format.specs.Judging.{shift, andThen, unless, isShortest, behind, hasLead, zeroBits, prepadRight, judgeKind}
 use Rattle.laws.specs.Scan.{scan-below}
 use Rattle.laws.specs.Registry.{Finds, fixed-finds}
 use Rattle.runs.specs.Plain.{limitOf, plainRow, rowsOf, plainTable, rowOf, rowAA, typed, lettered, limited, sizedOf, plainOf, groupOf}
@@ -137,7 +137,7 @@ unfolding judgeKind behind prepadRight unless andThen shift
 fixed-accepts row own e z b inner = rw (scan-below (drop 4 own) (below-drop 64 4 own b), z, eq-eqb (prepadOf row) 0 e)
 
 variable-accepts : (t m : ℕ) (own : List ℕ) → Below 64 own → (inner : ℕ → ℕ → List ℕ → Verdict) → judgeKind (Variable t 0 m) 1 own inner ≡ Accepted
-unfolding judgeKind behind hasLead zeroBits unless andThen shift
+unfolding judgeKind isShortest behind hasLead zeroBits unless andThen shift
 variable-accepts t m own b inner =
     rw (scan-below (drop 4 own) (below-drop 64 4 own b), zero-by 0 (sextet own 4) (sextet own 5) (sextet own 6) (omega arith) (all-low own b 4) (all-low own b 5) (all-low own b 6))
 

@@ -102,7 +102,7 @@ fn read_binary(item: &[u8], seed: u8) {
     let mut tag: [u8; 11] = [170; 11];
     let mut info: [usize; 6] = [170; 6];
     let number = exports::cesr_read_binary(item, 0, &mut tag, &mut info, &mut value);
-    let part = reading::raw_binary(item, BinaryOffset(0));
+    let part = reading_binary::raw_binary(item, BinaryOffset(0));
     show_read(6, number, value, info, part, seed);
 }
 

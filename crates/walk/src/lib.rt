@@ -133,7 +133,7 @@ fn move_fit(slots: &mut [usize], p: Place, form: Form, s: &[u8], n: usize, tail:
     if p.at == n {
         return ended(p, tail);
     }
-    let stop = walk_state::stop(slots, p, n);
+    let stop = walk_fit::stop(slots, p, n);
     let item = next_item(p, form, s, stop);
     yielded(slots, p, item)
 }
@@ -214,7 +214,7 @@ fn move_by(
     if over {
         return refused(p, 1);
     }
-    if !walk_state::is_fit(slots, p, n) {
+    if !walk_fit::is_fit(slots, p, n) {
         return refused(p, 13);
     }
     let m = move_fit(slots, p, form, s, n, tail);

@@ -35,7 +35,7 @@ pub record StreamClaims (d : Domain) (xs : List ℕ) : Type 0 where
   -- demand 1: "Every public entry refuses bad input by number": neither 0, which is how a call for C says accepted, nor 255, by which it
   -- tells the end; 01's numbers for a step, in 01's order; and the state is left
   pub refuses : (w : Walk) (m p : ℕ) → stepIn d xs w .found ≡ F.Refused m p
-      → Refusal (1 ∷ 13 ∷ 4 ∷ 5 ∷ 6 ∷ 7 ∷ 11 ∷ 9 ∷ 8 ∷ 10 ∷ []) (stepRules d xs w) m × (m < 255) × (stepIn d xs w .next ≡ w)
+      → Refusal (1 ∷ 13 ∷ 4 ∷ 5 ∷ 6 ∷ 7 ∷ 11 ∷ 18 ∷ 9 ∷ 8 ∷ 10 ∷ []) (stepRules d xs w) m × (m < 255) × (stepIn d xs w .next ≡ w)
   -- an item is yielded only where none of them is to be given
   pub accepts : (w : Walk) (o n e h : ℕ) (k : Kind) → stepIn d xs w .found ≡ F.Item o n e k h → None (stepRules d xs w)
   -- and the end is told only of a fit state behind the last byte of a stream within the limit
@@ -68,7 +68,7 @@ pub record StreamClaims (d : Domain) (xs : List ℕ) : Type 0 where
   -- and it stays ended
   pub ended : (k : ℕ) → Stops (foundAt d xs k) → (j : ℕ) → after d xs (k + j) ≡ after d xs k
   -- "the items yielded at depth 0 up to the first refusal are the report's items": those up to the first refused
-  -- one, which is yielded itself if it is a group that is opened
+  -- one, which is yielded itself if it is a group that is opened: its own check (11, and 18 by 02 h) passes
   pub outer : length xs ≤ d .limit → (k : ℕ) → Stops (foundAt d xs k) → outerItems d xs k ≡ upToRefusal d xs (rowsIn d xs)
   -- they are the first of the report's, in order, and all of them where none is refused
   pub outer-front : upToRefusal d xs (rowsIn d xs) ≡ take (length (upToRefusal d xs (rowsIn d xs))) (map spanOf (rowsIn d xs))

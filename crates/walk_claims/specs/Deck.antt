@@ -53,11 +53,17 @@ steps =
     asked text (45 ∷ 65 ∷ 65 ∷ 67 ∷ 77 ∷ 65 ∷ 65 ∷ 66 ∷ 77 ∷ 65 ∷ 65 ∷ 66 ∷ []) (state (3 ∷ []) 1 1 true) (yields 4 4 1 (Fixed (oneLetter 12 4 0 0)) 1 (state (3 ∷ []) 1 2 false)) ∷  -- `-AACMAABMAAB`: every other yielding step clears the mark
     asked text (45 ∷ 75 ∷ 65 ∷ 66 ∷ 77 ∷ 65 ∷ 65 ∷ 66 ∷ []) start (yields 0 8 0 (Group 10) 1 (state [] 0 2 false)) ∷  -- `-KABMAAB`: an opaque group is stepped over whole
     asked text (45 ∷ 76 ∷ 65 ∷ 66 ∷ 77 ∷ 65 ∷ 65 ∷ 66 ∷ []) start (yields 0 8 0 (Group 11) 1 (state [] 0 2 false)) ∷
-    asked text (45 ∷ 45 ∷ 65 ∷ 65 ∷ 65 ∷ 65 ∷ 65 ∷ 66 ∷ 77 ∷ 65 ∷ 65 ∷ 66 ∷ []) start (yields 0 12 0 (Group 0) 2 (state (3 ∷ []) 1 2 true)) ∷  -- `--AAAAABMAAB`: a large group
+    asked text (45 ∷ 45 ∷ 65 ∷ 65 ∷ 65 ∷ 65 ∷ 65 ∷ 66 ∷ 77 ∷ 65 ∷ 65 ∷ 66 ∷ []) start (refuses 18 0) ∷  -- `--AAAAABMAAB`: a large group that a small one holds
+    asked text (45 ∷ 65 ∷ 65 ∷ 68 ∷ 45 ∷ 45 ∷ 65 ∷ 65 ∷ 65 ∷ 65 ∷ 65 ∷ 66 ∷ 77 ∷ 65 ∷ 65 ∷ 66 ∷ []) (state (4 ∷ []) 1 1 true) (refuses 18 4) ∷  -- `-AAD--AAAAABMAAB`: with the place in the stream
+    asked text (45 ∷ 45 ∷ 65 ∷ 65 ∷ 65 ∷ 65 ∷ 65 ∷ 67 ∷ 45 ∷ 95 ∷ 65 ∷ 65 ∷ 65 ∷ 66 ∷ 65 ∷ 65 ∷ []) start (refuses 18 0) ∷  -- `--AAAAAC-_AAABAA`: 18, then its items
+    asked text (45 ∷ 45 ∷ 75 ∷ 65 ∷ 65 ∷ 65 ∷ 65 ∷ 66 ∷ 33 ∷ 65 ∷ 65 ∷ 65 ∷ []) start (refuses 18 0) ∷  -- `--KAAAAB!AAA`: opaque, 18, then 5
+    asked text (45 ∷ 45 ∷ 65 ∷ 65 ∷ 65 ∷ 65 ∷ 65 ∷ 65 ∷ []) (state (replicate 64 2) 64 0 false) (refuses 11 0) ∷  -- within 64 groups: 11, then 18
+    asked text (56 ∷ 65 ∷ 65 ∷ 66 ∷ 65 ∷ 65 ∷ 65 ∷ 65 ∷ []) start (refuses 18 0) ∷  -- `8AABAAAA`: a variable value, 18, then 9
+    asked text (56 ∷ 65 ∷ 65 ∷ 66 ∷ 65 ∷ 65 ∷ 65 ∷ 66 ∷ 65 ∷ 71 ∷ 104 ∷ 33 ∷ []) start (refuses 5 11) ∷  -- `8AABAAABAGh!`: 5, then 18
     asked text (45 ∷ 65 ∷ 65 ∷ 67 ∷ 45 ∷ 95 ∷ 65 ∷ 65 ∷ 65 ∷ 66 ∷ 65 ∷ 65 ∷ []) (state (3 ∷ []) 1 1 true) (refuses 7 4) ∷  -- `-AAC-_AAABAA`: 7 where the mark is set
     asked text (45 ∷ 65 ∷ 65 ∷ 67 ∷ 45 ∷ 95 ∷ 65 ∷ 65 ∷ 65 ∷ 66 ∷ 65 ∷ 65 ∷ []) (state (3 ∷ []) 1 1 false) (yields 4 8 1 Genus 2 (state [] 0 3 false)) ∷  -- and not where it is clear
     asked text (45 ∷ 95 ∷ 65 ∷ 65 ∷ 65 ∷ 66 ∷ 65 ∷ 65 ∷ []) start (refuses 7 0) ∷  -- 7 at top level
-    asked text (45 ∷ 65 ∷ 65 ∷ 66 ∷ 77 ∷ 81 ∷ 65 ∷ 65 ∷ []) start (yields 0 8 0 (Group 0) 1 (state (2 ∷ []) 1 1 true)) ∷  -- `-AABMQAA`: of a group only 11 and, if opaque, 5 is judged
+    asked text (45 ∷ 65 ∷ 65 ∷ 66 ∷ 77 ∷ 81 ∷ 65 ∷ 65 ∷ []) start (yields 0 8 0 (Group 0) 1 (state (2 ∷ []) 1 1 true)) ∷  -- `-AABMQAA`: of a group only 11, 18 and, if opaque, 5 is judged
     asked text (45 ∷ 65 ∷ 65 ∷ 66 ∷ 77 ∷ 81 ∷ 65 ∷ 65 ∷ []) (state (2 ∷ []) 1 1 true) (refuses 8 4) ∷  -- then 8, with the place in the stream
     asked text (45 ∷ 75 ∷ 65 ∷ 66 ∷ 77 ∷ 33 ∷ 65 ∷ 66 ∷ []) start (refuses 5 5) ∷  -- `-KABM!AB`: opaque, 5
     asked text (45 ∷ 75 ∷ 65 ∷ 66 ∷ 77 ∷ 33 ∷ 65 ∷ 66 ∷ []) (state (replicate 63 2) 63 0 false) (refuses 5 5) ∷  -- within 63 groups
@@ -101,4 +107,10 @@ pub data Steps : List Asked → Type 0 where
 
 pub steps-hold : Steps steps
 unfolding stepped steps
-steps-hold = refl & refl & refl & refl & refl & refl & refl & refl & refl & refl & refl & refl & refl & refl & refl & refl & refl & refl & refl & refl & refl & refl & refl & refl & refl & refl & refl & refl & refl & refl & refl & refl & refl & refl & refl & refl & end
+steps-hold = refl & refl & refl & refl & refl & refl & refl & refl & refl & refl & refl & refl & refl & refl & refl & refl & refl & refl & refl & refl & refl & refl & refl & refl & refl & refl & refl & refl & refl & refl & refl & refl & refl & refl & refl & refl & refl & refl & refl & refl & refl & refl & end
+
+-- 02 h: "`--AAABAA` with its 4,096 units still passes": it is opened, and marks. Its item is `4B__` and 4,095 units
+pub large-opens : stepped text (45 ∷ 45 ∷ 65 ∷ 65 ∷ 65 ∷ 66 ∷ 65 ∷ 65 ∷ 52 ∷ 66 ∷ 95 ∷ 95 ∷ replicate 16380 65) start
+    ≡ record { next = state (4098 ∷ []) 1 2 true; found = F.Item 0 16392 0 (Group 0) 2 }
+unfolding stepped
+large-opens = refl

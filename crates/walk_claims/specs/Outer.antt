@@ -1,11 +1,11 @@
 -- The items that the walk yields at depth 0 are the report's, up to the first refusal. Assumes nothing.
-use Prim.Native.Nat.{ℕ, zero, suc, _+_, _*_, _≤_, _<_}
+use Prim.Native.Nat.{ℕ, zero, suc, _+_, _-_, _*_, _/_, _≤_, _<_}
 use mathlib.Core.Path.{_≡_, refl, sym, ap, _∙_}
 use mathlib.Core.List.{List, [], _∷_, _++_, append-assoc, append-nil}
-use mathlib.Core.Bool.{true, false}
+use mathlib.Core.Bool.{Bool, true, false}
 use native.Mathlib.Omega.{arith}
-use native.Mathlib.Nat.{add-mul}
-use lib.ListN.{length, drop}
+use native.Mathlib.Nat.{add-mul, mul-div-cancel}
+use lib.ListN.{length, take, drop, length-drop}
 use Rattle.base.specs.Cases.{whether}
 use mathlib.Core.Logic.{⊎-elim}
 use Rattle.format.specs.declared.Kind.{Kind}
@@ -16,7 +16,7 @@ use Rattle.format.specs.declared.Verdict.the-variants.{Accepted, Refused}
 use Rattle.format.specs.Units.{Domain}
 use Rattle.format.specs.Registry.{isOpaque}
 use Rattle.format.specs.Framing.{frameRuled}
-use Rattle.format.specs.Judging.{shift, judgeKind, ownCheck, group, maxDepth}
+use Rattle.format.specs.Judging.{shift, andThen, unless, isShortest, judgeKind, ownCheck, group, maxDepth}
 use Rattle.format.specs.Report.{rows, rowsIn, frameIn, placed}
 use Rattle.damage.specs.Cuts as C
 use Rattle.laws.specs.Domains.{Reader}
@@ -29,10 +29,11 @@ use Rattle.walk_state.specs.declared.Stepped.{Stepped}
 use Rattle.walk_state.specs.Walking.{start, foundIn, stepIn}
 use Rattle.walk_claims.specs.Words.{unitsIn, tailOf, after, foundAt, Stops, Span, outer}
 use Rattle.walk_claims.specs.Words.{outerItems, opens, isOpened, upTo, upToRefusal}
-use Rattle.laws.specs.Levels.{part}
-use Rattle.walk_claims.specs.Rest.{opaque-same, orElse, Telling, rest, left, Tells}
+use Rattle.laws.specs.Framing.{unscale}
+use Rattle.laws.specs.Levels.{part, part-length, any-item, item-sizes}
+use Rattle.walk_claims.specs.Rest.{opaque-same, group-refused, orElse, Telling, rest, left, Tells}
 use Rattle.walk_claims.specs.Steps.{inElements}
-use Rattle.walk_claims.specs.Runs.{tells-after}
+use Rattle.walk_claims.specs.Runs.{long, tells-after}
 use Rattle.walk_claims.specs.Streams.{from, from-on, judged-from, framed-item, framed-refused}
 use Rattle.walk_claims.specs.Streams.{framed-end, some-left, tail-left, none-left}
 
@@ -55,24 +56,39 @@ unfolding upTo shift placed orElse
 judged-after o o′ u Accepted r rs = refl
 judged-after o o′ u (Refused m p) r rs = refl
 
-open-passes : (l letter h : ℕ) (ys : List ℕ) → 0 < l → isOpaque letter ≡ false → ownCheck l letter h ys ≡ Accepted
-unfolding ownCheck
-open-passes zero letter h ys lt e = absurd (omega arith)
-open-passes (suc l) letter h ys lt e = rw e
+-- the own check of a group that is opened: 18, or nothing
+check-by : (l letter h : ℕ) (ys : List ℕ) → 0 < l → isOpaque letter ≡ false → (b : Bool) → isShortest h (length ys / 4) ≡ b
+    → ownCheck l letter h ys ≡ unless 18 b
+unfolding ownCheck unless andThen
+check-by zero letter h ys lt o b e = absurd (omega arith)
+check-by (suc l) letter h ys lt o true e = rw (e, o)
+check-by (suc l) letter h ys lt o false e = rw e
 
-yielded : (o o′ u : ℕ) (k : Kind) (h h′ n′ : ℕ) (s : List ℕ) (r : Span) (rs : List Span)
-    → upTo (shift o (placed u (judgeKind k h s (group maxDepth)))) (isOpened (Item k h′ n′)) r rs
+group-yielded : (o o′ u letter h : ℕ) (ys : List ℕ) (r : Span) (rs : List Span) → isOpaque letter ≡ false → (b : Bool)
+    → isShortest h (length ys / 4) ≡ b
+    → upTo (shift o (placed u (group maxDepth letter h ys))) b r rs
+    ≡ orElse none (shift o′ (ownCheck maxDepth letter h ys)) (r ∷ orElse none (shift o′ (group maxDepth letter h ys)) rs)
+unfolding unless orElse shift
+group-yielded o o′ u letter h ys r rs q true e =
+    rw (check-by maxDepth letter h ys (omega arith) q true e) (judged-after o o′ u (group maxDepth letter h ys) r rs)
+group-yielded o o′ u letter h ys r rs q false e =
+    let c : ownCheck maxDepth letter h ys ≡ Refused 18 0 = check-by maxDepth letter h ys (omega arith) q false e in
+    rw (group-refused maxDepth letter h ys 18 0 c, c) (judged-first o o′ u (Refused 18 0) r rs)
+
+-- s: the item's own sextets, of m units
+yielded : (o o′ u : ℕ) (k : Kind) (h m : ℕ) (s : List ℕ) → length s ≡ 4 * m → (r : Span) (rs : List Span)
+    → upTo (shift o (placed u (judgeKind k h s (group maxDepth)))) (isOpened (Item k h m)) r rs
     ≡ orElse none (shift o′ (judgeKind k h s (ownCheck maxDepth))) (r ∷ orElse none (shift o′ (judgeKind k h s (group maxDepth))) rs)
-unfolding judgeKind isOpened opens orElse shift
-yielded o o′ u (Fixed c) h h′ n′ s r rs = judged-first o o′ u _ r rs
-yielded o o′ u (Variable t l c) h h′ n′ s r rs = judged-first o o′ u _ r rs
-yielded o o′ u Genus h h′ n′ s r rs = judged-first o o′ u _ r rs
-yielded o o′ u (Group letter) h h′ n′ s r rs =
+unfolding judgeKind isOpened opens
+yielded o o′ u (Fixed c) h m s long r rs = judged-first o o′ u _ r rs
+yielded o o′ u (Variable t l c) h m s long r rs = judged-first o o′ u _ r rs
+yielded o o′ u Genus h m s long r rs = judged-first o o′ u _ r rs
+yielded o o′ u (Group letter) h m s long r rs =
     let ys : List ℕ = drop (4 * h) s in
+    let n : length ys / 4 ≡ m - h = omega (arith, length-drop (4 * h) s) in
     ⊎-elim
     (λ (e : isOpaque letter ≡ true). rw (e, opaque-same maxDepth letter h ys e) (judged-first o o′ u (ownCheck maxDepth letter h ys) r rs))
-    (λ (e : isOpaque letter ≡ false). rw (e, open-passes maxDepth letter h ys (omega arith) e)
-    (judged-after o o′ u (group maxDepth letter h ys) r rs))
+    (λ (e : isOpaque letter ≡ false). rw (e, ← n) (group-yielded o o′ u letter h ys r rs e (isShortest h (length ys / 4)) refl))
     (whether (isOpaque letter))
 
 -- ---- what is left to yield
@@ -102,6 +118,22 @@ module _ (d : Domain) (R : Reader d) (xs : List ℕ) where
       ap (upToRefusal d xs)
       (rows-refused d R (at * d .unit) (from d xs at) (some-left d R xs at lt) (framed-refused d R xs at m p lt e))
 
+  -- an item's own sextets, and its own frame
+  own-length : (at : ℕ) (k : Kind) (h m : ℕ) → at < unitsIn d xs → frameRuled (part s at (unitsIn d xs)) ≡ Item k h m
+      → length (part s at (at + m)) ≡ 4 * m
+  own-length at k h m lt e =
+      let all : length (part s at (unitsIn d xs)) ≡ 4 * unitsIn d xs - 4 * at = part-length s at (unitsIn d xs) (long d R xs) in
+      let b = item-sizes (part s at (unitsIn d xs)) k h m (any-item true (part s at (unitsIn d xs)) k h m e) in
+      part-length s at (at + m) (omega (arith, b .2, long d R xs)) ∙ omega arith
+
+  own-frame : (ys : List ℕ) (k : Kind) (h m : ℕ) → frameIn d ys ≡ Item k (h * d .unit) (m * d .unit) → frameRuled (d .sextets ys) ≡ Item k h m
+  unfolding frameIn
+  own-frame ys k h m e =
+      let q = unscale (d .unit) (frameRuled (d .sextets ys)) e in
+      let same : (a b : ℕ) → a * d .unit ≡ b * d .unit → a ≡ b =
+      λ a b f. sym (mul-div-cancel a (R .pos)) ∙ ap (λ (x : ℕ). x / d .unit) f ∙ mul-div-cancel b (R .pos) in
+      q .2 ∙ rw (same (q .0) h (sym (q .3)), same (q .1) m (sym (q .4)))
+
   at-item : (at : ℕ) (k : Kind) (h m : ℕ) → at < unitsIn d xs → frameRuled (part s at (unitsIn d xs)) ≡ Item k h m
       → base at
       ≡ orElse none (shift (4 * at) (judgeKind k h (part s at (at + m)) (ownCheck maxDepth)))
@@ -113,11 +145,11 @@ module _ (d : Domain) (R : Reader d) (xs : List ℕ) where
       ap (upToRefusal d xs) (rows-item d R (at * d .unit) (from d xs at) f)
       ∙ rw (
         judged-from d R xs at k h m (omega arith) e fits,
-        C.frame-take (frameIn d) (frames d R) (from d xs at) f,
+        own-frame (take (m * d .unit) (from d xs at)) k h m (C.frame-take (frameIn d) (frames d R) (from d xs at) f),
         from-on d xs at m,
         ← add-mul,
       )
-      (yielded (at * d .unit) (4 * at) (d .unit) k h _ _ (part s at (at + m)) _ (base (at + m)))
+      (yielded (at * d .unit) (4 * at) (d .unit) k h m (part s at (at + m)) (own-length at k h m lt e) _ (base (at + m)))
 
   spans : Telling s (unitsIn d xs) (tailOf d xs) (List Span)
   spans = record {

@@ -49,7 +49,7 @@ group-opens : (l letter h : ℕ) (ys : List ℕ) → isOpaque letter ≡ false �
 unfolding group judge andThen
 group-opens l letter h ys o e = rw (e, o)
 
-group-refused : (l letter h : ℕ) (ys : List ℕ) (q p : ℕ) → ownCheck l letter h ys ≡ Refused q p → group l letter h ys ≡ Refused q p
+pub group-refused : (l letter h : ℕ) (ys : List ℕ) (q p : ℕ) → ownCheck l letter h ys ≡ Refused q p → group l letter h ys ≡ Refused q p
 unfolding group andThen
 group-refused zero letter h ys q p e = e
 group-refused (suc l) letter h ys q p e = rw e

@@ -16,10 +16,10 @@ use Rattle.format.specs.declared.Verdict.{Verdict}
 use Rattle.format.specs.declared.Verdict.the-variants.{Accepted, Refused}
 use Rattle.format.specs.Units.{Domain}
 use Rattle.format.specs.Registry.{isOpaque, isOverrideable}
-use Rattle.format.specs.Framing.{isOurs, sextet}
+use Rattle.format.specs.Framing.{isOurs, sextet, frameRuled}
 use Rattle.format.specs.Cutting.{Cut, cut}
 use Rattle.format.specs.Cutting.Cut.{done, stopped, item}
-use Rattle.format.specs.Judging.{shift, andThen, maxDepth}
+use Rattle.format.specs.Judging.{shift, andThen, isShortest, maxDepth}
 use Rattle.format.specs.Report.{ItemRow, RemainderRow, frameIn, judgeIn, placed}
 use Rattle.damage.specs.Words.{itemAt}
 use Rattle.claims.specs.Words.{Ratio}
@@ -64,7 +64,7 @@ ownOf d xs w n = slice (4 * w .at) (4 * (w .at + n)) (d .sextets xs)
 abbrev pub OtherGenus : Walk → List ℕ → Type 0
 OtherGenus w s = ((w .depth ≡ 0) ⊎ (w .first ≡ true)) × (itemKind s ≡ Genus) × (isOurs (sextet s) ≡ false)
 
--- s: the sextets that are left; "of a group it judges only 11 and, if opaque, 5"
+-- s: the sextets that are left; "of a group it judges only 11 and, if opaque, 5", and 18 by 02 h
 abbrev pub stepRules : Domain → List ℕ → Walk → List Rule
 stepRules d xs w =
     let s : List ℕ = aheadOf d xs w in
@@ -160,9 +160,10 @@ outerItems d xs (suc k) = outerItems d xs k ++ outer (foundAt d xs k)
 abbrev pub spanOf : ItemRow → Span
 spanOf r = record { offset = r .offset; size = r .size }
 
--- "of a group it judges only 11 and, if opaque, 5": a group that is opened is yielded before its contents are judged
+-- "of a group it judges only 11 and, if opaque, 5", and 18 by 02 h: a group that is opened is yielded before its contents are judged, unless it is
+-- itself 18; sizes in units
 unfoldable pub isOpened : Framed → Bool
-isOpened (Item k h n) = opens k
+isOpened (Item k h n) = pick (opens k) (isShortest h (n - h)) false
 isOpened (Unframed n p) = false
 
 -- an item in front of those behind it
@@ -173,7 +174,7 @@ upTo (Refused n p) opened s behind = pick opened (s ∷ []) []
 -- the report's items up to the first that is refused; that one too, if it is a group that is opened
 unfoldable pub upToRefusal : Domain → List ℕ → List ItemRow → List Span
 upToRefusal d xs [] = []
-upToRefusal d xs (r ∷ rs) = upTo (r .verdict) (isOpened (frameIn d (itemAt xs r))) (spanOf r) (upToRefusal d xs rs)
+upToRefusal d xs (r ∷ rs) = upTo (r .verdict) (isOpened (frameRuled (d .sextets (itemAt xs r)))) (spanOf r) (upToRefusal d xs rs)
 
 -- ---- where the walk stops
 

@@ -1,10 +1,10 @@
--- Laws of the walk's definitions that the code's answers cite: slots one by one, closing turn by turn; and that a step over an item
--- gives Walking's next state. Assumes nothing.
+-- Laws of the walk's definitions that the code's answers cite: closing turn by turn, and that a step over an item gives Walking's next
+-- state. Assumes nothing.
 use mathlib.Core.Path.{_≡_, refl, sym, _∙_}
 use mathlib.Core.Bool.{Bool, true, false}
 use mathlib.Core.Logic.{⊎-elim}
 use Prim.Native.Nat.{ℕ, zero, suc, _+_, _-_, _<_, _≤_}
-use native.Mathlib.Numerals.{sub-one, add-one}
+use native.Mathlib.Numerals.{sub-one}
 use native.Mathlib.Omega.{arith}
 use lib.Dec.{ltb, eqb}
 use lib.ListN.{getD, set}
@@ -13,29 +13,8 @@ use Rattle.base.specs.Pick.{pick}
 use Rattle.base.specs.Cases.{lt-or-ge}
 use Rattle.format.specs.Judging.{maxDepth}
 use Rattle.walk_state.specs.declared.Walk.{Walk}
-use Rattle.walk_state.specs.Walking.{allBelow, closed, movedTo, opened}
+use Rattle.walk_state.specs.Walking.{closed, movedTo, opened}
 use Rattle.walk_state.specs.Moving.{finished, entered, stepOver}
-
--- ---- slots
-
-pub all-none : (p : ℕ → Bool) → allBelow p 0 ≡ true
-unfolding allBelow
-all-none p = refl
-
-pub all-more : (p : ℕ → Bool) (k : ℕ) → allBelow p k ≡ true → p k ≡ true → allBelow p (k + 1) ≡ true
-unfolding allBelow
-all-more p k h e = rw add-one (simp (e, h))
-
-pick-same {ℓ} : {X : Type ℓ} (b : Bool) (x : X) → pick b x x ≡ x
-pick-same true x = refl
-pick-same false x = refl
-
--- a number that does not pass the test spoils the whole
-pub all-spoilt : (p : ℕ → Bool) (n k : ℕ) → k < n → p k ≡ false → allBelow p n ≡ false
-unfolding allBelow
-all-spoilt p zero k h e = absurd (omega arith)
-all-spoilt p (suc n) k h e =
-    ⊎-elim (λ l. rw (all-spoilt p n k l e) (pick-same (p n) false)) (λ g. let q : n ≡ k = omega arith in rw (q, e)) (lt-or-ge k n)
 
 -- ---- closing, as the code counts
 

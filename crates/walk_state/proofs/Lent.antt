@@ -1,6 +1,6 @@
 -- The state's laws over slots that are lent, as the code goes: closing turn by turn, entering, and a step made of both. Assumes nothing.
 use mathlib.Core.Path.{_≡_, refl, ap, sym, _∙_}
-use mathlib.Core.Bool.{Bool, true, false, not}
+use mathlib.Core.Bool.{Bool, true, false}
 use mathlib.Core.List.{List}
 use Prim.Native.Nat.{ℕ, _+_, _-_, _<_, _≤_}
 use native.Mathlib.Omega.{arith}
@@ -12,7 +12,7 @@ use Rattle.base.specs.Pick.{pick}
 use Rattle.format.specs.Judging.{maxDepth}
 use Rattle.walk_state.specs.declared.Walk.{Walk}
 use Rattle.walk_state.specs.declared.Place.{Place}
-use Rattle.walk_state.specs.Walking.{allBelow, slotFits, isFit, closed, movedTo}
+use Rattle.walk_state.specs.Walking.{closed, movedTo}
 use Rattle.walk_state.specs.Moving.{finished, entered, stepOver}
 use Rattle.walk_state.specs.Lent.{slotsIn, stateAt, walkAt, Closes, Moves}
 use Rattle.walk_state.proofs.Laws.{closed-step, closed-none}
@@ -22,31 +22,6 @@ slot-at s k h = getD-take maxDepth s k 0 h
 
 put-slot : (s : List ℕ) (k v : ℕ) → k < maxDepth → slotsIn (set s k v) ≡ set (slotsIn s) k v
 put-slot s k v h = take-set-lt maxDepth s k v h
-
--- ---- the tests of 13, in isFit's order
-
-module _ (s : List ℕ) (p : Place) (n : ℕ) where
-  pub fit-many : maxDepth < p .depth → false ≡ isFit (walkAt s p) n
-  unfolding isFit
-  fit-many h = rw (lt-leb _ _ h)
-
-  module _ (few : p .depth ≤ maxDepth) where
-    pub fit-past : n < p .at → false ≡ isFit (walkAt s p) n
-    unfolding isFit
-    fit-past h = rw (le-leb _ _ few, lt-leb _ _ h)
-
-    module _ (there : p .at ≤ n) {b : Bool} (e : b ≡ allBelow (slotFits (slotsIn s) (p .depth) n) maxDepth) where
-      pub fit-slots : b ≡ false → false ≡ isFit (walkAt s p) n
-      unfolding isFit
-      fit-slots h = rw (le-leb _ _ few, le-leb _ _ there, sym e ∙ h)
-
-      pub fit-top : b ≡ true → p .depth ≡ 0 → not (p .first) ≡ isFit (walkAt s p) n
-      unfolding isFit
-      fit-top h z = rw (le-leb _ _ few, le-leb _ _ there, sym e ∙ h, eq-eqb _ _ z)
-
-      pub fit-inner : b ≡ true → ¬ (p .depth ≡ 0) → ltb (p .at) (getD s (p .depth - 1) 0) ≡ isFit (walkAt s p) n
-      unfolding isFit
-      fit-inner h z = rw (le-leb _ _ few, le-leb _ _ there, sym e ∙ h, ne-eqb _ _ z, slot-at s (p .depth - 1) (omega (arith, z)))
 
 -- ---- closing: to close what is left gives what to close all gave
 

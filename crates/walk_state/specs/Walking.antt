@@ -95,7 +95,7 @@ unfoldable pub judged : Walk → Kind → ℕ → ℕ → Verdict → Stepped
 judged w k h n (Refused m p) = record { next = w; found = F.Refused m (4 * w .at + p) }
 judged w k h n Accepted = record { next = nextOf w k h n; found = F.Item (w .at) n (w .depth) k h }
 
--- "of a group it judges only 11 and, if opaque, 5"
+-- "of a group it judges only 11 and, if opaque, 5", and 18 by 02 h
 unfoldable pub framedBy : List ℕ → Walk → Framed → Stepped
 framedBy s w (Unframed m p) = record { next = w; found = F.Refused m (4 * w .at + p) }
 framedBy s w (Item k h n) = judged w k h n (judgeKind k h (slice (4 * w .at) (4 * (w .at + n)) s) (ownCheck (maxDepth - w .depth)))

@@ -1,5 +1,5 @@
 // Writing a single primitive as text or as binary into a lent buffer: 6, 12, 5, 3. A refused call writes nothing, exact room
-// suffices, and bytes behind the item stay. A following item goes into the part of the buffer from the cursor on.
+// suffices, and bytes behind the item stay.
 use format::BinaryOffset;
 use format::BinaryWritten;
 use format::Code;
@@ -8,7 +8,7 @@ use format::TextWritten;
 use writing_plan::Planned;
 ghost use mathlib.Core.Path.{_≡_};
 ghost use mathlib.Core.List.{_++_};
-ghost use Prim.Native.Nat.{_+_, _*_, _≤_, _/_, _%_, min};
+ghost use Prim.Native.Nat.{_+_, _*_, _≤_, _/_, _%_};
 ghost use lib.ListN.{length, take, drop};
 ghost use lib.Seq.{paste};
 ghost use Rattle.format.specs.Conversion.{toText};
@@ -16,7 +16,6 @@ ghost use Rattle.format.specs.Writing.{textOutcome, binaryOutcome, writeText, t
 ghost use Rattle.writing_head.specs.Heads.{Sized};
 ghost use Rattle.writing_plan.specs.Plan.{roomFor};
 ghost use Rattle.writing.specs.Item.{planned, binaryIn, textIn};
-ghost use Rattle.writing.specs.Cursor.{writeTextAt, textLeftAt, writeBinaryAt, binaryLeftAt};
 
 // ---- the buffer: what stands before the raw value, and the raw value
 
@@ -121,56 +120,5 @@ pub fn write_text(code: Code, tag: [u8; 11], tags: usize, raw: &[u8], out: &mut 
             let head = plan.head;
             text_item(n, head, raw, out)
         }
-    }
-}
-
-// ---- a following item: the part of the buffer from the cursor on is lent
-
-// A cursor past the buffer's end leaves no room.
-fn cursor_in(cursor: usize, len: usize) -> usize
-    ensures { λ r. ⌜ r ≡ min cursor len ⌝ }
-{
-    if cursor < len { cursor } else { len }
-}
-
-// A primitive as binary behind what stands before the cursor; the length written is the next cursor.
-pub fn write_binary_at(
-    code: Code,
-    tag: [u8; 11],
-    tags: usize,
-    raw: &[u8],
-    out: &mut [u8],
-    cursor: BinaryOffset,
-) -> BinaryWritten
-    ensures { λ r. ⌜ r ≡ writeBinaryAt code tag tags (now (raw .entry)) (now (out .entry)) (cursor .0) ⌝ }
-    ensures { λ _. ⌜ now (out .exit) ≡ binaryLeftAt code tag tags (now (raw .entry)) (now (out .entry)) (cursor .0) ⌝ }
-{
-    let from = cursor.0;
-    let at = cursor_in(from, out.len());
-    let written = write_binary(code, tag, tags, raw, &mut out[at..]);
-    match written {
-        BinaryWritten::Refused(number, place) => BinaryWritten::Refused(number, place),
-        BinaryWritten::Written(n) => BinaryWritten::Written(BinaryOffset(at + n.0)),
-    }
-}
-
-// A primitive as text behind what stands before the cursor; the length written is the next cursor.
-pub fn write_text_at(
-    code: Code,
-    tag: [u8; 11],
-    tags: usize,
-    raw: &[u8],
-    out: &mut [u8],
-    cursor: TextOffset,
-) -> TextWritten
-    ensures { λ r. ⌜ r ≡ writeTextAt code tag tags (now (raw .entry)) (now (out .entry)) (cursor .0) ⌝ }
-    ensures { λ _. ⌜ now (out .exit) ≡ textLeftAt code tag tags (now (raw .entry)) (now (out .entry)) (cursor .0) ⌝ }
-{
-    let from = cursor.0;
-    let at = cursor_in(from, out.len());
-    let written = write_text(code, tag, tags, raw, &mut out[at..]);
-    match written {
-        TextWritten::Refused(number, place) => TextWritten::Refused(number, place),
-        TextWritten::Written(n) => TextWritten::Written(TextOffset(at + n.0)),
     }
 }

@@ -1,4 +1,4 @@
-// The code that a caller names, whether tag characters and a raw value fit it, and how large its item is: what 6 and 12 ask, and the
+// The code that a caller names, whether tag characters and a raw value fit it, and how large its item is: what 6, 12 and 18 ask, and the
 // count of a header.
 use format::Code;
 use format::CodeRow;
@@ -10,7 +10,7 @@ ghost use Prim.Native.Nat.{_+_, _*_, _<_};
 ghost use Rattle.base.specs.Pick.{pick};
 ghost use Rattle.format.specs.Alphabet.{sextetOf};
 ghost use Rattle.format.specs.Registry.{isType};
-ghost use Rattle.format.specs.Writing.{named, namedFixed, isNamed, isFit, rawSize, rawLimit, leadFor, countFor, unitsOf};
+ghost use Rattle.format.specs.Writing.{named, namedFixed, isNamed, isFit, isShort, rawSize, rawLimit, leadFor, countFor, unitsOf};
 ghost use Rattle.format.specs.Writing.Named.{unknown, variable};
 ghost use Rattle.writing_code.specs.Names.{asNamed};
 
@@ -163,5 +163,20 @@ pub fn units_of(n: Named, raw: usize) -> usize
             wide(size) / 4
         }
         Named::Variable { letter: _, head } => wide(head) + count_for(raw),
+    }
+}
+
+// ---- 18: a large code for a value that the small one holds
+
+pub fn is_short(n: Named, raw: usize) -> bool
+    ensures { λ r. ⌜ r ≡ isShort (asNamed n) raw ⌝ }
+{
+    match n {
+        Named::Unknown => true,
+        Named::Row(_) => true,
+        Named::Variable { letter: _, head } => judging_header::is_shortest(
+            wide(head),
+            count_for(raw),
+        ),
     }
 }

@@ -60,7 +60,7 @@ fn row_head(c: CodeRow, tag: [u8; 11], tags: usize) -> [u8; 12]
     ensures { λ r. ⌜ (Sound c → tags ≡ c .tag → r ≡ rowHead c (take tags tag)) ⌝ }
 {
     let chars = c.chars;
-    let prepad = judging::prepad_of(c);
+    let prepad = judging_header::prepad_of(c);
     let cs = code_head(c, prepad);
     let at = chars as usize + prepad as usize;
     if 11 < tags {

@@ -11,17 +11,19 @@ use lib.ListN.{take}
 use Rattle.base.specs.Pick.{pick}
 use Rattle.base.specs.Cases.{whether}
 use Rattle.format.specs.Conversion.{firstStranger}
-use Rattle.format.specs.Writing.{Named, isNamed, isFit, unitsOf, Writing, writing}
+use Rattle.format.specs.Writing.{Named, isNamed, isFit, isShort, unitsOf, Writing, writing}
 use Rattle.format.specs.Writing.Writing.{refused}
 use Rattle.writing_plan.specs.Plan.{refusal, refusalOf, roomFor}
 
-by-tests : (a b d : Bool) (i : ℕ) (w : Writing) →
-    let r = pick a (pick b (pick d (refusal 5 i) (refusal 0 0)) (refusal 12 0)) (refusal 6 0) in
-    pick a (pick b (pick d (refused 5 i) w) (refused 12 0)) (refused 6 0) ≡ pick (eqb (r .number) 0) w (refused (r .number) (r .place))
-by-tests false b d i w = refl
-by-tests true false d i w = refl
-by-tests true true true i w = refl
-by-tests true true false i w = refl
+by-tests : (a b c d : Bool) (i : ℕ) (w : Writing) →
+    let r = pick a (pick b (pick c (pick d (refusal 5 i) (refusal 0 0)) (refusal 18 0)) (refusal 12 0)) (refusal 6 0) in
+    pick a (pick b (pick c (pick d (refused 5 i) w) (refused 18 0)) (refused 12 0)) (refused 6 0)
+    ≡ pick (eqb (r .number) 0) w (refused (r .number) (r .place))
+by-tests false b c d i w = refl
+by-tests true false c d i w = refl
+by-tests true true false d i w = refl
+by-tests true true true true i w = refl
+by-tests true true true false i w = refl
 
 module _ (n : Named) (tag : List ℕ) (tags raw : ℕ) where
   -- ---- case by case
@@ -35,14 +37,19 @@ module _ (n : Named) (tag : List ℕ) (tags raw : ℕ) where
     unfolding refusalOf
     is-unfit b = rw (a, b)
 
-    module _ (b : isFit n tags raw ≡ true) (i : ℕ) (e : i ≡ firstStranger (take tags tag)) where
-      pub is-strange : i < tags → refusal 5 i ≡ refusalOf n tag tags raw
+    module _ (b : isFit n tags raw ≡ true) where
+      pub is-long : isShort n raw ≡ false → refusal 18 0 ≡ refusalOf n tag tags raw
       unfolding refusalOf
-      is-strange h = rw (a, b, ← e, lt-ltb i tags h)
+      is-long c = rw (a, b, c)
 
-      pub is-none : tags ≤ i → refusal 0 0 ≡ refusalOf n tag tags raw
-      unfolding refusalOf
-      is-none h = rw (a, b, ← e, le-ltb i tags h)
+      module _ (c : isShort n raw ≡ true) (i : ℕ) (e : i ≡ firstStranger (take tags tag)) where
+        pub is-strange : i < tags → refusal 5 i ≡ refusalOf n tag tags raw
+        unfolding refusalOf
+        is-strange h = rw (a, b, c, ← e, lt-ltb i tags h)
+
+        pub is-none : tags ≤ i → refusal 0 0 ≡ refusalOf n tag tags raw
+        unfolding refusalOf
+        is-none h = rw (a, b, c, ← e, le-ltb i tags h)
 
   -- ---- what there is to write
 
@@ -58,4 +65,4 @@ module _ (n : Named) (tag : List ℕ) (tags raw : ℕ) where
       ≡ pick (eqb (refusalOf n tag tags raw .number) 0) (roomFor u (unitsOf n raw) room)
       (refused (refusalOf n tag tags raw .number) (refusalOf n tag tags raw .place))
   unfolding writing refusalOf
-  by-refusal u room = by-tests (isNamed n) (isFit n tags raw) (ltb (firstStranger (take tags tag)) tags) (firstStranger (take tags tag)) _
+  by-refusal u room = by-tests (isNamed n) (isFit n tags raw) (isShort n raw) (ltb (firstStranger (take tags tag)) tags) (firstStranger (take tags tag)) _

@@ -14,13 +14,15 @@ use Rattle.writing_plan.specs.declared.Plan.{Plan}
 abbrev pub refusal : ℕ → ℕ → Refusal
 refusal m p = record { number = m; place = p }
 
--- in this order 6, 12, 5; number 0 for none
+-- in this order 6, 12, 18, 5; number 0 for none
 unfoldable pub refusalOf : F.Named → List ℕ → ℕ → ℕ → Refusal
 refusalOf n tag tags raw =
     pick (F.isNamed n)
     (pick (F.isFit n tags raw)
+    (pick (F.isShort n raw)
     (pick (ltb (firstStranger (take tags tag)) tags) (refusal 5 (firstStranger (take tags tag)))
     (refusal 0 0))
+    (refusal 18 0))
     (refusal 12 0))
     (refusal 6 0)
 

@@ -37,7 +37,7 @@ fn tag_stranger(tag: [u8; 11], tags: usize) -> usize
     alphabet::first_stranger(&tag[..tags])
 }
 
-// Why nothing is written, in this order: 6, 12, 5.
+// Why nothing is written, in this order: 6, 12, 18, 5.
 fn refusal_of(n: Named, tag: [u8; 11], tags: usize, raw: usize) -> Refusal
     ensures { λ r. ⌜ r ≡ refusalOf (asNamed n) tag tags raw ⌝ }
 {
@@ -50,6 +50,12 @@ fn refusal_of(n: Named, tag: [u8; 11], tags: usize, raw: usize) -> Refusal
     if !writing_code::is_fit(n, tags, raw) {
         return Refusal {
             number: 12,
+            place: 0,
+        };
+    }
+    if !writing_code::is_short(n, raw) {
+        return Refusal {
+            number: 18,
             place: 0,
         };
     }

@@ -18,10 +18,14 @@ pub enum Class {
     /// A variable code with one or two lead bytes.
     Lead1,
     Lead2,
-    /// A group; one with a first-item mark; one not to be looked into.
+    /// A large variable code whose count fits the small one.
+    NotShort,
+    /// A group; one with a first-item mark; one not to be looked into; a large
+    /// one whose count fits the small code.
     Group,
     Override,
     Opaque,
+    NotShortGroup,
     /// A genus/version: the one that is read, and any other.
     Genus,
     OtherGenus,
@@ -58,14 +62,16 @@ impl Class {
     }
 }
 
-static CHECKS: [Check; 13] = checks();
+static CHECKS: [Check; CLASSES] = checks();
 
-const fn checks() -> [Check; 13] {
+const CLASSES: usize = Class::OtherGenus as usize + 1;
+
+const fn checks() -> [Check; CLASSES] {
     let mut checks = [Check {
         mask: 0,
         want: 0,
         number: 0,
-    }; 13];
+    }; CLASSES];
     checks[Class::NotZero as usize] = Check {
         mask: 0,
         want: 1,
@@ -80,6 +86,11 @@ const fn checks() -> [Check; 13] {
         mask: 0xFC0,
         want: 0xFC0,
         number: 10,
+    };
+    checks[Class::NotShort as usize] = Check {
+        mask: 0,
+        want: 1,
+        number: 18,
     };
     checks
 }
@@ -209,6 +220,9 @@ pub const fn group(letter: usize) -> Class {
         _ => Class::Group,
     }
 }
+
+/// The least count that a large code is for: two digits count up to 4,095.
+pub const LEAST_LARGE: usize = 4096;
 
 /// The first two sextets of the codes that need more of the header.
 pub const ONE_A: u16 = 53 << 6;

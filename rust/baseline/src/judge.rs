@@ -123,13 +123,20 @@ fn more<U: Unit, const CAREFUL: bool>(
         },
         codes::SEVEN_A | codes::EIGHT_A | codes::NINE_A if third == 0 && codes::is_type(fourth) => {
             let count = second_unit::<U, CAREFUL>(left, clean)? as usize;
-            let class = codes::lead(usize::from(code - codes::SEVEN_A) >> 6);
+            let class = match count {
+                codes::LEAST_LARGE.. => codes::lead(usize::from(code - codes::SEVEN_A) >> 6),
+                _ => Class::NotShort,
+            };
             two_unit_header(left.len(), count, class, low)
         }
         codes::LARGE_GROUP if third <= codes::LAST_GROUP => {
             let digits = second_unit::<U, CAREFUL>(left, clean)? as usize;
             let count = fourth << 24 | digits;
-            two_unit_header(left.len(), count, codes::group(third), low)
+            let class = match count {
+                codes::LEAST_LARGE.. => codes::group(third),
+                _ => Class::NotShortGroup,
+            };
+            two_unit_header(left.len(), count, class, low)
         }
         codes::GENUS => {
             let second = second_unit::<U, CAREFUL>(left, clean)?;
@@ -169,7 +176,7 @@ fn two_unit_header(left: usize, count: usize, class: Class, low: u16) -> Result<
     })
 }
 
-/// Judges a framed primitive or genus/version without strangers: 0, 9, 8, 10.
+/// Judges a framed primitive or genus/version without strangers: 0, 18, 9, 8, 10.
 #[inline(always)]
 pub fn primitive<U: Unit>(item: &[U], framed: &Frame) -> u8 {
     let check = framed.class.check();
@@ -266,7 +273,7 @@ fn descend<U: Unit>(left: &[U], depth: usize, first: &mut bool) -> usize {
 }
 
 /// Frames and judges the item that starts `left`; of a group that is opened
-/// the framing and 11.
+/// the framing, 11 and 18.
 #[inline(always)]
 fn item<U: Unit, const CAREFUL: bool>(
     unit: U,
@@ -289,8 +296,11 @@ fn item<U: Unit, const CAREFUL: bool>(
         };
     }
     let item = extent::<U, CAREFUL>(left, clean, code, low)?;
-    if item.class >= Class::Group && depth >= MOST_GROUPS && item.class <= Class::Opaque {
+    if item.class >= Class::Group && depth >= MOST_GROUPS && item.class <= Class::NotShortGroup {
         return Err(11);
+    }
+    if item.class == Class::NotShortGroup {
+        return Err(18);
     }
     if item.class.opens() {
         return Ok(item);

@@ -1,7 +1,7 @@
 //! An ordinary fast judge of CESR streams, as a good Rust programmer would
 //! write it: the mark that the proved judge is measured against.
 //!
-//! It follows the same papers (003, 01, docs/DECISIONS.md) and uses what
+//! It follows the same papers (003, 01, 02, docs/DECISIONS.md) and uses what
 //! ordinary safe Rust offers: tables, the heap, loops that the compiler turns
 //! into vector code. Nothing in it is proved; its tests compare it with
 //! `oracle`.

@@ -241,7 +241,11 @@ fn judge<'s, U: Unit, const CAREFUL: bool>(
         let first = item.class == Class::Override;
         return contents::<U, CAREFUL>(body, at + item.header, bad, first, open);
     }
-    let number = if CAREFUL { 5 } else { primitive(whole, item) };
+    let number = match item.class {
+        Class::NotShortGroup => 18,
+        _ if CAREFUL => 5,
+        _ => primitive(whole, item),
+    };
     match number {
         0 => Ok(()),
         _ => Err(Refused { number, place: at }),

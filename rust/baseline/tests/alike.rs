@@ -7,7 +7,9 @@ use common::{assert_alike, assert_alike_in_both};
 use oracle::Form as Judge;
 use streams::damage::{damage, OPERATORS};
 use streams::form::FORMS;
-use streams::generate::{any_deck, every_code, nested};
+use streams::generate::{
+    any_deck, every_code, large_code, long_item, nested, not_short_deck, LARGE_CODES,
+};
 use streams::item::stream;
 use streams::noise::noise;
 use streams::table::{GROUPS, HEADS};
@@ -16,7 +18,7 @@ use streams::{Form, Item, Random};
 /// 01, "The deck we check by" and "Errors we have seen shipped", and the
 /// streams of docs/DECISIONS.md.
 #[rustfmt::skip]
-const DECK: [&str; 62] = [
+const DECK: [&str; 69] = [
     "", "MAAB", "MP__", "MQAA", "0HD_____", "0HEAAAAA", "VABh", "WGhp", "1AAM", "4BAA", "5BAA",
     "5BABAGhp", "6BABAABh", "5BABAPAA", "5BABAQAA", "0J_A", "0JAA", "-0AA", "-AAA", "-AABMAAB",
     "-AACMAAB", "-AAC-_AAABAA", "-JAC-_AAABAA", "-AAB0AAAMAAB", "--AAABAA",
@@ -27,6 +29,8 @@ const DECK: [&str; 62] = [
     "-AADMAAB-_AAABAA", "-AAD-AAA-_AAABAA", "-AAD-CAC-_AAABAA", "-AAD-KAA-_AAABAA",
     "--AAAAAC-_AAABAA", "0HEAA!AA", "VQAA", "VBAA", "VAEA", "X___", "-HAB_AAA", "-KAB_A!A",
     "-LAB____", "8AABAAAA", "9AABAAABAAEA", "-AABMAABMAAB!", "--KAAAAB_AA!",
+    "--AAAAAA", "7AABAAAA", "9AABAAABAABh", "9AABAAAB!ABh", "-AAC--JAAAAAMAAB", "-AADMQAA--JAAAAA",
+    "-JAD8AAHAAABAAAA",
 ];
 
 #[test]
@@ -73,6 +77,68 @@ fn on_every_head() {
             assert_alike_in_both(&[b"-AAB", &text[..]].concat(), "head in a group");
             assert_alike_in_both(&[b"--JAAAAE", &text[..]].concat(), "head in a group");
         }
+    }
+}
+
+/// Large codes on both sides of what a small one counts, with strangers in
+/// header and value, a lead byte that is not zero, and groups around them.
+#[test]
+fn on_large_codes() {
+    let mut random = Random::new(0x1A26E);
+    for index in 0..LARGE_CODES {
+        for units in [0, 1, 2, 4094, 4095, 4096, 4097] {
+            let item = large_code(&mut random, index, units);
+            let text = stream(std::slice::from_ref(&item));
+            assert_alike_in_both(&text, "large");
+            for (place, character) in [(8, b'Q'), (10, b'Q'), (2, b'='), (5, b'!'), (11, b'+')] {
+                let mut changed = text.clone();
+                if let Some(there) = changed.get_mut(place) {
+                    *there = character;
+                    assert_alike(&changed, Form::Text, "changed");
+                    if character == b'Q' {
+                        assert_alike_in_both(&changed, "changed");
+                    }
+                }
+            }
+            let depths: &[usize] = if units < 3 {
+                &[1, 2, 63, 64, 65]
+            } else {
+                &[1, 64]
+            };
+            for &depth in depths {
+                let text = stream(&nested(b"JA", depth, vec![item.clone()]));
+                assert_alike_in_both(&text, "within");
+            }
+        }
+    }
+}
+
+#[test]
+fn on_large_codes_for_few_units() {
+    let mut random = Random::new(0x0018);
+    for round in 0..8000 {
+        for form in FORMS {
+            let mut stream = form.of_text(&stream(&not_short_deck(&mut random)));
+            if round % 2 == 1 {
+                damage(&mut random, form, &mut stream);
+            }
+            assert_alike(&stream, form, "not short");
+        }
+    }
+}
+
+#[test]
+fn on_long_items() {
+    let mut random = Random::new(0x4096);
+    for _ in 0..300 {
+        let item = long_item(&mut random);
+        let text = stream(std::slice::from_ref(&item));
+        assert_alike_in_both(&text, "long");
+        let report = baseline::report(&text, baseline::Form::Text).unwrap();
+        assert_eq!(report.len(), 12 + 9, "accepted");
+        let mut changed = text;
+        damage(&mut random, Form::Text, &mut changed);
+        assert_alike(&changed, Form::Text, "long and damaged");
     }
 }
 
@@ -135,7 +201,8 @@ fn on_noise() {
 
 #[test]
 fn the_streams_meet_every_number() {
-    // D44: a verdict is 4 to 11, a remainder's number 4 to 7; 5 in text only.
+    // D44: a verdict is 4 to 11 or 18, a remainder's number 4 to 7; 5 in text
+    // only.
     let mut random = Random::new(0xA11);
     for (form, judge) in [(Form::Text, Judge::Text), (Form::Binary, Judge::Binary)] {
         let (mut verdicts, mut remainders) = ([0; 256], [0; 256]);
@@ -149,7 +216,7 @@ fn the_streams_meet_every_number() {
             rest.into_iter()
                 .for_each(|n| remainders[usize::from(n)] += 1);
         }
-        for number in 4..12 {
+        for number in (4..12).chain([18]) {
             let possible = number != 5 || form == Form::Text;
             assert_eq!(verdicts[number] > 0, possible, "{form:?} verdict {number}");
             let possible = possible && number < 8;

@@ -17,22 +17,22 @@ pub enum Code {
         /// Its last character.
         letter: u8,
     },
-    /// A small variable, of selector `4`, `5` or `6`.
+    /// A small variable, of selector `4`, `5` or `6`: up to 12,285 raw bytes.
     Small {
         /// Its type.
         letter: u8,
     },
-    /// A large variable, of selector `7`, `8` or `9`.
+    /// A large variable, of selector `7`, `8` or `9`: from 12,286 raw bytes on.
     Large {
         /// Its type.
         letter: u8,
     },
-    /// A small group, `-A`.
+    /// A small group, `-A`: up to 4,095 units.
     SmallGroup {
         /// The group's letter.
         letter: u8,
     },
-    /// A large group, `--A`.
+    /// A large group, `--A`: from 4,096 units on.
     LargeGroup {
         /// The group's letter.
         letter: u8,

@@ -13,6 +13,7 @@
 //! | convert a stream | [`to_binary`], [`to_text`] and their `_into` forms |
 //! | read one primitive | [`read`], [`read_text_into`], [`read_binary`] |
 //! | write one primitive | [`write()`], [`write_into`] |
+//! | write a value by its type alone | [`write_variable`], [`write_variable_into`] |
 //! | go through all depths | [`Walk`], an iterator |
 //! | look at one item of any kind | [`item_at`] |
 //!
@@ -72,7 +73,10 @@ pub use code::{Code, Head, ParseCodeError};
 pub use convert::{to_binary, to_binary_into, to_text, to_text_into};
 pub use form::{Form, ParseFormError};
 pub use opaque::{opaque, Opaque};
-pub use primitive::{read, read_binary, read_text_into, write, write_into, Primitive, Tag};
+pub use primitive::{
+    read, read_binary, read_text_into, write, write_into, write_variable, write_variable_into,
+    Primitive, Tag,
+};
 pub use proved::{STATE, STATE_POSITION};
 pub use refusal::{Number, Refusal};
 pub use report::{

@@ -163,8 +163,10 @@ fn told(form: Form, characters: [u8; MOST_TAGS], info: proved::Info, raw: &[u8])
 }
 
 /// Writes a primitive: refused 6 for a code that is no primitive's, 12 for a
-/// raw length or number of tag characters unfit for the code, 5 for a tag
-/// character, its place the index among them.
+/// raw length or number of tag characters unfit for the code, 18 for a large
+/// code where the small one holds the raw value, 5 for a tag character, its
+/// place the index among them. For variables [`write_variable`] takes the code
+/// that fits.
 ///
 /// ```
 /// use cesr::{write, Code, Form, Number};
@@ -175,8 +177,7 @@ fn told(form: Form, characters: [u8; MOST_TAGS], info: proved::Info, raw: &[u8])
 /// # Ok::<(), Box<dyn std::error::Error>>(())
 /// ```
 pub fn write(form: Form, code: Code, tag: &[u8], raw: &[u8]) -> Result<Vec<u8>, Refusal> {
-    let units = Form::Binary.units(raw.len()).saturating_add(UNITS_BESIDE);
-    let mut out = vec![0; form.room(units)];
+    let mut out = vec![0; room(form, raw)];
     let length = write_into(form, code, tag, raw, &mut out)?;
     out.truncate(length);
     Ok(out)
@@ -206,4 +207,66 @@ pub fn write_into(
         Form::Binary => proved::write_binary(&item, out),
     };
     Ok(length?)
+}
+
+/// Writes a variable value of a type with the one code that holds it: the
+/// small one, or the large one where it does not fit there. Refused 6 for a
+/// letter that is no type, 12 beyond 3,145,722 raw bytes.
+///
+/// ```
+/// use cesr::{read, write_variable, Form, Number};
+/// assert_eq!(write_variable(Form::Text, b'B', b"hi")?, b"5BABAGhp");
+/// assert_eq!(write_variable(Form::Binary, b'B', b"hi")?, b"\xE4\x10\x01\0hi");
+///
+/// // 12,285 bytes are the most that a small code holds.
+/// let raw = [7; 12_286];
+/// assert!(write_variable(Form::Text, b'B', &raw[1..])?.starts_with(b"4B__"));
+/// let large = write_variable(Form::Text, b'B', &raw)?;
+/// assert!(large.starts_with(b"9AABABAA"));
+/// assert_eq!(&*read(Form::Text, &large, 0)?.raw, &raw);
+///
+/// let refusal = write_variable(Form::Text, b'G', b"hi").unwrap_err();
+/// assert_eq!(refusal.number, Number::UNKNOWN_CODE);
+/// # Ok::<(), cesr::Refusal>(())
+/// ```
+pub fn write_variable(form: Form, letter: u8, raw: &[u8]) -> Result<Vec<u8>, Refusal> {
+    let mut out = vec![0; room(form, raw)];
+    let length = write_variable_into(form, letter, raw, &mut out)?;
+    out.truncate(length);
+    Ok(out)
+}
+
+/// Writes a variable value at the start of `out`: refused as
+/// [`write_variable`], then 3 if the room is below the item's size, else the
+/// length written. Refused, `out` stays as it was.
+///
+/// ```
+/// use cesr::{write_variable_into, Form, Number};
+/// let mut out = [0; 20];
+/// let first = write_variable_into(Form::Text, b'B', b"hi", &mut out)?;
+/// let second = write_variable_into(Form::Text, b'B', b"a", &mut out[first..])?;
+/// assert_eq!(&out[..first + second], b"5BABAGhp6BABAABh");
+/// let refusal = write_variable_into(Form::Text, b'B', b"hi", &mut out[16..]).unwrap_err();
+/// assert_eq!(refusal.number, Number::ROOM);
+/// # Ok::<(), cesr::Refusal>(())
+/// ```
+pub fn write_variable_into(
+    form: Form,
+    letter: u8,
+    raw: &[u8],
+    out: &mut [u8],
+) -> Result<usize, Refusal> {
+    // The library says what a small code does not hold.
+    match write_into(form, Code::small(letter), b"", raw, out) {
+        Err(refusal) if refusal.number == Number::UNFIT_LENGTH => {
+            write_into(form, Code::large(letter), b"", raw, out)
+        }
+        answer => answer,
+    }
+}
+
+/// Room for an item with this raw value, whatever its code.
+fn room(form: Form, raw: &[u8]) -> usize {
+    let units = Form::Binary.units(raw.len());
+    form.room(units.saturating_add(UNITS_BESIDE))
 }

@@ -2,7 +2,7 @@
 
 use std::fmt;
 
-/// Why something was refused, as a number from 1 to 14.
+/// Why something was refused, as a number: 1 to 14, or 18.
 ///
 /// ```
 /// use cesr::Number;
@@ -44,18 +44,20 @@ impl Number {
     pub const UNFIT_STATE: Number = Number(13);
     /// Primitive asked for, group or genus/version found.
     pub const NOT_A_PRIMITIVE: Number = Number(14);
+    /// Large variable code or large group whose size fits the small code.
+    pub const NOT_SHORT: Number = Number(18);
 
-    /// The number with this value; none outside 1 to 14.
+    /// The number with this value; none for a value that is no number.
     pub const fn new(value: u8) -> Option<Number> {
         match value {
-            1..=14 => Some(Number(value)),
+            1..=14 | 18 => Some(Number(value)),
             _ => None,
         }
     }
 
-    /// All numbers, from 1 to 14.
+    /// All numbers, in order.
     pub fn all() -> impl Iterator<Item = Number> {
-        (1..=14).map(Number)
+        (0..=u8::MAX).filter_map(Number::new)
     }
 
     /// As the library answered it.
@@ -68,7 +70,7 @@ impl Number {
         self.0
     }
 
-    /// What the number means, in the words of the paper on scope.
+    /// What the number means, in the words of the papers.
     pub const fn words(self) -> &'static str {
         match self.0 {
             1 => "stream longer than 4,194,304 characters or 3,145,728 bytes",
@@ -85,7 +87,8 @@ impl Number {
             12 => "writer: raw length or tag length unfit for the code",
             13 => "walk state unfit for the stream",
             14 => "primitive asked for, group or genus/version found",
-            _ => "a number that the paper on scope does not have",
+            18 => "large variable code or large group whose size fits the small code",
+            _ => "a number that the papers do not have",
         }
     }
 }
@@ -99,7 +102,7 @@ impl fmt::Display for Number {
 /// A refusal: its number, and the place in characters or bytes.
 ///
 /// The place is the character for 5, else the item's start; 0 for 1, 2, 3, 12,
-/// 13 and for a writer's 6, and for a writer's 5 the index among the tag
+/// 13 and for a writer's 6 and 18, and for a writer's 5 the index among the tag
 /// characters.
 #[derive(Clone, Copy, Debug, PartialEq, Eq, Hash)]
 pub struct Refusal {

@@ -147,8 +147,9 @@ impl Step {
 
 /// The item of any kind at an offset, as it would stand within one group that
 /// ends with the stream: a primitive is framed and judged, a group is framed
-/// and its contents are not looked at (those of an opaque one are), and a
-/// genus/version of any version is an item. Its depth is then 1.
+/// and judged by its code (18), its contents are not looked at (those of an
+/// opaque one are), and a genus/version of any version is an item. Its depth
+/// is then 1.
 ///
 /// ```
 /// use cesr::{item_at, Form, Number};

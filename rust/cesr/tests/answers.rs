@@ -4,7 +4,8 @@
 
 use cesr::{
     item_at, judge, judge_into, opaque, read, read_text_into, to_binary, to_binary_into, to_text,
-    to_text_into, write, write_into, Code, Form, Number, Report, State, Verdict, Walk, STATE,
+    to_text_into, write, write_into, write_variable, write_variable_into, Code, Form, Number,
+    Report, State, Verdict, Walk, STATE,
 };
 use streams::generate::any_deck;
 use streams::item::stream;
@@ -140,6 +141,9 @@ fn walks_reads_and_writes_agree() {
             let tag = primitive.tag.as_bytes();
             let written = write(form, step.head.code, tag, &primitive.raw).unwrap();
             assert_eq!(written, &stream[step.offset..step.offset + step.size]);
+            if let Code::Small { letter } | Code::Large { letter } = step.head.code {
+                assert_eq!(write_variable(form, letter, &primitive.raw), Ok(written));
+            }
         }
     });
 }
@@ -282,15 +286,68 @@ fn what_a_writer_refuses() {
 /// Values of the largest size come through `read` and `write` whole.
 #[test]
 fn the_longest_values_are_read_and_written() {
-    for length in [12_285, 12_286, 3_145_722] {
+    for (code, length) in [
+        (Code::small(b'B'), 12_285),
+        (Code::large(b'B'), 12_286),
+        (Code::large(b'B'), 3_145_722),
+    ] {
         let raw = Random::new(7).bytes(length);
         for form in [Form::Text, Form::Binary] {
-            let item = write(form, cesr::Code::large(b'B'), b"", &raw).unwrap();
+            let item = write(form, code, b"", &raw).unwrap();
             assert_eq!(&*read(form, &item, 0).unwrap().raw, &raw[..]);
+            assert_eq!(write_variable(form, b'B', &raw), Ok(item));
         }
     }
     let refusal = write(Form::Text, cesr::Code::small(b'B'), b"", &[0; 12_286]).unwrap_err();
     assert_eq!(refusal.number, Number::UNFIT_LENGTH);
+    let refusal = write(Form::Text, cesr::Code::large(b'B'), b"", &[0; 12_285]).unwrap_err();
+    assert_eq!((refusal.number, refusal.place), (Number::NOT_SHORT, 0));
+}
+
+/// By the type alone: each value has one code, of the two that name its type
+/// the other is refused, and what is refused leaves the buffer.
+#[test]
+fn a_value_has_one_code() {
+    let raw = Random::new(9).bytes(12_300);
+    for letter in *b"ABCDEFH" {
+        for length in (0..40).chain(12_280..12_300) {
+            for form in [Form::Text, Form::Binary] {
+                let raw = &raw[..length];
+                let item = write_variable(form, letter, raw).unwrap();
+                let found = read(form, &item, 0).unwrap();
+                let large = length > 12_285;
+                let [code, other] = [large, !large].map(|large| match large {
+                    true => Code::large(letter),
+                    false => Code::small(letter),
+                });
+                assert_eq!((found.head.code, &*found.raw), (code, raw));
+                let number = if large {
+                    Number::UNFIT_LENGTH
+                } else {
+                    Number::NOT_SHORT
+                };
+                let refusal = write(form, other, b"", raw).unwrap_err();
+                assert_eq!((refusal.number, refusal.place), (number, 0));
+                let mut out = vec![0xAA; item.len()];
+                let refusal = write_variable_into(form, letter, raw, &mut out[1..]).unwrap_err();
+                assert_eq!((refusal.number, refusal.place), (Number::ROOM, 0));
+                assert!(out.iter().all(|byte| *byte == 0xAA));
+                let length = write_variable_into(form, letter, raw, &mut out).unwrap();
+                assert_eq!((length, &out), (item.len(), &item));
+            }
+        }
+    }
+    for (letter, length, number) in [
+        (b'G', 0, Number::UNKNOWN_CODE),
+        (b'G', 3_145_723, Number::UNKNOWN_CODE),
+        (0, 12_286, Number::UNKNOWN_CODE),
+        (b'B', 3_145_723, Number::UNFIT_LENGTH),
+    ] {
+        for form in [Form::Text, Form::Binary] {
+            let refusal = write_variable(form, letter, &vec![0; length]).unwrap_err();
+            assert_eq!((refusal.number, refusal.place), (number, 0));
+        }
+    }
 }
 
 /// 01: `-K` and `-L` are opaque, and no other group. Counted here by the letter

@@ -10,9 +10,13 @@ fn is_written(code: Code) -> bool {
     write(Form::Text, code, b"", b"").map_err(|refusal| refusal.number) != Err(Number::UNKNOWN_CODE)
 }
 
-/// An empty group of this letter is an item or it is refused.
+/// An empty group of this letter is an item, and a large one is refused for
+/// being that alone, or the code is unknown.
 fn is_walked(header: &[u8]) -> bool {
-    matches!(Walk::new(Form::Text, header).next(), Some(Ok(_)))
+    match Walk::new(Form::Text, header).next() {
+        Some(Err(refusal)) => refusal.number == Number::NOT_SHORT,
+        step => step.is_some(),
+    }
 }
 
 #[test]

@@ -91,6 +91,11 @@ const WORDS: &[(Number, &str, &str)] = &[
         "A group stands where a single value is asked for.",
         "the offset of a group: its items stand behind its header",
     ),
+    (
+        Number::NOT_SHORT,
+        "A large code stands where the small one has room.",
+        "a writer that takes the large code for every size",
+    ),
 ];
 
 #[cfg(test)]

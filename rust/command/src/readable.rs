@@ -8,7 +8,9 @@ use crate::outcome::{code_and_name, Found, Outcome};
 use crate::standing::Standing;
 use crate::terminal::Paint;
 use crate::words::{counted, measured};
-use cesr::{Form, Item, Number, Opaque, Refusal, RefusalRow, Remainder, Report, Verdict};
+use cesr::{
+    Code, Form, Head, Item, Number, Opaque, Refusal, RefusalRow, Remainder, Report, Verdict,
+};
 use std::io::{self, Write};
 use std::ops::Range;
 
@@ -235,11 +237,32 @@ pub fn note(input: &Input, number: Number, place: usize) -> Option<String> {
                 "the byte at {place} is {byte:02X} hexadecimal{kind}"
             ))
         }
+        (Number::NOT_SHORT, form) => {
+            let short = short_header(form, input.bytes.get(place..)?)?;
+            Some(format!("the small code's header is {short}"))
+        }
         (Number::PAST_END | Number::NOT_WHOLE_UNITS, Form::Text) if ends_line && last => {
             Some("the stream ends with a line feed, which is no character of it".to_string())
         }
         _ => None,
     }
+}
+
+/// The header that a large one stands for: the small code, and the last two
+/// digits, which the others are zeros before.
+fn short_header(form: Form, item: &[u8]) -> Option<String> {
+    let head = Head::of(form, item)?;
+    let code = match head.code {
+        Code::Large { letter } => Code::Small { letter },
+        Code::LargeGroup { letter } => Code::SmallGroup { letter },
+        _ => return None,
+    };
+    let header = match form {
+        Form::Text => item.get(..8)?.to_vec(),
+        Form::Binary => cesr::to_text(item.get(..6)?).ok()?,
+    };
+    let digits = header.get(6..)?.escape_ascii();
+    Some(format!("{}{digits}", Head { code, ..head }))
 }
 
 /// Strangers that are often met.

@@ -95,9 +95,9 @@ fn numbers() -> Vec<[String; 4]> {
 }
 
 #[test]
-fn every_number_has_01s_words_and_an_example() {
+fn every_number_has_its_words_and_an_example() {
     let rows = numbers();
-    assert_eq!(rows.len(), 14);
+    assert_eq!(rows.len(), cesr::Number::all().count());
     for (number, [shown, words, example, told]) in cesr::Number::all().zip(rows) {
         assert_eq!(shown, number.to_string());
         assert_eq!(words, number.words());

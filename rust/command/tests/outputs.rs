@@ -205,13 +205,12 @@ fn without_memory_every_stream_has_its_line() {
 }
 
 /// 01: `-K` and `-L` hold any units in the alphabet; `_AAA` is no code. How
-/// many such groups an accepted item holds, and how much is in them. The large
-/// `--L` has one unit, an empty group hides nothing, and of what is refused
-/// nothing is accepted.
+/// many such groups an accepted item holds, and how much is in them. An empty
+/// group hides nothing, and of what is refused nothing is accepted.
 const OPAQUE: [(&[u8], usize, &str); 4] = [
     (b"-KAB_AAAMAAB", 1, "1 opaque group with 4 characters"),
     (
-        b"-AAH-KAC_AAA_AAA--LAAAAB_AAA-KAA",
+        b"-AAG-KAC_AAA_AAA-LAB_AAA-KAA",
         2,
         "2 opaque groups with 12 characters",
     ),
@@ -234,6 +233,47 @@ fn what_was_not_looked_into_is_said() {
         let end = format!("; {said} not looked into\n");
         assert_eq!(ran.text().contains(&end), groups > 0, "{}", ran.text());
     }
+}
+
+/// The large `--L` has 4,096 units behind a header of two.
+#[test]
+fn a_large_opaque_group_is_counted_whole() {
+    let mut stream = b"--LAABAA".to_vec();
+    stream.extend(b"_AAA".repeat(4096));
+    let ran = fed(&["judge"], &stream);
+    let said = "        1 opaque group with 16384 characters not looked into\n";
+    assert!(ran.text().contains(said), "{}", ran.text());
+}
+
+/// 02 h: what is refused for its large code has a small one, which is told in
+/// both forms.
+#[test]
+fn the_small_code_is_told() {
+    for (stream, short) in [
+        ("--JAAAABMAAB", "-JAB"),
+        ("-AAC--cAAAAA", "-cAA"),
+        ("7AABAAAA", "4BAA"),
+        ("-AAD9AAHAAABAABh", "6HAB"),
+    ] {
+        let said = format!("        the small code's header is {short}\n");
+        let ran = fed(&["judge", "--form=text"], stream.as_bytes());
+        assert!(ran.text().contains(&said), "{}", ran.text());
+        let binary = fed(&["convert", "--to", "binary"], stream.as_bytes()).out;
+        let ran = fed(&["judge", "--form=binary"], &binary);
+        assert!(ran.text().contains(&said), "{}", ran.text());
+    }
+    let ran = fed(&["show", "4", "--form", "text"], b"-AAD8AAHAAABAAAA");
+    let told = "stream   standard input: text
+offset   4
+code     8AAH
+name     Decimal number string
+verdict  refused 18 at 4, large variable code or large group whose size fits the small code
+       4  8AAHAAABAAAA
+          ^
+        the small code's header is 5HAB
+        usually a writer that takes the large code for every size
+";
+    assert_eq!((ran.status, ran.text().as_str()), (1, told));
 }
 
 /// So where one item is shown.

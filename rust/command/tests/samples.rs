@@ -27,6 +27,11 @@ fn one_stream_in_full() {
     compare(&["judge", "samples/clean.cesr"], 0, "clean.txt");
     compare(&["judge", "samples/cut.cesr"], 1, "cut.txt");
     compare(&["judge", "samples/faults.cesr"], 1, "faults.txt");
+    compare(
+        &["judge", "--all", "samples/faults.cesr"],
+        1,
+        "all-faults.txt",
+    );
 }
 
 #[test]

@@ -2,7 +2,7 @@
 //! the oracle with ordinary ones.
 
 use crate::fence::{Edge, Fence, LONGEST};
-use crate::input::{Call, Front, Room};
+use crate::input::{Call, Front, Room, LONG, LONG_UNITS};
 use crate::long;
 use proved::{Primitive, Refusal, State, Tag, STATE};
 use std::cell::RefCell;
@@ -39,35 +39,46 @@ pub fn one(input: &[u8]) {
         let mut front = Front(&input[..input.len().min(LONGEST / 8)]);
         let (call, form, edge, too_long) = front.choice();
         memory.edge = edge;
+        let long = front.0.first() == Some(&LONG);
         let room = front.room();
         if too_long {
             return long::one(call, form, room.of(20), front);
         }
         match call {
-            Call::Report => report(memory, form, room, front.0),
-            Call::Convert => convert(memory, form, room, front.0),
+            Call::Write => write(memory, form, room, front),
             Call::Read => {
                 let at = front.number();
-                read(memory, form, room, front.0, at);
+                read(memory, form, room, &front.stream(form, long), at);
             }
-            Call::Write => write(memory, form, room, front),
-            Call::Walk => drop(walk(memory, form, front.0, [0; STATE], usize::MAX)),
             Call::WalkFrom => {
                 let state = front.state();
-                walk(memory, form, front.0, state, 20);
+                walk(memory, form, &front.stream(form, long), state, 20);
             }
-            Call::ReadItems => {
-                for at in walk(memory, form, front.0, [0; STATE], 40) {
-                    read(memory, form, room, front.0, at);
-                }
-            }
-            Call::All => {
-                report(memory, form, room, front.0);
-                convert(memory, form, room, front.0);
-                walk(memory, form, front.0, [0; STATE], usize::MAX);
-            }
+            _ => stream(memory, call, form, room, &front.stream(form, long)),
         }
     });
+}
+
+/// The calls that take nothing but a stream. A walk that steps on over a long
+/// one takes all the time and meets nothing new.
+fn stream(memory: &mut Memory, call: Call, form: Form, room: Room, stream: &[u8]) {
+    let long = stream.len() >= LONG_UNITS * form.unit();
+    let steps = if long { 20 } else { usize::MAX };
+    match call {
+        Call::Report => report(memory, form, room, stream),
+        Call::Convert => convert(memory, form, room, stream),
+        Call::ReadItems => {
+            for at in walk(memory, form, stream, [0; STATE], steps.min(40)) {
+                read(memory, form, room, stream, at);
+            }
+        }
+        Call::Walk => drop(walk(memory, form, stream, [0; STATE], steps)),
+        _ => {
+            report(memory, form, room, stream);
+            convert(memory, form, room, stream);
+            walk(memory, form, stream, [0; STATE], steps);
+        }
+    }
 }
 
 /// A copy of the stream at the fence.

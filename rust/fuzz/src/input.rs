@@ -3,13 +3,20 @@
 //! | Byte | Meaning |
 //! | --- | --- |
 //! | 0 | call (bits 0 to 2), binary (bit 3), buffers against the page before them (bit 4), one too long (bits 5 to 7 all set) |
-//! | 1 | room: just enough, one less, none, nine more, or the number itself |
+//! | 1 | room: just enough, one less, none, nine more, or the number itself; 255 just enough, and the stream is a long one |
 //! | then | read: two bytes of offset; walk from a state: the state; write: the primitive |
-//! | then | the stream, or the raw value |
+//! | then | the stream, or the raw value; of a long stream the last unit is taken over and over |
 
 use crate::fence::{Edge, LONGEST};
 use proved::{State, Tag, MAX_DEPTH, STATE, STATE_FIRST, STATE_OPEN, STATE_POSITION};
+use std::borrow::Cow;
 use streams::Form;
+
+/// Units of a long stream: a large header, and the least that it counts.
+pub const LONG_UNITS: usize = 2 + 4096;
+
+/// The second byte of an input with a long stream.
+pub const LONG: u8 = 255;
 
 /// Which call is tried.
 #[derive(Clone, Copy, Debug, PartialEq, Eq)]
@@ -97,12 +104,25 @@ impl Front<'_> {
 
     pub fn room(&mut self) -> Room {
         match self.byte() {
-            0 => Room::Exact,
+            0 | LONG => Room::Exact,
             1 => Room::OneLess,
             2 => Room::Bytes(0),
             3 => Room::More,
             number => Room::Bytes(usize::from(number)),
         }
+    }
+
+    /// What is left as a stream, or as a long one.
+    pub fn stream(&self, form: Form, long: bool) -> Cow<'_, [u8]> {
+        let last = self.0.rchunks_exact(form.unit()).next();
+        let Some(last) = last.filter(|_| long) else {
+            return Cow::Borrowed(self.0);
+        };
+        let mut stream = self.0.to_vec();
+        while stream.len() < LONG_UNITS * form.unit() {
+            stream.extend(last);
+        }
+        Cow::Owned(stream)
     }
 
     /// The number open, the position, the mark, and how many ends follow.

@@ -1,11 +1,12 @@
 //! Changes of an input that know what a stream is: half of them are the ways
 //! of damage of `streams`, or an accepted item put in; the others libFuzzer's.
 
-use crate::input::{Call, Front};
+use crate::input::{Call, Front, LONG};
 use crate::seeds::writes;
 use proved::MAX_DEPTH;
 use streams::damage::damage;
-use streams::generate::{any_item, TOP};
+use streams::form::characters;
+use streams::generate::{any_item, large_code, LARGE_CODES, TOP};
 use streams::item::stream;
 use streams::{Form, Random};
 
@@ -28,6 +29,10 @@ pub unsafe extern "C" fn LLVMFuzzerCustomMutator(
     let mut random = Random::new(u64::from(seed));
     // SAFETY: by the contract.
     let input = unsafe { std::slice::from_raw_parts_mut(data, most) };
+    // Long streams take long: what comes of them is mostly none.
+    if size > 1 && input[1] == LONG && !random.once_in(64) {
+        input[1] = 0;
+    }
     if random.once_in(2) {
         if let Some(size) = changed(&mut random, input, size) {
             return size;
@@ -54,6 +59,7 @@ fn changed(random: &mut Random, input: &mut [u8], size: usize) -> Option<usize> 
         }
         Call::WalkFrom => drop(front.state()),
         Call::Read => drop(front.number()),
+        _ if random.once_in(400) => return long_stream(random, form, input),
         _ => {}
     }
     let mut made = front.0.to_vec();
@@ -116,6 +122,18 @@ fn another_write(random: &mut Random, form: Form, input: &mut [u8]) -> Option<us
         }
     }
     replaced(input, 2, &made[2..])
+}
+
+/// A long stream of an item with a large code, around the least that it
+/// counts, or what it is short of that.
+fn long_stream(random: &mut Random, form: Form, input: &mut [u8]) -> Option<usize> {
+    let index = random.below(LARGE_CODES);
+    let item = stream(&[large_code(random, index, 1)]);
+    let units = characters(4093 + random.below(6) as u32);
+    let unit = *random.pick(&[*b"1AAK", *b"AAAA", *b"AQAA"]);
+    let text = [&item[..4], &units, &unit].concat();
+    *input.get_mut(1)? = LONG;
+    replaced(input, 2, &form.of_text(&text))
 }
 
 /// An accepted item before any unit.

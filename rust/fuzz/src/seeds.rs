@@ -1,11 +1,11 @@
-//! Inputs to start from: the papers' streams, an item of every code, groups
-//! around the depth limit, streams so long that conversion goes by its tables,
+//! Inputs to start from: the papers' streams, an item of every code, large ones
+//! for few units too and around 4,096, groups around the depth limit, streams so long that conversion goes by its tables,
 //! a primitive of every code to write, some states.
 
-use crate::input::{Call, CALLS};
+use crate::input::{Call, CALLS, LONG};
 use streams::damage::GENUS_CODES;
 use streams::form::FORMS;
-use streams::generate::{nested, one_code, CODES};
+use streams::generate::{large_code, nested, one_code, CODES, LARGE_CODES};
 use streams::item::{stream, Item};
 use streams::table::{Kind, FIXED, HEADS, TYPES};
 use streams::{papers, Form, Random};
@@ -34,6 +34,10 @@ pub fn seeds() -> Vec<Vec<u8>> {
         seeds.push([&[choice(Call::Convert, form), 0], &form.of_text(&long)[..]].concat());
         seeds.extend(writes(form));
         seeds.extend(states(form));
+        for header in [&b"--JAABAA"[..], b"--AAAA__", b"7AABABAA", b"9AABAA__"] {
+            let made = form.of_text(&[header, b"AAAA"].concat());
+            seeds.push([&[choice(Call::All, form), LONG], &made[..]].concat());
+        }
     }
     seeds
 }
@@ -43,6 +47,7 @@ fn texts() -> Vec<Vec<u8>> {
     let mut texts: Vec<_> = papers.iter().map(|text| text.as_bytes().to_vec()).collect();
     let mut random = Random::new(1);
     texts.extend((0..CODES).map(|index| stream(&[one_code(&mut random, index)])));
+    texts.extend((0..LARGE_CODES).map(|index| stream(&[large_code(&mut random, index, 2)])));
     for deep in [2, 16, 40, 63, 64, 65] {
         let core = vec![Item::Primitive(b"MAAB".to_vec())];
         texts.push(stream(&nested(b"AJ", deep, core)));
@@ -68,10 +73,11 @@ pub fn writes(form: Form) -> Vec<Vec<u8>> {
         let raw = vec![0x5A; raw];
         writes.push([&start[..], &head, b"ABCDEFGHIJK", &[0, 0], &raw].concat());
     }
+    // A length from FF00 on is one around 12,285: FF00 is 12,281, FF05 12,286.
     for letter in TYPES {
-        for chars in [5, 6] {
+        for (chars, length) in [(5, [0, 0]), (5, [0xFF, 4]), (6, [0xFF, 5])] {
             let head = [chars, *letter, 0];
-            writes.push([&start[..], &head, &[0; 11], &[0, 0], b"hello"].concat());
+            writes.push([&start[..], &head, &[0; 11], &length, b"hello"].concat());
         }
     }
     writes
@@ -118,7 +124,8 @@ mod tests {
                     tags,
                     raw,
                 };
-                assert!(proved::write_text(&item, &mut [0; 200]).is_ok(), "{item:?}");
+                let answer = proved::write_text(&item, &mut [0; 16_400]);
+                assert!(answer.is_ok(), "{answer:?} {chars} {letter}");
             }
         }
     }

@@ -4,11 +4,15 @@
 //! group: 11, then its items one by one, each framed (an inner 7 next), then
 //! judged; the first refusal stands, with number and place. An opaque group:
 //! 11, then 5."
+//!
+//! 02 h: "Large variable codes and large groups whose size fits the small code
+//! are refused with new number 18, judged directly after 11 for groups, in the
+//! walk too, and before 9 for primitives."
 
 use crate::form::Form;
 use crate::frame::{frame, require_genus_version, Frame};
-use crate::refusal::{Refusal, LEAD_WITHOUT_VALUE, NOT_ZERO, PREPAD, TOO_DEEP};
-use crate::registry::Code;
+use crate::refusal::{Refusal, LEAD_WITHOUT_VALUE, NOT_SHORT, NOT_ZERO, PREPAD, TOO_DEEP};
+use crate::registry::{Code, MOST_SMALL_COUNT};
 
 /// A group may stand within this many groups less one. 02 g: "Raise the limit
 /// from 16 to 64".
@@ -24,9 +28,18 @@ pub fn judge(stream: &[u8], form: Form, framed: &Frame, depth: usize) -> Result<
     }
 }
 
-/// 5 behind the header, 9, 8, 10.
+/// 18: a large code with a count that the small one has digits for.
+fn check_short(framed: &Frame) -> Result<(), Refusal> {
+    if framed.code.is_large() && framed.count <= MOST_SMALL_COUNT {
+        return Err(Refusal::new(NOT_SHORT, framed.offset));
+    }
+    Ok(())
+}
+
+/// 5 behind the header, 18, 9, 8, 10.
 pub fn judge_primitive(stream: &[u8], form: Form, framed: &Frame) -> Result<(), Refusal> {
     form.check_alphabet(stream, framed.behind_header(), framed.end())?;
+    check_short(framed)?;
     let refuse = |number| Err(Refusal::new(number, framed.offset));
     if framed.code.lead() > 0 && framed.count == 0 && is_variable(framed.code) {
         return refuse(LEAD_WITHOUT_VALUE);
@@ -45,7 +58,7 @@ pub fn judge_primitive(stream: &[u8], form: Form, framed: &Frame) -> Result<(), 
     Ok(())
 }
 
-/// What is judged of a group itself, before its items: 11, then 5 if opaque.
+/// What is judged of a group itself, before its items: 11, 18, then 5 if opaque.
 pub fn judge_group_itself(
     stream: &[u8],
     form: Form,
@@ -55,6 +68,7 @@ pub fn judge_group_itself(
     if depth >= MOST_GROUPS {
         return Err(Refusal::new(TOO_DEEP, framed.offset));
     }
+    check_short(framed)?;
     if framed.code.is_opaque() {
         form.check_alphabet(stream, framed.behind_header(), framed.end())?;
     }
@@ -139,19 +153,73 @@ mod tests {
         assert_eq!(text("5BABAQAA"), Err((8, 0)));
         assert_eq!(text("6BABAABh"), Ok(()));
         assert_eq!(text("6BABAAEA"), Err((8, 0)));
-        assert_eq!(text("9AABAAABAABh"), Ok(()));
-        assert_eq!(text("9AABAAABAAEA"), Err((8, 0)));
         assert_eq!(text("4BAB____"), Ok(()));
     }
 
     #[test]
     fn nine_for_a_lead_without_value() {
-        for stream in ["5BAA", "6BAA", "8AABAAAA", "9AABAAAA"] {
+        for stream in ["5BAA", "6BAA"] {
             assert_eq!(text(stream), Err((9, 0)));
         }
-        for stream in ["4BAA", "7AABAAAA"] {
-            assert_eq!(text(stream), Ok(()));
+        assert_eq!(text("4BAA"), Ok(()));
+    }
+
+    /// A large variable of `units` units, the first of them `first`.
+    fn large(selector: char, units: usize, first: &str) -> String {
+        let digit = |shift: usize| crate::alphabet::character((units >> shift) as u8 & 63);
+        let digits: String = [18, 12, 6, 0]
+            .map(|shift| digit(shift) as char)
+            .iter()
+            .collect();
+        format!("{selector}AAB{digits}{first}{}", "AAAA".repeat(units - 1))
+    }
+
+    #[test]
+    fn eighteen_for_a_large_variable_that_fits_the_small_code() {
+        for selector in ['7', '8', '9'] {
+            for units in [1, 2, 63, 64, 4095] {
+                assert_eq!(text(&large(selector, units, "AAAA")), Err((18, 0)));
+            }
+            for units in [4096, 4097, 8191] {
+                assert_eq!(text(&large(selector, units, "AAAA")), Ok(()));
+            }
         }
+        // Before 9 and 8; behind 5.
+        for stream in ["7AABAAAA", "8AABAAAA", "9AABAAAA"] {
+            assert_eq!(text(stream), Err((18, 0)));
+        }
+        assert_eq!(text("9AABAAABAAEA"), Err((18, 0)));
+        assert_eq!(text("9AABAAAB!AEA"), Err((5, 8)));
+        // From 4,096 units on it is 8 as with the small code.
+        assert_eq!(text(&large('8', 4096, "AQAA")), Err((8, 0)));
+        assert_eq!(text(&large('9', 4096, "AAEA")), Err((8, 0)));
+        // `8AAB` `AAAA`: 111100 000000 000000 000001 is F0 00 01.
+        assert_eq!(binary(&[0xF0, 0x00, 0x01, 0, 0, 0]), Err((18, 0)));
+    }
+
+    #[test]
+    fn eighteen_for_a_large_group_that_fits_the_small_code() {
+        // 02 h: "A large group below 4,096 units is thus 18, and `--AAABAA`
+        // with its 4,096 units still passes."
+        let whole = format!("--AAABAA{}", "1AAK".repeat(4096));
+        assert_eq!(text(&whole), Ok(()));
+        let short = format!("--AAAA__{}", "1AAK".repeat(4095));
+        assert_eq!(text(&short), Err((18, 0)));
+        // Before what stands in it, and before an opaque one's 5.
+        for stream in [
+            "--AAAAAA",
+            "--JAAAAB_AAA",
+            "--KAAAAB_A!A",
+            "--CAAAAC-_AAABAA",
+        ] {
+            assert_eq!(text(stream), Err((18, 0)));
+        }
+        // In a group, at its place; a refusal before it stands.
+        assert_eq!(text("-AAD--JAAAABMAAB"), Err((18, 4)));
+        assert_eq!(text("-AADMAAB--JAAAAA"), Err((18, 8)));
+        assert_eq!(text("-AADMQAA--JAAAAA"), Err((8, 4)));
+        // `--AA` `AAAA`: 111110 111110 000000 000000 is FB E0 00.
+        assert_eq!(binary(&[0xFB, 0xE0, 0x00, 0, 0, 0]), Err((18, 0)));
     }
 
     #[test]
@@ -189,7 +257,9 @@ mod tests {
     fn only_k_and_l_are_opaque() {
         assert_eq!(text("-KAB_AAA"), Ok(()));
         assert_eq!(text("-LAB_AAA"), Ok(()));
-        assert_eq!(text("--KAAAAB_AAA"), Ok(()));
+        let large = format!("--KAABAA{}", "_AAA".repeat(4096));
+        assert_eq!(text(&large), Ok(()));
+        assert_eq!(text(&large.replacen("_AAA", "_A!A", 1)), Err((5, 10)));
         assert_eq!(text("-HAB_AAA"), Err((6, 4)));
         assert_eq!(text("-KAB_A!A"), Err((5, 6)));
     }
@@ -198,7 +268,8 @@ mod tests {
     fn genus_version_as_first_item() {
         assert_eq!(text("-AAC-_AAABAA"), Err((7, 4)));
         assert_eq!(text("-AAC-_AAACAA"), Ok(()));
-        assert_eq!(text("--CAAAAC-_AAABAA"), Err((7, 8)));
+        let large = format!("--CAABAA-_AAABAA{}", "1AAK".repeat(4094));
+        assert_eq!(text(&large), Err((7, 8)));
         assert_eq!(text("-JAC-_AAABAA"), Ok(()));
         // D12.
         assert_eq!(text("-AADMAAB-_AAABAA"), Ok(()));
@@ -230,5 +301,10 @@ mod tests {
         assert_eq!(text(&opaque), Err((11, 256)));
         let passing = format!("{}-KAB", nested(64, 1));
         assert_eq!(text(&passing), Err((4, 256)));
+        // 02 h: 18 directly after 11.
+        let large = format!("{}--KAAAAA", nested(64, 2));
+        assert_eq!(text(&large), Err((11, 256)));
+        let large = format!("{}--KAAAAA", nested(63, 2));
+        assert_eq!(text(&large), Err((18, 252)));
     }
 }

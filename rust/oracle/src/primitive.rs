@@ -6,7 +6,7 @@ use crate::form::Form;
 use crate::frame::{frame, Frame};
 use crate::judge::judge_primitive;
 use crate::refusal::{
-    Refusal, CHARACTER, NOT_A_PRIMITIVE, PAST_END, ROOM, UNFIT_LENGTH, UNKNOWN_CODE,
+    Refusal, CHARACTER, NOT_A_PRIMITIVE, NOT_SHORT, PAST_END, ROOM, UNFIT_LENGTH, UNKNOWN_CODE,
 };
 use crate::registry::{self, Code, Fixed};
 
@@ -124,8 +124,9 @@ pub enum Named<'a> {
     Variable { letter: u8, large: bool },
 }
 
-/// Writes one primitive to text or binary: 6, 12, 5, 3, else the size
-/// written.
+/// Writes one primitive to text or binary: 6, 12, 18, 5, 3, else the size
+/// written. 02 h: "the primitive writer refuses them directly after 12, with
+/// place 0".
 pub fn write(
     named: Named,
     tag: &Tag,
@@ -165,7 +166,7 @@ fn fixed_item(characters: &[u8], tag: &Tag, raw: &[u8]) -> Result<Vec<u8>, Refus
     Ok(item(&head, row.lead, raw))
 }
 
-/// A variable item's bytes: 6, 12. The lead follows from the raw length.
+/// A variable item's bytes: 6, 12, 18. The lead follows from the raw length.
 fn variable_item(letter: u8, large: bool, tag: &Tag, raw: &[u8]) -> Result<Vec<u8>, Refusal> {
     if !registry::is_variable_type(letter) {
         return Err(Refusal::new(UNKNOWN_CODE, 0));
@@ -173,6 +174,9 @@ fn variable_item(letter: u8, large: bool, tag: &Tag, raw: &[u8]) -> Result<Vec<u
     let most = if large { MOST_LARGE } else { MOST_SMALL };
     if tag.number != 0 || raw.len() > most {
         return Err(Refusal::new(UNFIT_LENGTH, 0));
+    }
+    if large && raw.len() <= MOST_SMALL {
+        return Err(Refusal::new(NOT_SHORT, 0));
     }
     let lead = (3 - raw.len() % 3) % 3;
     let count = (lead + raw.len()) / 3;
@@ -241,7 +245,6 @@ mod tests {
         assert_eq!(read("WGhp", 0), raw("W", &[0x68, 0x69]));
         assert_eq!(read("5BABAGhp", 0), raw("5B", &[0x68, 0x69]));
         assert_eq!(read("6BABAABh", 0), raw("6B", &[0x61]));
-        assert_eq!(read("7AABAAAA", 0), raw("7AAB", &[]));
         assert_eq!(read("1AAK", 0), raw("1AAK", &[]));
     }
 
@@ -283,6 +286,8 @@ mod tests {
         assert_eq!(read("MAABMQAA", 4), Err((8, 4)));
         assert_eq!(read("5BAA", 0), Err((9, 0)));
         assert_eq!(read("0JAA", 0), Err((10, 0)));
+        assert_eq!(read("7AABAAAA", 0), Err((18, 0)));
+        assert_eq!(read("MAAB8AABAAAA", 4), Err((18, 4)));
     }
 
     #[test]
@@ -290,6 +295,7 @@ mod tests {
         // D27.
         assert_eq!(read("-AAB", 0), Err((4, 0)));
         assert_eq!(read("-KAB!!!!", 0), Err((14, 0)));
+        assert_eq!(read("--KAAAAA", 0), Err((14, 0)));
         assert_eq!(read("-AAA", 0), Err((14, 0)));
         assert_eq!(read("MAAB-_AAABAA", 4), Err((14, 4)));
         assert_eq!(read("-_AAACAA", 0), Err((14, 0)));
@@ -355,8 +361,6 @@ mod tests {
         assert_eq!(small(b'B', &[]), Ok("4BAA".into()));
         assert_eq!(small(b'B', &[0x68, 0x69]), Ok("5BABAGhp".into()));
         assert_eq!(small(b'B', &[0x61]), Ok("6BABAABh".into()));
-        assert_eq!(large(b'B', &[]), Ok("7AABAAAA".into()));
-        assert_eq!(large(b'H', &[0x61]), Ok("9AAHAAABAABh".into()));
     }
 
     #[test]
@@ -442,5 +446,33 @@ mod tests {
             let found = read_text(&out[..size], 0, &mut vec![0; most]).unwrap();
             assert_eq!((found.size, found.raw), (size, most));
         }
+    }
+
+    #[test]
+    fn a_large_code_for_a_small_value() {
+        // 02 h: 18 directly after 12, so before 3, place 0.
+        for length in [0, 1, 2, 3, 12_283, 12_284, 12_285] {
+            let raw = vec![0x55; length];
+            assert_eq!(large(b'B', &raw), Err((18, 0)));
+            let letter = b'H';
+            let named = Named::Variable {
+                letter,
+                large: true,
+            };
+            let refused = write(named, &Tag::NONE, &raw, Form::Binary, &mut []);
+            assert_eq!(refused, Err(Refusal::new(18, 0)));
+        }
+        assert_eq!(large(b'G', &[]), Err((6, 0)));
+        let (letter, large) = (b'B', true);
+        let named = Named::Variable { letter, large };
+        let tagged = write(named, &Tag::of(b"!"), &[], Form::Text, &mut []);
+        assert_eq!(tagged, Err(Refusal::new(12, 0)));
+        // The shortest large one: 12,286 bytes, two of lead, 4,096 units.
+        let mut out = vec![0; 16_392];
+        let raw = vec![0x55; 12_286];
+        let full = write(named, &Tag::NONE, &raw, Form::Text, &mut out);
+        assert_eq!((full, &out[..8]), (Ok(16_392), &b"9AABABAA"[..]));
+        let found = read_text(&out, 0, &mut vec![0; 12_286]).unwrap();
+        assert_eq!((found.size, found.raw), (16_392, 12_286));
     }
 }

@@ -41,13 +41,15 @@ pub const UNFIT_LENGTH: u8 = 12;
 pub const UNFIT_STATE: u8 = 13;
 /// Primitive asked for, group or genus/version found.
 pub const NOT_A_PRIMITIVE: u8 = 14;
+/// 02 h: large variable code or large group whose size fits the small code.
+pub const NOT_SHORT: u8 = 18;
 
 #[cfg(test)]
 mod tests {
     use super::*;
 
     #[test]
-    fn the_numbers_are_one_to_fourteen_in_01s_order() {
+    fn the_numbers_in_01s_order_and_those_of_02() {
         let numbers = [
             TOO_LONG,
             NOT_WHOLE_UNITS,
@@ -65,5 +67,6 @@ mod tests {
             NOT_A_PRIMITIVE,
         ];
         assert!(numbers.iter().copied().eq(1..=14));
+        assert_eq!(NOT_SHORT, 18);
     }
 }

@@ -186,6 +186,9 @@ pub const GROUPS: [(u8, &str); 29] = [
 /// 003's scheme name for `-_`.
 pub const GENUS_NAME: &str = "Genus/version";
 
+/// 003, "Small max 4,095": what two digits count.
+pub const MOST_SMALL_COUNT: u64 = 4_095;
+
 /// The only genus/version that is read here: KERI/ACDC v2.00.
 pub const GENUS_VERSION: [u8; 6] = *b"AAACAA";
 
@@ -273,6 +276,15 @@ impl Code {
             Code::Fixed(row) => row.full as u64 / 4,
             Code::Genus => 2,
             Code::Variable { .. } | Code::Group { .. } => self.header_units() as u64 + n,
+        }
+    }
+
+    /// Selectors `7` `8` `9` and `--`, which have a small form beside them.
+    pub fn is_large(&self) -> bool {
+        match self {
+            Code::Variable { selector, .. } => *selector >= b'7',
+            Code::Group { large, .. } => *large,
+            Code::Fixed(_) | Code::Genus => false,
         }
     }
 

@@ -204,8 +204,9 @@ mod tests {
             let (inside, _) = after(Walk::start(), &stream);
             assert_eq!(inside, state(&[8], 4, first));
         }
-        let (inside, _) = after(Walk::start(), "--AAAAABMAAB");
-        assert_eq!(inside, state(&[12], 8, true));
+        let large = format!("--AAABAA{}", "1AAK".repeat(4096));
+        let (inside, _) = after(Walk::start(), &large);
+        assert_eq!(inside, state(&[16_392], 8, true));
     }
 
     #[test]
@@ -227,6 +228,18 @@ mod tests {
         // As first item it clears the mark (D12).
         let (behind, _) = after(state(&[16], 4, true), "-AAD-KAA-_AAABAA");
         assert_eq!(behind, state(&[16], 8, false));
+    }
+
+    #[test]
+    fn eighteen_directly_after_eleven() {
+        // 02 h, "in the walk too".
+        assert_eq!(refused(Walk::start(), "--AAAAABMAAB"), (18, 0));
+        assert_eq!(refused(Walk::start(), "--KAAAAB_A!A"), (18, 0));
+        assert_eq!(refused(Walk::start(), "7AABAAAA"), (18, 0));
+        assert_eq!(refused(state(&[12], 4, true), "MAAB--AAAAAA"), (18, 4));
+        assert_eq!(refused(state(&[8; 64], 0, false), "--AAAAAA"), (11, 0));
+        let short = format!("--JAAA__{}", "!!!!".repeat(4095));
+        assert_eq!(refused(Walk::start(), &short), (18, 0));
     }
 
     #[test]

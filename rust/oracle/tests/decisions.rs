@@ -64,10 +64,20 @@ fn d3_other_genera_are_plain_items_where_nothing_is_required() {
 
 #[test]
 fn d4_large_forms_with_small_counts() {
-    rows("--AAAAAB1AAK", &[(0, 12, 0)], &[], None);
-    rows("7AABAAABAAAA", &[(0, 12, 0)], &[], None);
-    rows("7AABAAAA", &[(0, 8, 0)], &[], None);
-    rows("8AABAAAA", &[(0, 8, 9)], &[(0, 9, 0)], None);
+    // 02 h: 18, by the item's own n, so before 9.
+    for (stream, size) in [
+        ("--AAAAAB1AAK", 12),
+        ("7AABAAABAAAA", 12),
+        ("7AABAAAA", 8),
+        ("8AABAAAA", 8),
+    ] {
+        rows(stream, &[(0, size, 18)], &[(0, 18, 0)], None);
+        let (bytes, size) = (binary(stream), size / 4 * 3);
+        rows_of(&bytes, Form::Binary, &[(0, size, 18)], &[(0, 18, 0)], None);
+    }
+    // A remainder is by framing alone, which 18 is no part of.
+    rows("--AAAAAB", &[], &[], Some((0, 4)));
+    rows("7AABAAAB", &[], &[], Some((0, 4)));
 }
 
 #[test]

@@ -9,7 +9,7 @@ use oracle::convert::to_binary;
 use oracle::form::Form;
 use oracle::primitive::{read_text, write, Named, Tag};
 use oracle::registry;
-use oracle::report::write_report;
+use oracle::report::{report, write_report};
 use oracle::walk::{step, Found, Walk};
 
 /// 01, "The deck we check by": the stream in text, in binary, its text report
@@ -154,6 +154,68 @@ fn deck_64_nested_groups_accepted_65_refused_11() {
     }
 }
 
+/// 02 h: "A large group below 4,096 units is thus 18, and `--AAABAA` with its
+/// 4,096 units still passes." The same of variable codes, by n; 4,095 units
+/// hold 12,285 raw bytes, 4,096 hold 12,286 with two lead bytes.
+#[test]
+fn deck_only_the_short_form() {
+    let number = |stream: &str| {
+        let found = report(stream.as_bytes(), Form::Text).unwrap();
+        let same = report(&binary(stream), Form::Binary).unwrap();
+        assert_eq!(found.items[0].verdict, same.items[0].verdict);
+        found.items[0].verdict
+    };
+    let (less, enough) = ("1AAK".repeat(4095), "1AAK".repeat(4096));
+    assert_eq!(number(&format!("--AAAA__{less}")), 18);
+    assert_eq!(number(&format!("-A__{less}")), 0);
+    assert_eq!(number(&format!("--AAABAA{enough}")), 0);
+    let (less, enough) = ("AAAA".repeat(4095), "AAAA".repeat(4096));
+    for lead in 0..3 {
+        assert_eq!(number(&format!("{}AABAA__{less}", 7 + lead)), 18);
+        assert_eq!(number(&format!("{}B__{less}", 4 + lead)), 0);
+        assert_eq!(number(&format!("{}AABABAA{enough}", 7 + lead)), 0);
+    }
+    // 18 before 9, also in a group; the items behind it are judged.
+    rows("8AABAAAA", &[(0, 8, 18)], &[(0, 18, 0)], None);
+    let items = &[(0, 12, 18), (12, 4, 0)];
+    rows("-AAC9AAHAAAA1AAK", items, &[(0, 18, 4)], None);
+    // The writer directly after 12, place 0; 12,286 bytes are the first.
+    let named = |large| Named::Variable {
+        letter: b'B',
+        large,
+    };
+    let mut out = vec![0; 16_392];
+    for (large, length, answer) in [
+        (false, 12_285, Ok(16_384)),
+        (false, 12_286, Err((12, 0))),
+        (true, 12_285, Err((18, 0))),
+        (true, 12_286, Ok(16_392)),
+    ] {
+        let raw = vec![1; length];
+        let found = write(named(large), &Tag::NONE, &raw, Form::Text, &mut out);
+        assert_eq!(found.map_err(|r| (r.number, r.place)), answer);
+    }
+}
+
+/// 02 h: "for accepted primitives equal type and raw value ... mean equal
+/// text". Of the two spellings that a value has, each form accepts one.
+#[test]
+fn one_spelling_for_a_value() {
+    for length in (0..8).chain(12_280..12_292) {
+        let raw: Vec<u8> = (0..length).map(|i| (7 * i + i / 256) as u8).collect();
+        for (letter, _) in registry::VARIABLE {
+            for form in [Form::Text, Form::Binary] {
+                let spelt = [false, true].map(|large| {
+                    let mut out = vec![0; 16_400];
+                    let named = Named::Variable { letter, large };
+                    write(named, &Tag::NONE, &raw, form, &mut out).is_ok()
+                });
+                assert_eq!(spelt, [length <= 12_285, length > 12_285]);
+            }
+        }
+    }
+}
+
 #[test]
 fn deck_room_of_the_long_report() {
     // 39 bytes, room 53; at 52, refusal 3.
@@ -255,9 +317,11 @@ fn of_003_every_variable_code() {
             let small = format!("{}{letter}ABAAAA", 4 + lead);
             rows(&small, &[(0, 8, 0)], &[], None);
             reads(&small, &small[..2], "", &"00".repeat(raw));
-            let large = format!("{}AA{letter}AAABAAAA", 7 + lead);
-            rows(&large, &[(0, 12, 0)], &[], None);
-            reads(&large, &large[..4], "", &"00".repeat(raw));
+            let large = format!("{}AA{letter}ABAA{}", 7 + lead, "AAAA".repeat(4096));
+            rows(&large, &[(0, 16_392, 0)], &[], None);
+            reads(&large, &large[..4], "", &"00".repeat(3 * 4095 + raw));
+            let short = format!("{}AA{letter}AAABAAAA", 7 + lead);
+            rows(&short, &[(0, 12, 18)], &[(0, 18, 0)], None);
         }
     }
 }
@@ -268,8 +332,12 @@ fn of_003_every_group_code() {
     for letter in ('A'..='Z').chain('a'..='c') {
         rows(&format!("-{letter}AA"), &[(0, 4, 0)], &[], None);
         rows(&format!("-{letter}ABMAAB"), &[(0, 8, 0)], &[], None);
-        rows(&format!("--{letter}AAAAA"), &[(0, 8, 0)], &[], None);
-        rows(&format!("--{letter}AAAABMAAB"), &[(0, 12, 0)], &[], None);
+        let large = format!("--{letter}AABAA{}", "MAAB".repeat(4096));
+        rows(&large, &[(0, 16_392, 0)], &[], None);
+        for (short, size) in [("AAAAA", 8), ("AAAABMAAB", 12)] {
+            let short = format!("--{letter}{short}");
+            rows(&short, &[(0, size, 18)], &[(0, 18, 0)], None);
+        }
     }
 }
 
@@ -557,17 +625,29 @@ fn walked(stream: &str) -> (Vec<(usize, usize, usize, String)>, Found) {
 
 #[test]
 fn walk_over_nested_groups() {
-    let (items, last) = walked("-AAG-KAB_AAA--JAAAABMAABXABC-AAA");
+    let (items, last) = walked("-AAF-KAB_AAA-JABMAABXABC-AAA");
     let item = |offset, size, depth, code: &str| (offset, size, depth, code.to_string());
     let expected = [
-        item(0, 28, 0, "-A"),
+        item(0, 24, 0, "-A"),
         item(4, 8, 1, "-K"),
-        item(12, 12, 1, "--J"),
-        item(20, 4, 2, "M"),
-        item(24, 4, 1, "X"),
-        item(28, 4, 0, "-A"),
+        item(12, 8, 1, "-J"),
+        item(16, 4, 2, "M"),
+        item(20, 4, 1, "X"),
+        item(24, 4, 0, "-A"),
     ];
     assert_eq!((&items[..], last), (&expected[..], Found::End));
+    // 02 h: a large group is walked into where the small code has no digits
+    // for it, and is not yielded where it has.
+    let (items, last) = walked(&format!("--JAABAA{}", "1AAK".repeat(4096)));
+    assert_eq!((items.len(), last), (4097, Found::End));
+    assert_eq!(
+        items[..2],
+        [item(0, 16_392, 0, "--J"), item(8, 4, 1, "1AAK")]
+    );
+    let (items, last) = walked("-AAC--JAAAAA");
+    let (number, place) = (18, 4);
+    assert_eq!(items, [item(0, 12, 0, "-A")]);
+    assert_eq!(last, Found::Refused { number, place });
 }
 
 #[test]

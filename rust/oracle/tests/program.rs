@@ -92,7 +92,7 @@ fn writes() {
         b"",
         b"5BABAGhp",
     );
-    answered(&["write", "text", "large", "B"], b"", b"7AABAAAA");
+    refused(&["write", "text", "large", "B"], b"", "", "18 0");
     refused(&["write", "text", "-A"], b"", "", "6 0");
     refused(&["write", "text", "small", "G"], b"", "", "6 0");
     refused(&["write", "text", "X", "--tag", "A!A"], b"", "", "5 1");
@@ -107,6 +107,7 @@ fn writes() {
 
 #[test]
 fn walks_and_steps() {
+    refused(&["walk", "text"], b"-AAC--AAAAAA", "0 12 0 -A\n", "18 4");
     answered(&["walk", "text"], b"-AABMAAB", b"0 8 0 -A\n4 4 1 M\n");
     refused(&["walk", "text"], b"-AAB0AAAMAAB", "0 8 0 -A\n", "4 4");
     let zeros = " 0".repeat(63);

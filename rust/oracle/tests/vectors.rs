@@ -5,8 +5,8 @@
 
 mod common;
 
-use common::nested;
 use common::papers::{DIGESTS_OF_001, NUMBER, POST_PADDED_OF_001, SAD_PATHS, SHORTS_OF_002};
+use common::{around, nested};
 use oracle::convert;
 use oracle::judge::MOST_GROUPS;
 use oracle::primitive::{self, Named, Primitive, Tag};
@@ -377,6 +377,7 @@ fn reports(records: &mut Vec<Record>) {
         }
     }
     remainders(records);
+    only_short(records);
     noise(records);
 }
 
@@ -407,6 +408,32 @@ fn remainders(records: &mut Vec<Record>) {
         let binary = &[0x30, 0, 1, 0x30, 0, 1][..length];
         records.push(Record::new(REPORT_BINARY, 53, binary));
     }
+}
+
+/// 02 h: 18, what it stands before and what stands before it; and its
+/// `--AAABAA` with 4,096 units, which passes, beside 4,095.
+fn only_short(records: &mut Vec<Record>) {
+    for text in [
+        &b"--AAAAAA"[..],
+        b"-AAC--JAAAAAMAAB",
+        b"-AACMQAA--JA",
+        b"-AADMQAA--JAAAAA",
+        b"--JAAAAB_AAA",
+        b"--KAAAAB_A!A",
+        b"9AABAAABAAEA",
+        b"9AABAAAB!AEA",
+        b"-JAD8AAHAAABAAAA",
+    ] {
+        report_both(records, 53, text);
+    }
+    for groups in [MOST_GROUPS - 1, MOST_GROUPS] {
+        report_both(records, 35, around('J', groups, "--CAAAAA").as_bytes());
+    }
+    let enough = "--AAABAA".to_string() + &"1AAK".repeat(4096);
+    records.push(Record::new(REPORT_TEXT, 35, enough.as_bytes()));
+    let less = "--AAAA__".to_string() + &"1AAK".repeat(4095);
+    let less = in_binary(less.as_bytes()).expect("whole units");
+    records.push(Record::new(REPORT_BINARY, 35, &less));
 }
 
 /// Streams of items and noise from a fixed sequence.
@@ -544,6 +571,10 @@ fn reads(records: &mut Vec<Record>) {
         b"MA!B",
         b"WG!p",
         b"0H!_____",
+        b"7AABAAAA",
+        b"8AABAAAA",
+        b"9AAHAAABAABh",
+        b"9AAHAAAB!ABh",
     ] {
         read_both(records, 0, 8, text);
     }
@@ -619,9 +650,16 @@ fn walks(records: &mut Vec<Record>) {
         b"-_AAABAA",
         b"-AAC-_AAABAA",
         b"-JAC-_AAABAA",
+        b"-AAE-_AAACAA5BABAGhp",
         b"--AAAAAC-_AAACAA5BABAGhp",
+        b"-AAC7AABAAAA",
+        b"-AAC--KAAAAA",
     ] {
         walk_both(records, [0; STATE], text);
+    }
+    for groups in [MOST_GROUPS - 1, MOST_GROUPS] {
+        let text = around('J', groups, "--CAAAAA");
+        walk_both(records, [0; STATE], text.as_bytes());
     }
     let mut many = state(&[3; MOST_GROUPS], 0, 0);
     many[MOST_GROUPS] = MOST_GROUPS as u8 + 1;

@@ -112,8 +112,9 @@ fn checksum(bytes: &[u8]) -> u64 {
 const MOST_ROOM: usize = 16_393;
 
 /// Each type, small and large, at the lengths around the small form's most,
-/// which take each of the six selectors, with room enough and one less; and
-/// around the large form's most, where the room never suffices.
+/// where the one is 12 beyond it and the other 18 up to it (02 h), with room
+/// enough and one less; and around the large form's most, where the room never
+/// suffices.
 fn records() -> Vec<Record> {
     let mut records = Vec::new();
     for (letter, _) in VARIABLE {
@@ -164,7 +165,9 @@ fn heads_by_hand() {
         (false, 12_284, (0, 16_384), b"5B__"),
         (false, 12_285, (0, 16_384), b"4B__"),
         (false, 12_286, (12, 0), b""),
-        (true, 12_285, (0, 16_388), b"7AABAA__"),
+        (true, 12_283, (18, 0), b""),
+        (true, 12_284, (18, 0), b""),
+        (true, 12_285, (18, 0), b""),
         (true, 12_286, (0, 16_392), b"9AABABAA"),
         (true, 12_287, (0, 16_392), b"8AABABAA"),
         (true, 12_288, (0, 16_392), b"7AABABAA"),

@@ -119,12 +119,12 @@ pub struct Primitive<'a> {
     pub raw: &'a [u8],
 }
 
-/// Writes a primitive as text: 6, 12, 5, 3, else the length written.
+/// Writes a primitive as text: 6, 12, 18, 5, 3, else the length written.
 pub fn write_text(item: &Primitive, out: &mut [u8]) -> Result<usize, Refusal> {
     write(declared::cesr_write_text, item, out)
 }
 
-/// Writes a primitive as binary: 6, 12, 5, 3, else the length written.
+/// Writes a primitive as binary: 6, 12, 18, 5, 3, else the length written.
 pub fn write_binary(item: &Primitive, out: &mut [u8]) -> Result<usize, Refusal> {
     write(declared::cesr_write_binary, item, out)
 }

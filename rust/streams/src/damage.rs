@@ -3,17 +3,17 @@
 // All operators have one type, also those that leave the length as it is.
 #![allow(clippy::ptr_arg)]
 
-use crate::form::Form;
+use crate::form::{characters, Form};
 use crate::generate::MOST_GROUPS;
 use crate::item::group_header;
 use crate::random::Random;
-use crate::table::{GROUPS, HEADS};
+use crate::table::{GROUPS, HEADS, MOST_SMALL};
 
 /// One way of damage. It changes the stream in place.
 pub type Operator = fn(&mut Random, Form, &mut Vec<u8>);
 
 /// All of them, with a name for messages.
-pub const OPERATORS: [(&str, Operator); 14] = [
+pub const OPERATORS: [(&str, Operator); 15] = [
     ("flip a bit", flip_bit),
     ("any byte", any_byte),
     ("wrong alphabet", wrong_alphabet),
@@ -25,6 +25,7 @@ pub const OPERATORS: [(&str, Operator); 14] = [
     ("splice", splice),
     ("another head", another_head),
     ("another count", another_count),
+    ("large code", large_code),
     ("genus code", genus_code),
     ("wrap", wrap),
     ("flip a header's bit", flip_header_bit),
@@ -52,6 +53,15 @@ fn group_headers(form: Form, stream: &[u8]) -> Vec<usize> {
         bits >> 18 == 62 && bits >> 12 & 63 <= 28
     };
     offsets.filter(is_group).collect()
+}
+
+/// Those and the ones that look like a small variable's: `4` is 56.
+fn counted_headers(form: Form, stream: &[u8]) -> Vec<usize> {
+    let offsets = (0..stream.len()).step_by(form.unit());
+    let is_variable = |offset: &usize| matches!(form.bits(stream, *offset) >> 18, 56..=58);
+    let mut headers = group_headers(form, stream);
+    headers.extend(offsets.filter(is_variable));
+    headers
 }
 
 fn insert(stream: &mut Vec<u8>, offset: usize, part: &[u8]) {
@@ -155,9 +165,9 @@ fn another_head(random: &mut Random, form: Form, stream: &mut Vec<u8>) {
     }
 }
 
-/// A group's count by a little more or less, or to anything.
+/// A group's or variable's count by a little more or less, or to anything.
 fn another_count(random: &mut Random, form: Form, stream: &mut Vec<u8>) {
-    let headers = group_headers(form, stream);
+    let headers = counted_headers(form, stream);
     if headers.is_empty() {
         return;
     }
@@ -170,6 +180,34 @@ fn another_count(random: &mut Random, form: Form, stream: &mut Vec<u8>) {
         _ => random.number() as u32,
     };
     form.put(stream, offset, bits & 0xFF_F000 | count & 0xFFF);
+}
+
+/// A small group's or variable's header as the large one of the same count;
+/// groups that reach over it count the unit that it is longer by.
+fn large_code(random: &mut Random, form: Form, stream: &mut Vec<u8>) {
+    let headers = counted_headers(form, stream);
+    if headers.is_empty() {
+        return;
+    }
+    let offset = *random.pick(&headers);
+    let groups = group_headers(form, stream);
+    for header in groups.into_iter().filter(|group| *group < offset) {
+        let bits = form.bits(stream, header);
+        let reaches = header + (1 + (bits & 0xFFF) as usize) * form.unit() > offset;
+        if reaches && bits & 0xFFF < 0xFFF {
+            form.put(stream, header, bits + 1);
+        }
+    }
+    let bits = form.bits(stream, offset);
+    let (selector, letter, count) = (bits >> 18, bits >> 12 & 63, bits & 0xFFF);
+    // `-` is 62; from a small selector to its large one it is three.
+    let first = match selector {
+        62 => 62 << 18 | 62 << 12 | letter << 6,
+        _ => (selector + 3) << 18 | letter,
+    };
+    form.put(stream, offset, first);
+    let second = form.of_text(&characters(count));
+    insert(stream, (offset + form.unit()).min(stream.len()), &second);
 }
 
 /// The genus/version that is read, and others that differ from it.
@@ -188,7 +226,8 @@ fn genus_code(random: &mut Random, form: Form, stream: &mut Vec<u8>) {
 }
 
 /// A group's header before any unit, counting some units of what follows; at
-/// times many of them, so that what follows stands too deep.
+/// times many of them, so that what follows stands too deep. One may be large
+/// where a small one would do.
 fn wrap(random: &mut Random, form: Form, stream: &mut Vec<u8>) {
     let offset = unit_offset(random, form, stream);
     let left = (stream.len() - offset) / form.unit();
@@ -203,8 +242,9 @@ fn wrap(random: &mut Random, form: Form, stream: &mut Vec<u8>) {
         1
     };
     let letter = *random.pick(GROUPS);
-    for _ in 0..times {
-        let large = units > 4095 || random.once_in(4);
+    let spelt_large = random.below(4 * times);
+    for place in 0..times {
+        let large = units > MOST_SMALL || place == spelt_large;
         let header = form.of_text(&group_header(letter, large, units));
         insert(stream, offset, &header);
         units += header.len() / form.unit();

@@ -23,7 +23,8 @@ pub fn nests(random: &mut Random, size: usize) -> Vec<u8> {
     })
 }
 
-/// All codes alike, with groups three deep.
+/// All codes alike but for the large ones, which only long items have; groups
+/// three deep.
 pub fn mixed(random: &mut Random, size: usize) -> Vec<u8> {
     fill(size, || any_item(random, TOP, 3))
 }

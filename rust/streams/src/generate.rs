@@ -1,10 +1,11 @@
 //! Items that 01 accepts, of every code, selector and nesting.
 
 use crate::form::characters;
-use crate::item::Item;
+use crate::item::{stream, Item};
 use crate::random::Random;
 use crate::table::{
-    is_opaque, is_overrideable, Fixed, Kind, FIXED, GENUS_VERSION, GROUPS, SELECTORS, TYPES,
+    is_opaque, is_overrideable, Fixed, Kind, FIXED, GENUS_VERSION, GROUPS, LARGE, MOST_SMALL,
+    SMALL, TYPES,
 };
 
 /// Groups that may stand within each other.
@@ -24,13 +25,15 @@ pub fn fixed(random: &mut Random, (code, full, kind): Fixed) -> Item {
     Item::Primitive(text)
 }
 
-/// An accepted item of a variable code with `n` units of any value; one at
-/// least where lead bytes are asked for.
+/// An item of a variable code with `n` units of any value; of a small one with
+/// lead bytes one at least. It is accepted where the code is the shortest one
+/// that counts so far.
 pub fn variable(random: &mut Random, selector: u8, letter: u8, n: usize) -> Item {
     let lead = usize::from((selector - b'4') % 3);
-    let n = n.max(usize::from(lead > 0));
+    let small = selector < b'7';
+    let n = n.max(usize::from(small && lead > 0));
     let digits = characters(n as u32);
-    let mut text = if selector < b'7' {
+    let mut text = if small {
         vec![selector, letter, digits[2], digits[3]]
     } else {
         [&[selector, b'A', b'A', letter], &digits[..]].concat()
@@ -38,17 +41,18 @@ pub fn variable(random: &mut Random, selector: u8, letter: u8, n: usize) -> Item
     let header = text.len();
     text.extend(random.characters(4 * n));
     // One lead byte: `A` and 2 zero bits; two: `AA` and 4 zero bits.
-    let zeros: &[u8] = match lead {
-        1 => &[b'A', b'A' + random.below(16) as u8],
-        2 => &[b'A', b'A', b'A' + random.below(4) as u8],
-        _ => &[],
+    let zeros: &[u8] = match lead.min(n) {
+        0 => &[],
+        _ if lead == 1 => &[b'A', b'A' + random.below(16) as u8],
+        _ => &[b'A', b'A', b'A' + random.below(4) as u8],
     };
     text[header..header + zeros.len()].copy_from_slice(zeros);
     Item::Primitive(text)
 }
 
 /// A group of any letter: opaque ones with any units for `body`'s items.
-pub fn group(random: &mut Random, letter: u8, large: bool, body: Vec<Item>) -> Item {
+pub fn group(random: &mut Random, letter: u8, body: Vec<Item>) -> Item {
+    let large = false;
     if is_opaque(letter) {
         let body = random.characters(4 * body.len());
         return Item::Opaque {
@@ -65,13 +69,13 @@ pub fn group(random: &mut Random, letter: u8, large: bool, body: Vec<Item>) -> I
 }
 
 /// How many items `one_code` tells apart.
-pub const CODES: usize = FIXED.len() + VARIABLES + 4 * GROUPS.len() + 1;
+pub const CODES: usize = FIXED.len() + VARIABLES + 2 * GROUPS.len() + 1;
 
-const VARIABLES: usize = TYPES.len() * SELECTORS.len();
+const VARIABLES: usize = TYPES.len() * SMALL.len();
 
 /// An item of the code with this index below `CODES`: every fixed code, every
-/// variable type under every selector, every group letter, small and large,
-/// empty and not, and the genus/version.
+/// variable type under every small selector, every group letter, empty and
+/// not, and the genus/version.
 pub fn one_code(random: &mut Random, index: usize) -> Item {
     if let Some(row) = FIXED.get(index) {
         return fixed(random, *row);
@@ -79,18 +83,109 @@ pub fn one_code(random: &mut Random, index: usize) -> Item {
     let index = index - FIXED.len();
     if index < VARIABLES {
         let n = random.below(5);
-        let selector = SELECTORS[index % SELECTORS.len()];
-        return variable(random, selector, TYPES[index / SELECTORS.len()], n);
+        let selector = SMALL[index % SMALL.len()];
+        return variable(random, selector, TYPES[index / SMALL.len()], n);
     }
     let index = index - VARIABLES;
-    let Some(letter) = GROUPS.get(index / 4) else {
+    let Some(letter) = GROUPS.get(index / 2) else {
         return Item::Genus(GENUS_VERSION);
     };
     let mut body = Vec::new();
     if index % 2 == 1 {
         body.extend([any_primitive(random), any_primitive(random)]);
     }
-    group(random, *letter, index % 4 > 1, body)
+    group(random, *letter, body)
+}
+
+/// How many items `large_code` tells apart.
+pub const LARGE_CODES: usize = TYPES.len() * LARGE.len() + GROUPS.len();
+
+/// An item of the large code with this index below `LARGE_CODES`, of so many
+/// units: every variable type under every large selector, every group letter.
+/// It is accepted where a small code does not count so far.
+pub fn large_code(random: &mut Random, index: usize, units: usize) -> Item {
+    if let Some(letter) = TYPES.get(index / LARGE.len()) {
+        return variable(random, LARGE[index % LARGE.len()], *letter, units);
+    }
+    let letter = GROUPS[index - TYPES.len() * LARGE.len()];
+    let large = true;
+    if is_opaque(letter) {
+        let body = random.characters(4 * units);
+        return Item::Opaque {
+            letter,
+            large,
+            body,
+        };
+    }
+    let body = filled(random, units);
+    Item::Group {
+        letter,
+        large,
+        body,
+    }
+}
+
+/// Primitives of so many units in all.
+fn filled(random: &mut Random, units: usize) -> Vec<Item> {
+    let mut items = Vec::new();
+    let mut left = units;
+    while left > 0 {
+        let mut item = any_primitive(random);
+        if units_of(&item) > left {
+            item = Item::Primitive(b"MAAB".to_vec());
+        }
+        left -= units_of(&item);
+        items.push(item);
+    }
+    items
+}
+
+fn units_of(item: &Item) -> usize {
+    stream(std::slice::from_ref(item)).len() / 4
+}
+
+/// An accepted item of some units less or more than a small code counts, with
+/// the code that this asks for.
+pub fn long_item(random: &mut Random) -> Item {
+    let units = MOST_SMALL - 5 + random.below(12);
+    if units > MOST_SMALL {
+        let index = random.below(LARGE_CODES);
+        return large_code(random, index, units);
+    }
+    if random.once_in(2) {
+        let (selector, letter) = (*random.pick(SMALL), *random.pick(TYPES));
+        return variable(random, selector, letter, units);
+    }
+    let body = filled(random, units);
+    Item::Group {
+        letter: *random.pick(b"ABCDJZac"),
+        large: false,
+        body,
+    }
+}
+
+/// An item with a large code of which a small one would count the units:
+/// mostly few, at times as many as it can.
+pub fn not_short(random: &mut Random) -> Item {
+    let units = match random.below(40) {
+        0 => MOST_SMALL - random.below(2),
+        1 => 60 + random.below(9),
+        _ => random.below(5),
+    };
+    let index = random.below(LARGE_CODES);
+    large_code(random, index, units)
+}
+
+/// The same at some place in a deck, at top level or within groups.
+pub fn not_short_deck(random: &mut Random) -> Vec<Item> {
+    let mut items = any_deck(random, 3);
+    let within = *random.pick(&[0, 0, 1, 1, 2, 3, MOST_GROUPS - 1, MOST_GROUPS]);
+    let mut core = any_deck(random, 1);
+    core.insert(random.below(core.len() + 1), not_short(random));
+    let place = random.below(items.len() + 1);
+    let letters = [*random.pick(b"ABCDJZac"), *random.pick(b"ABCDJZac")];
+    items.splice(place..place, nested(&letters, within, core));
+    items
 }
 
 /// All of them, one behind the other.
@@ -105,7 +200,7 @@ pub fn any_primitive(random: &mut Random) -> Item {
         } else {
             random.below(6)
         };
-        let (selector, letter) = (*random.pick(SELECTORS), *random.pick(TYPES));
+        let (selector, letter) = (*random.pick(SMALL), *random.pick(TYPES));
         return variable(random, selector, letter, n);
     }
     let row = *random.pick(&FIXED);
@@ -147,11 +242,10 @@ fn any_genus(random: &mut Random, stand: Stand) -> [u8; 6] {
 
 fn any_group(random: &mut Random, stand: Stand, deepest: usize) -> Item {
     let letter = *random.pick(GROUPS);
-    let large = random.once_in(5);
     let items = random.below(5);
     if is_opaque(letter) {
         let body = (0..items).map(|_| any_primitive(random)).collect();
-        return group(random, letter, large, body);
+        return group(random, letter, body);
     }
     let inner = |first| Stand {
         within: stand.within + 1,
@@ -159,7 +253,7 @@ fn any_group(random: &mut Random, stand: Stand, deepest: usize) -> Item {
     };
     let body = (0..items).map(|i| any_item(random, inner(i == 0), deepest));
     let body = body.collect();
-    group(random, letter, large, body)
+    group(random, letter, body)
 }
 
 /// `depth` groups, each just around the next, around one small primitive.
@@ -174,7 +268,8 @@ pub fn nested(letters: &[u8], depth: usize, core: Vec<Item>) -> Vec<Item> {
     })
 }
 
-/// A deck of up to `most` accepted top-level items, some nested deep.
+/// A deck of up to `most` accepted top-level items, some nested deep, few of
+/// them long.
 pub fn any_deck(random: &mut Random, most: usize) -> Vec<Item> {
     let deepest = *random.pick(&[1, 3, 3, 5, MOST_GROUPS]);
     let mut items = Vec::new();
@@ -185,6 +280,8 @@ pub fn any_deck(random: &mut Random, most: usize) -> Vec<Item> {
             let letter = *random.pick(b"ACDJZac");
             let core = vec![any_primitive(random)];
             items.extend(nested(&[letter, b'J'], depth, core));
+        } else if random.once_in(400) {
+            items.push(long_item(random));
         } else {
             items.push(any_item(random, TOP, deepest));
         }
@@ -193,28 +290,33 @@ pub fn any_deck(random: &mut Random, most: usize) -> Vec<Item> {
 }
 
 /// Groups one in another, a few less or more than may stand so. Some have
-/// items beside the next group; the innermost holds what it may, or nothing.
+/// items beside the next group, and one may have the large header; the
+/// innermost holds what it may, or nothing.
 pub fn deep(random: &mut Random) -> Item {
     let depth = MOST_GROUPS - 4 + random.below(11);
     let mut body = match random.below(4) {
         0 => Vec::new(),
-        1 => vec![group(random, b'K', false, Vec::new())],
+        1 => vec![group(random, b'K', Vec::new())],
         _ => vec![any_primitive(random)],
     };
-    for _ in 1..depth {
-        let inner = around(random, body);
+    // Counted from the innermost; a number past the outermost is none.
+    let any = random.below(2 * depth);
+    let last = depth.saturating_sub(MOST_GROUPS);
+    let large = *random.pick(&[any, any, last, last.saturating_sub(1), depth]);
+    for place in 0..depth - 1 {
+        let inner = around(random, place == large, body);
         body = vec![inner];
         if random.once_in(20) {
             body.insert(random.below(2), any_primitive(random));
         }
     }
-    around(random, body)
+    around(random, large == depth - 1, body)
 }
 
-fn around(random: &mut Random, body: Vec<Item>) -> Item {
+fn around(random: &mut Random, large: bool, body: Vec<Item>) -> Item {
     Item::Group {
         letter: *random.pick(b"ABCDJZac"),
-        large: random.once_in(20),
+        large,
         body,
     }
 }
@@ -223,7 +325,6 @@ fn around(random: &mut Random, body: Vec<Item>) -> Item {
 mod tests {
     use super::*;
     use crate::form::ALPHABET;
-    use crate::item::stream;
 
     #[test]
     fn everything_is_whole_units_in_the_alphabet() {
@@ -255,6 +356,34 @@ mod tests {
         heads.dedup();
         assert_eq!((heads.len(), items.len()), (primitives, CODES));
         assert_eq!(items[CODES - 1], Item::Genus(GENUS_VERSION));
+    }
+
+    #[test]
+    fn large_codes_count_what_they_are_asked() {
+        let mut random = Random::new(7);
+        for index in 0..LARGE_CODES {
+            for units in [0, 1, 2, 4095, 4096] {
+                let text = stream(&[large_code(&mut random, index, units)]);
+                assert_eq!(text.len(), 8 + 4 * units);
+                assert!(text.starts_with(b"--") || LARGE.contains(&text[0]));
+            }
+        }
+    }
+
+    #[test]
+    fn long_ones_stand_on_both_sides_of_a_small_code() {
+        let mut random = Random::new(8);
+        let mut seen: Vec<_> = (0..400)
+            .map(|_| {
+                let text = stream(&[long_item(&mut random)]);
+                let large = text.starts_with(b"--") || LARGE.contains(&text[0]);
+                (text.len() / 4 - 1 - usize::from(large), large)
+            })
+            .collect();
+        seen.sort();
+        seen.dedup();
+        let told = (4090..=4101).map(|units| (units, units > 4095));
+        assert!(seen.iter().copied().eq(told), "{seen:?}");
     }
 
     #[test]

@@ -1,6 +1,7 @@
 //! An item before it is written: a tree of groups and primitives.
 
 use crate::form::{characters, Form};
+use crate::table::MOST_SMALL;
 
 #[derive(Clone, Debug, PartialEq, Eq)]
 pub enum Item {
@@ -8,7 +9,8 @@ pub enum Item {
     Primitive(Vec<u8>),
     /// A genus/version: the six characters behind `-_`.
     Genus([u8; 6]),
-    /// A group of items.
+    /// A group of items. `large` is the large header whatever it counts; else
+    /// it is the one that the count asks for.
     Group {
         letter: u8,
         large: bool,
@@ -48,7 +50,7 @@ impl Item {
 /// Header and body; the large header where the small one cannot count so far.
 fn write_group(letter: u8, large: bool, body: &[u8], text: &mut Vec<u8>) {
     let units = body.len() / 4;
-    text.extend(group_header(letter, large || units > 4095, units));
+    text.extend(group_header(letter, large || units > MOST_SMALL, units));
     text.extend(body);
 }
 
@@ -93,9 +95,11 @@ mod tests {
 
     #[test]
     fn a_long_body_takes_the_large_header() {
-        let body = b"1AAK".repeat(4096);
-        let mut text = Vec::new();
-        write_group(b'A', false, &body, &mut text);
-        assert!(text.starts_with(b"--AAABAA"));
+        for (units, head) in [(4095, &b"-A__1AAK"[..]), (4096, b"--AAABAA")] {
+            let body = b"1AAK".repeat(units);
+            let mut text = Vec::new();
+            write_group(b'A', false, &body, &mut text);
+            assert!(text.starts_with(head));
+        }
     }
 }

@@ -33,7 +33,7 @@ pub const DECK: &[&str] = &[
     "E8wYuBjhslETYaLZcxMkWrhVbMcA8RS1pKYl7nJ77ntA",
 ];
 
-/// Streams on which two readings of 01 would differ.
+/// Streams on which two readings of 01 and 02 would differ.
 #[rustfmt::skip]
 pub const POINTS: &[&str] = &[
     "MAABMA!!",
@@ -69,6 +69,13 @@ pub const POINTS: &[&str] = &[
     "8AABAAAA",
     "9AABAAABAABh",
     "--KAAAABAAAA",
+    "--KAAAAB!AAA",
+    "--AAAAAA",
+    "--JAAAAB_AAA",
+    "-AAC--JAAAAAMAAB",
+    "-JAD8AAHAAABAAAA",
+    "9AABAAABAAEA",
+    "9AABAAAB!AEA",
     "-HAB____",
 ];
 

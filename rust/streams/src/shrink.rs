@@ -2,9 +2,13 @@
 //!
 //! Parts are taken out and units made simple as long as the stream still
 //! fails. Where a part is taken out of a group, the counts around it are
-//! lowered with it; that is tried as well as leaving them.
+//! lowered with it; that is tried as well as leaving them. Long streams are cut
+//! into stretches that do not overlap, and their single bytes are left.
 
 use crate::form::Form;
+
+/// From so many bytes on a stream is long.
+const LONG: usize = 4096;
 
 /// A small stream on which `fails` is still true. `stream` must fail.
 pub fn shrink(stream: &[u8], form: Form, mut fails: impl FnMut(&[u8]) -> bool) -> Vec<u8> {
@@ -12,8 +16,10 @@ pub fn shrink(stream: &[u8], form: Form, mut fails: impl FnMut(&[u8]) -> bool) -
     loop {
         let before = best.clone();
         take_out_units(&mut best, form, &mut fails);
-        take_out_bytes(&mut best, &mut fails);
-        make_simple(&mut best, form, &mut fails);
+        if best.len() < LONG {
+            take_out_bytes(&mut best, &mut fails);
+            make_simple(&mut best, form, &mut fails);
+        }
         if best == before {
             return best;
         }
@@ -40,7 +46,11 @@ fn take_out_units(best: &mut Vec<u8>, form: Form, fails: &mut impl FnMut(&[u8]) 
             let taken =
                 keep(best, lowered, fails) || keep(best, without(best, offset, length), fails);
             if !taken {
-                offset += form.unit();
+                offset += if best.len() < LONG {
+                    form.unit()
+                } else {
+                    length
+                };
             }
         }
         units /= 2;
@@ -104,6 +114,14 @@ mod tests {
         let mut random = Random::new(6);
         let mut text = stream(&any_deck(&mut random, 12));
         text.extend(b"MAAB!A");
+        let small = shrink(&text, Form::Text, |s| s.contains(&b'!'));
+        assert_eq!(small, b"!");
+    }
+
+    #[test]
+    fn of_a_long_stream_too() {
+        let mut text = b"MAAB".repeat(6000);
+        text[13_001] = b'!';
         let small = shrink(&text, Form::Text, |s| s.contains(&b'!'));
         assert_eq!(small, b"!");
     }

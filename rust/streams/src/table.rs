@@ -38,8 +38,13 @@ pub const FIXED: [Fixed; 58] = [
 /// Types of variable values.
 pub const TYPES: &[u8] = b"ABCDEFH";
 
-/// Selectors of variable values: small, then large, by lead bytes.
-pub const SELECTORS: &[u8] = b"456789";
+/// Selectors of variable values by lead bytes: of small codes, of large ones.
+pub const SMALL: &[u8] = b"456";
+pub const LARGE: &[u8] = b"789";
+
+/// What a small code's two digits count. Above it stand the large codes, and
+/// up to it they are refused.
+pub const MOST_SMALL: usize = 4095;
 
 /// Group letters; `-K` and `-L` are opaque.
 pub const GROUPS: &[u8] = b"ABCDEFGHIJKLMNOPQRSTUVWXYZabc";

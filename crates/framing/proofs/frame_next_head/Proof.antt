@@ -1,4 +1,4 @@
-use Rattle.framing.specs.Heads.{nextBy}
+use Rattle.framing.specs.Next.{nextBy}
 use borrow.Author.Needs.{needs}
 use Rattle.framing.proofs.frame_next_head.Statement.{statement}
 use Rattle.framing.proofs.frame_next_head.Tie as tie

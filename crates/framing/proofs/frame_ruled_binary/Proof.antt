@@ -6,7 +6,7 @@ use Rattle.framing.proofs.frame_ruled_binary.Statement.{statement}
 use Rattle.framing.proofs.frame_ruled_binary.Tie as tie
 use Rattle.framing.proofs.frame_ruled_binary.Reads as reads
 use Rattle.framing.proofs.frame_ruled_binary.Lts as lts
-use Rattle.framing.proofs.binary_head.Reads as binary-head-reads
+use Rattle.framing_head.proofs.binary_head.Reads as binary-head-reads
 use Rattle.framing.proofs.frame_ruled_head.Reads as frame-ruled-head-reads
 
 -- src/lib.rt:291:9

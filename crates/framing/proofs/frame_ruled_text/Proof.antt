@@ -7,7 +7,7 @@ use Rattle.framing.proofs.frame_ruled_text.Tie as tie
 use Rattle.framing.proofs.frame_ruled_text.Reads as reads
 use Rattle.framing.proofs.frame_ruled_text.Lts as lts
 use Rattle.framing.proofs.frame_ruled_head.Reads as frame-ruled-head-reads
-use Rattle.framing.proofs.text_head.Reads as text-head-reads
+use Rattle.framing_head.proofs.text_head.Reads as text-head-reads
 
 -- src/lib.rt:284:9
 text-head-requires : tie.Need-text-head-requires

@@ -1,4 +1,4 @@
-use Rattle.report.proofs.Laws.{ends-fit, ends-last}
+use Rattle.report.proofs.Laws.{ends-last}
 use borrow.Author.Needs.{needs}
 use Rattle.report.proofs.fill.Statement.{statement}
 use Rattle.report.proofs.fill.Tie as tie
@@ -7,7 +7,7 @@ put-items-requires : tie.Need-put-items-requires
 put-items-requires c κs = search needs
 
 put-last-requires : tie.Need-put-last-requires
-put-last-requires c κs = search (ends-fit, needs)
+put-last-requires c κs = search needs
 
 same-length : tie.Need-same-length
 same-length c = search needs

@@ -27,6 +27,9 @@ put-turn-requires c κs = search needs
 enum-known-number : tie.Need-enum-known-number Inv-loop μ-loop
 enum-known-number c = search needs
 
+mul-offset : tie.Need-mul-offset Inv-loop μ-loop
+mul-offset c = search needs
+
 same-length : tie.Need-same-length Inv-loop μ-loop
 same-length c = search (needs)
 
@@ -68,6 +71,7 @@ put-all-spec =
     known-requires
     put-turn-requires
     enum-known-number
+    mul-offset
     same-length
     returns
     enum-known-units

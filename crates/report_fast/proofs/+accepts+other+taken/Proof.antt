@@ -5,7 +5,7 @@ use native.Mathlib.Omega.{arith}
 use native.Mathlib.Nat.{pos-of-ne-zero}
 use borrow.Author.Needs.{needs}
 use Rattle.report_fast.proofs.Laws.{Going, going-start, going-reach, going-plain, going-taken, going-less, going-end, no-pass, inner-reach, inner-falls, by-contents, by-own, group-inner, group-falls, by-inner, nothing}
-use Rattle.report_item.proofs.Laws.{inner-levels, head-fits, size-fits}
+use Rattle.report_found.proofs.Laws.{inner-levels, head-fits, size-fits}
 use borrow.Fn.Kinds.{In}
 use borrow.Fn.PlainCycle.{Measures, is, falls, and}
 use Rattle.report_fast.proofs.accepts.Reads as accepts
@@ -20,7 +20,7 @@ use Rattle.report_fast.proofs.+accepts+other+taken.Lts-taken as taken-l
 use Rattle.report_first.proofs.group.Reads as group-reads
 use Rattle.report_first.proofs.marks.Reads as marks-reads
 use Rattle.report_first.proofs.plain.Reads as plain-reads
-use Rattle.report_item.proofs.found.Reads as found-reads
+use Rattle.report_found.proofs.found.Reads as found-reads
 use Rattle.report_next.proofs.is_entered.Reads as is-entered-reads
 use Rattle.report_next.proofs.is_ruled.Reads as is-ruled-reads
 use Rattle.report_fast.proofs.+accepts+other+taken.{statement}

@@ -5,7 +5,8 @@ use borrow.Author.Needs.{needs}
 use borrow.Fn.Kinds.{In}
 use borrow.Fn.PlainCycle.{Measures, is, falls, and}
 use Rattle.format.specs.Units.{domain}
-use Rattle.report_item.proofs.Laws.{inner-inside, inner-levels, inner-falls, head-fits, size-fits, inside-on, by-refused, by-own, by-contents, Left, left-start, left-on, left-stop, left-end, next-fits, less-left}
+use Rattle.report_found.proofs.Laws.{inner-inside, inner-levels, inner-falls, head-fits, size-fits, inside-on}
+use Rattle.report_item.proofs.Laws.{by-refused, by-own, by-contents, Left, left-start, left-on, left-stop, left-end, next-fits, less-left}
 use Rattle.report_item.proofs.level.Reads as level
 use Rattle.report_item.proofs.level.Kinds as level-kinds
 use Rattle.report_item.proofs.+level+whole.Lts-level as level-lts
@@ -15,7 +16,7 @@ use Rattle.report_item.proofs.+level+whole.Lts-whole as whole-lts
 use Rattle.report_next.proofs.is_entered.Reads as is-entered-reads
 use Rattle.report_next.proofs.is_ruled.Reads as is-ruled-reads
 use Rattle.judging.proofs.told.Reads as told-reads
-use Rattle.report_item.proofs.found.Reads as found-reads
+use Rattle.report_found.proofs.found.Reads as found-reads
 use Rattle.report_item.proofs.+level+whole.{statement}
 use Rattle.report_item.proofs.+level+whole.Tie.{close}
 

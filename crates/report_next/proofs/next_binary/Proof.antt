@@ -8,11 +8,11 @@ use Rattle.report_next.proofs.next_binary.Statement.{statement}
 use Rattle.report_next.proofs.next_binary.Tie as tie
 use Rattle.report_next.proofs.next_binary.Reads as reads
 use Rattle.report_next.proofs.next_binary.Lts as lts
-use Rattle.framing.proofs.binary_head.Reads as binary-head-reads
+use Rattle.framing_head.proofs.binary_head.Reads as binary-head-reads
 use Rattle.framing.proofs.frame_next_head.Reads as frame-next-head-reads
 use Rattle.judging.proofs.own_binary.Reads as own-binary-reads
 use Rattle.judging.proofs.told.Reads as told-reads
-use Rattle.judging.proofs.within.Reads as within-reads
+use Rattle.framing_head.proofs.within.Reads as within-reads
 
 -- src/lib.rt:38:9
 binary-head-requires : tie.Need-binary-head-requires

@@ -11,10 +11,10 @@ use Rattle.report_next.proofs.next_text.Tie as tie
 use Rattle.report_next.proofs.next_text.Reads as reads
 use Rattle.report_next.proofs.next_text.Lts as lts
 use Rattle.framing.proofs.frame_next_head.Reads as frame-next-head-reads
-use Rattle.framing.proofs.text_head.Reads as text-head-reads
+use Rattle.framing_head.proofs.text_head.Reads as text-head-reads
 use Rattle.judging.proofs.own_text.Reads as own-text-reads
 use Rattle.judging.proofs.told.Reads as told-reads
-use Rattle.judging.proofs.within.Reads as within-reads
+use Rattle.framing_head.proofs.within.Reads as within-reads
 
 -- src/lib.rt:19:9
 text-head-requires : tie.Need-text-head-requires

@@ -1,4 +1,5 @@
-use Rattle.report_turn.proofs.Laws.{placed-fits, sized-fits, run-fits, items-few, run-turn}
+use Rattle.report_general.proofs.Laws.{placed-fits, sized-fits}
+use Rattle.report_turn.proofs.Laws.{run-fits, items-few, run-turn}
 use borrow.Author.Needs.{needs}
 use Rattle.report_turn.proofs.put_accepted.Statement.{statement}
 use Rattle.report_turn.proofs.put_accepted.Tie as tie

@@ -1,4 +1,5 @@
-use Rattle.report_turn.proofs.Laws.{placed-fits, sized-fits, good-turn}
+use Rattle.report_general.proofs.Laws.{placed-fits, sized-fits, turned-to}
+use Rattle.report_turn.proofs.Laws.{good-turn}
 use borrow.Author.Needs.{needs}
 use Rattle.report_turn.proofs.put_group.Statement.{statement}
 use Rattle.report_turn.proofs.put_group.Tie as tie
@@ -27,14 +28,14 @@ same-length c = search needs
 returns : tie.Need-returns
 returns c = λ L K e Φ. good-turn Φ _ (c .before .before .before .before .before .group-accepted .ensures (Φ .few) L K e (c .before .before .before .before .if1 .taken)) _ (c .before .before .put-row .ensures)
 
-put-judged-requires : tie.Need-put-judged-requires
-put-judged-requires c κs = search needs
+put-general-requires : tie.Need-put-general-requires
+put-general-requires c κs = search needs
 
 same-length-2 : tie.Need-same-length-2
 same-length-2 c = search needs
 
 returns-2 : tie.Need-returns-2
-returns-2 c = search needs
+returns-2 c = λ L K e. search turned-to
 
 pub put-group-spec : {M : Type 1} → statement M
 put-group-spec =
@@ -48,6 +49,6 @@ put-group-spec =
     put-row-requires
     same-length
     returns
-    put-judged-requires
+    put-general-requires
     same-length-2
     returns-2)

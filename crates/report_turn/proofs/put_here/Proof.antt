@@ -1,3 +1,4 @@
+use Rattle.report_general.proofs.Laws.{turned-to}
 use borrow.Author.Needs.{needs}
 use Rattle.report_turn.proofs.put_here.Statement.{statement}
 use Rattle.report_turn.proofs.put_here.Tie as tie
@@ -26,14 +27,14 @@ same-length-2 c = search needs
 returns-2 : tie.Need-returns-2
 returns-2 c = λ L K Φ. c .before .before .put-accepted .ensures L K (c .before .before .before .before .before .accepted .ensures .1 (Φ .few) L K (c .before .before .before .before .if2 .taken)) Φ
 
-put-judged-requires : tie.Need-put-judged-requires
-put-judged-requires c κs = search needs
+put-general-requires : tie.Need-put-general-requires
+put-general-requires c κs = search needs
 
 same-length-3 : tie.Need-same-length-3
 same-length-3 c = search needs
 
 returns-3 : tie.Need-returns-3
-returns-3 c = search needs
+returns-3 c = λ L K. search turned-to
 
 pub put-here-spec : {M : Type 1} → statement M
 put-here-spec =
@@ -47,6 +48,6 @@ put-here-spec =
     put-accepted-requires
     same-length-2
     returns-2
-    put-judged-requires
+    put-general-requires
     same-length-3
     returns-3)

@@ -7,7 +7,7 @@ use Rattle.writing_head.proofs.row_head.Statement.{statement}
 use Rattle.writing_head.proofs.row_head.Tie as tie
 use Rattle.writing_head.proofs.row_head.Reads as reads
 use Rattle.writing_head.proofs.row_head.Lts as lts
-use Rattle.judging.proofs.prepad_of.Reads as prepad-of-reads
+use Rattle.judging_header.proofs.prepad_of.Reads as prepad-of-reads
 use Rattle.writing_head.proofs.code_head.Reads as code-head-reads
 use Rattle.writing_head.proofs.put_tag.Reads as put-tag-reads
 

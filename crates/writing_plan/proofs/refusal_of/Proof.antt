@@ -1,7 +1,7 @@
 -- `writing_plan::refusal_of` meets its contract: the first test that fails. Assumes nothing.
 use mathlib.Core.Path.{sym, _∙_}
 use borrow.Author.Tests.{not-true, not-false}
-use Rattle.writing_plan.proofs.Refusals.{is-unknown, is-unfit, is-strange, is-none}
+use Rattle.writing_plan.proofs.Refusals.{is-unknown, is-unfit, is-long, is-strange, is-none}
 use borrow.Author.Needs.{needs}
 use Rattle.writing_plan.proofs.refusal_of.Statement.{statement}
 use Rattle.writing_plan.proofs.refusal_of.Tie as tie
@@ -9,6 +9,7 @@ use Rattle.writing_plan.proofs.refusal_of.Reads as reads
 use Rattle.writing_plan.proofs.refusal_of.Lts as lts
 use Rattle.writing_code.proofs.is_fit.Reads as is-fit-reads
 use Rattle.writing_code.proofs.is_named.Reads as is-named-reads
+use Rattle.writing_code.proofs.is_short.Reads as is-short-reads
 use Rattle.writing_plan.proofs.tag_stranger.Reads as tag-stranger-reads
 
 is-named-requires : tie.Need-is-named-requires
@@ -24,16 +25,31 @@ returns-2 : tie.Need-returns-2
 returns-2 c =
     is-unfit _ _ _ _ (sym (c .before .before .before .is-named .ensures) ∙ not-false _ (c .before .before .if1 .left)) (sym (c .before .is-fit .ensures) ∙ not-true _ (c .if2 .taken))
 
-tag-stranger-requires : tie.Need-tag-stranger-requires
-tag-stranger-requires c κs = search needs
+is-short-requires : tie.Need-is-short-requires
+is-short-requires c κs = search needs
 
 returns-3 : tie.Need-returns-3
 returns-3 c =
-    is-strange _ _ _ _ (sym (c .before .before .before .before .before .is-named .ensures) ∙ not-false _ (c .before .before .before .before .if1 .left)) (sym (c .before .before .before .is-fit .ensures) ∙ not-false _ (c .before .before .if2 .left)) _ (c .before .tag-stranger .ensures) (c .if3 .taken)
+    let b = c .before .before .before in
+    is-long _ _ _ _ (sym (b .before .before .is-named .ensures) ∙ not-false _ (b .before .if1 .left))
+    (sym (b .is-fit .ensures) ∙ not-false _ (c .before .before .if2 .left)) (sym (c .before .is-short .ensures) ∙ not-true _ (c .if3 .taken))
+
+tag-stranger-requires : tie.Need-tag-stranger-requires
+tag-stranger-requires c κs = search needs
 
 returns-4 : tie.Need-returns-4
 returns-4 c =
-    is-none _ _ _ _ (sym (c .before .before .before .before .before .is-named .ensures) ∙ not-false _ (c .before .before .before .before .if1 .left)) (sym (c .before .before .before .is-fit .ensures) ∙ not-false _ (c .before .before .if2 .left)) _ (c .before .tag-stranger .ensures) (c .if3 .left)
+    let b = c .before .before .before .before .before in
+    is-strange _ _ _ _ (sym (b .before .before .is-named .ensures) ∙ not-false _ (b .before .if1 .left))
+    (sym (b .is-fit .ensures) ∙ not-false _ (c .before .before .before .before .if2 .left))
+    (sym (c .before .before .before .is-short .ensures) ∙ not-false _ (c .before .before .if3 .left)) _ (c .before .tag-stranger .ensures) (c .if4 .taken)
+
+returns-5 : tie.Need-returns-5
+returns-5 c =
+    let b = c .before .before .before .before .before in
+    is-none _ _ _ _ (sym (b .before .before .is-named .ensures) ∙ not-false _ (b .before .if1 .left))
+    (sym (b .is-fit .ensures) ∙ not-false _ (c .before .before .before .before .if2 .left))
+    (sym (c .before .before .before .is-short .ensures) ∙ not-false _ (c .before .before .if3 .left)) _ (c .before .tag-stranger .ensures) (c .if4 .left)
 
 pub refusal-of-spec : {M : Type 1} → statement M
 refusal-of-spec =
@@ -43,6 +59,8 @@ refusal-of-spec =
     returns
     is-fit-requires
     returns-2
-    tag-stranger-requires
+    is-short-requires
     returns-3
-    returns-4)
+    tag-stranger-requires
+    returns-4
+    returns-5)

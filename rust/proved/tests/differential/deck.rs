@@ -1,4 +1,5 @@
-//! What 01 itself answers to its deck, typed in from the paper.
+//! What 01 itself answers to its deck and 02 to its cases, typed in from the
+//! papers.
 
 /// 01's answers: the text, its items (offset, size, verdict), refusals (index,
 /// number, place) and remainder (offset, number).
@@ -30,6 +31,9 @@ pub const TOLD: &[Told] = &[
     ("-AAC-_AAABAA", &[[0, 12, 7]], &[[0, 7, 4]], &[]),
     ("-JAC-_AAABAA", &[[0, 12, 0]], &[], &[]),
     ("-AAB0AAAMAAB", &[[0, 8, 4], [8, 4, 0]], &[[0, 4, 4]], &[]),
+    ("--AAAAAA", &[[0, 8, 18]], &[[0, 18, 0]], &[]),
+    ("8AABAAAAMAAB", &[[0, 8, 18], [8, 4, 0]], &[[0, 18, 0]], &[]),
+    ("-AAC--JAAAAA", &[[0, 12, 18]], &[[0, 18, 4]], &[]),
 ];
 
 /// 01's raw values: the text and what is read of it.

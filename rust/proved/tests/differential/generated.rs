@@ -5,7 +5,7 @@ use std::panic::{catch_unwind, resume_unwind, AssertUnwindSafe};
 use std::sync::atomic::{AtomicU64, Ordering};
 use streams::damage::{cross, damage};
 use streams::form::FORMS;
-use streams::generate::{any_deck, deep, every_code, one_code, CODES};
+use streams::generate::{any_deck, deep, every_code, not_short_deck, one_code, CODES};
 use streams::item::stream;
 use streams::noise::noise;
 use streams::{Form, Random};
@@ -34,7 +34,8 @@ fn neighbours(random: &mut Random, form: Form) -> Vec<u8> {
 fn generated(random: &mut Random, form: Form, kind: u64) -> (Vec<u8>, bool) {
     let kind = kind % 16;
     let mut made = match kind {
-        0..=9 => deck(random, form),
+        0..=8 => deck(random, form),
+        9 => form.of_text(&stream(&not_short_deck(random))),
         10 => {
             let (one, other) = (deck(random, form), deck(random, form));
             cross(random, form, &one, &other)
@@ -44,7 +45,8 @@ fn generated(random: &mut Random, form: Form, kind: u64) -> (Vec<u8>, bool) {
         _ => neighbours(random, form),
     };
     let whole = matches!(kind, 0..=2 | 13);
-    if !whole && kind < 11 || kind > 13 {
+    let left = whole || matches!(kind, 11 | 12) || kind == 9 && random.once_in(2);
+    if !left {
         damage(random, form, &mut made);
     }
     (made, whole)
@@ -123,7 +125,7 @@ fn generated_writes() {
 /// is met among few of them.
 #[test]
 fn every_number_is_met() {
-    let (mut verdicts, mut remainders) = ([0; 15], [0; 15]);
+    let (mut verdicts, mut remainders) = ([0; 20], [0; 20]);
     for seed in 0..20_000 {
         let form = FORMS[seed as usize % 2];
         let (made, _) = generated(&mut Random::new(seed), form, seed / 2);
@@ -134,8 +136,8 @@ fn every_number_is_met() {
             .iter()
             .for_each(|row| remainders[row[1]] += 1);
     }
-    for number in 0..15 {
-        let is_verdict = matches!(number, 0 | 4..=11);
+    for number in 0..20 {
+        let is_verdict = matches!(number, 0 | 4..=11 | 18);
         assert_eq!(
             verdicts[number] > 20,
             is_verdict,

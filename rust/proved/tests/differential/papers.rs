@@ -4,7 +4,7 @@
 use crate::{deck, demand, demands, judges};
 use streams::damage::{GENUS_CODES, STRANGERS};
 use streams::form::FORMS;
-use streams::generate::{any_deck, nested};
+use streams::generate::{any_deck, large_code, nested, LARGE_CODES};
 use streams::item::{stream, Item};
 use streams::{papers, Form, Random};
 
@@ -131,6 +131,25 @@ fn depths_of_02_g() {
             demands::rows(&text, Form::Text).items[0][2]
         };
         assert_eq!([40, 64, 65].map(verdict), [0, 0, 11]);
+    }
+}
+
+/// 02 h: 4,095 units in a large group are 18, 4,096 are accepted; so of a large
+/// variable, whose units hold 12,285 raw bytes at most, or 12,286 at least.
+#[test]
+fn sizes_of_02_h() {
+    for index in 0..LARGE_CODES {
+        let verdict = |units| {
+            let item = large_code(&mut Random::new(0x18), index, units);
+            let text = stream(&[item]);
+            let number = demands::rows(&text, Form::Text).items[0][2];
+            for form in FORMS {
+                let made = form.of_text(&text);
+                demand(&made, form, |s| judges::alike_in_short(s, form, 1));
+            }
+            number
+        };
+        assert_eq!([1, 4094, 4095, 4096, 4097].map(verdict), [18, 18, 18, 0, 0]);
     }
 }
 

@@ -76,8 +76,11 @@ type Shape = (u8, u8, usize, usize);
 
 fn variable(random: &mut Random) -> Shape {
     let chars = 5 + random.below(2) as u8;
-    let long = random.once_in(8);
-    let length = random.below(if long { 13_000 } else { 40 });
+    // Around the most that a small one holds, or short.
+    let length = match random.below(8) {
+        0 => 12_270 + random.below(32),
+        _ => random.below(40),
+    };
     (chars, *random.pick(TYPES), 0, length)
 }
 
@@ -118,7 +121,8 @@ fn any_tag(random: &mut Random) -> Tag {
 }
 
 /// Every type, small and large, around the most that each form holds, at each
-/// lead: 12 beyond it, and a large item of the most is a stream of the limit.
+/// lead: 12 beyond it, 18 for a large one up to the small one's, and a large
+/// item of the most is a stream of the limit.
 #[test]
 fn every_type_at_the_limits() {
     let raw = Random::new(0x1318).bytes(3_145_723);

@@ -1,0 +1,176 @@
+// What an item's header and first sextets decide: of a fixed code 8 and 10, of a variable one 18, 9 and 8, of a group 11 and 18. The
+// sextets are the item's own, 0 past its end.
+use format::CodeRow;
+use format::Verdict;
+ghost use mathlib.Core.Path.{_≡_};
+ghost use Prim.Native.Nat.{_-_, _*_, _<_, _≤_};
+ghost use lib.ListN.{getD};
+ghost use Rattle.format.specs.Registry.{zeroBitsOf, prepadOf};
+ghost use Rattle.format.specs.Judging.{isShortest, hasLead, zeroBits, prepadRight};
+ghost use Rattle.judging_header.specs.Checks.{fixedChecks, variableChecks, groupChecks};
+
+fn wide(x: u8) -> u32
+    ensures { λ r. ⌜ (r ≡ x) × (r < 256) ⌝ }
+{
+    x as u32
+}
+
+fn sextet_at(cs: [u8; 12], i: usize) -> u8
+    ensures { λ r. ⌜ r ≡ getD cs i 0 ⌝ }
+{
+    if i < 12 { cs[i] } else { 0 }
+}
+
+// ---- 8 and 10 of a fixed code
+
+fn shift_for(z: u32) -> u32
+    ensures { λ r. ⌜ (r ≡ 18 - z) × (r ≤ 18) ⌝ }
+{
+    if z < 18 { 18 - z } else { 0 }
+}
+
+fn zero_bits(cs: [u8; 12], i: usize, z: u32) -> bool
+    requires { ⌜ i ≤ 255 ⌝ }
+    ensures { λ r. ⌜ r ≡ zeroBits cs i z ⌝ }
+{
+    let a = wide(sextet_at(cs, i));
+    let b = wide(sextet_at(cs, i + 1));
+    let c = wide(sextet_at(cs, i + 2));
+    let k = shift_for(z);
+    ((a * 64 + b) * 64 + c) >> k == 0
+}
+
+fn zeros_of(c: CodeRow) -> u32
+    ensures { λ r. ⌜ r ≡ zeroBitsOf c ⌝ }
+{
+    let pad = c.pad;
+    let lead = c.lead;
+    if c.tag == 0 {
+        2 * wide(pad) + 8 * wide(lead)
+    } else {
+        0
+    }
+}
+
+pub fn prepad_of(c: CodeRow) -> u32
+    ensures { λ r. ⌜ r ≡ prepadOf c ⌝ }
+{
+    if c.tag == 0 {
+        return 0;
+    }
+    let chars = c.chars;
+    let tag = c.tag;
+    let size = c.size;
+    let used = wide(chars) + wide(tag);
+    let full = wide(size);
+    if used < full { full - used } else { 0 }
+}
+
+fn prepad_right(cs: [u8; 12], i: usize, prepad: u32) -> bool
+    ensures { λ r. ⌜ r ≡ prepadRight cs i prepad ⌝ }
+{
+    if prepad == 0 {
+        true
+    } else {
+        sextet_at(cs, i) == 63
+    }
+}
+
+pub fn fixed_checks(c: CodeRow, cs: [u8; 12]) -> Verdict
+    ensures { λ r. ⌜ r ≡ fixedChecks c cs ⌝ }
+{
+    let chars = c.chars;
+    let i = wide(chars) as usize;
+    let z = zeros_of(c);
+    if !zero_bits(cs, i, z) {
+        return Verdict::Refused {
+            number: 8,
+            place: 0,
+        };
+    }
+    let prepad = prepad_of(c);
+    if !prepad_right(cs, i, prepad) {
+        return Verdict::Refused {
+            number: 10,
+            place: 0,
+        };
+    }
+    Verdict::Accepted
+}
+
+// ---- 18: a large header where a small one counts the units behind it
+
+pub fn is_shortest(h: usize, count: usize) -> bool
+    ensures { λ r. ⌜ r ≡ isShortest h count ⌝ }
+{
+    if h == 1 { true } else { 4096 <= count }
+}
+
+// ---- 18, 9 and 8 of a variable one
+
+fn has_lead(lead: u8, count: usize) -> bool
+    ensures { λ r. ⌜ r ≡ hasLead lead count ⌝ }
+{
+    if 0 < lead { 0 < count } else { true }
+}
+
+fn lead_zero(cs: [u8; 12], h: usize, lead: u8) -> bool
+    ensures { λ r. ⌜ r ≡ zeroBits cs (4 * h) (8 * lead) ⌝ }
+{
+    if h <= 2 {
+        zero_bits(cs, 4 * h, 8 * wide(lead))
+    } else {
+        true
+    }
+}
+
+pub fn variable_checks(lead: u8, count: usize, h: usize, cs: [u8; 12]) -> Verdict
+    ensures { λ r. ⌜ r ≡ variableChecks lead count h cs ⌝ }
+{
+    if !is_shortest(h, count) {
+        return Verdict::Refused {
+            number: 18,
+            place: 0,
+        };
+    }
+    if !has_lead(lead, count) {
+        return Verdict::Refused {
+            number: 9,
+            place: 0,
+        };
+    }
+    if !lead_zero(cs, h, lead) {
+        return Verdict::Refused {
+            number: 8,
+            place: 0,
+        };
+    }
+    Verdict::Accepted
+}
+
+// ---- 11 and 18 of a group
+
+// The units behind a header of h.
+pub fn units_behind(n: usize, h: usize) -> usize
+    ensures { λ r. ⌜ r ≡ n - h ⌝ }
+{
+    if h <= n { n - h } else { 0 }
+}
+
+pub fn group_checks(h: usize, units: usize, levels: usize) -> Verdict
+    ensures { λ r. ⌜ r ≡ groupChecks h units levels ⌝ }
+{
+    if levels == 0 {
+        return Verdict::Refused {
+            number: 11,
+            place: 0,
+        };
+    }
+    if !is_shortest(h, units) {
+        return Verdict::Refused {
+            number: 18,
+            place: 0,
+        };
+    }
+    Verdict::Accepted
+}

@@ -1,4 +1,0 @@
-pub mod Laws
-pub mod Bounds
-pub mod Answers
-pub mod Texts

@@ -1,0 +1,61 @@
+use Rattle.reading_part.proofs.Laws.{binary-unframed, binary-other, binary-judged}
+use borrow.Author.Needs.{needs}
+use Rattle.reading_part.proofs.of_binary.Statement.{statement}
+use Rattle.reading_part.proofs.of_binary.Tie as tie
+use Rattle.reading_part.proofs.of_binary.Reads as reads
+use Rattle.reading_part.proofs.of_binary.Lts as lts
+use Rattle.framing_head.proofs.binary_head.Reads as binary-head-reads
+use Rattle.framing.proofs.frame_head.Reads as frame-head-reads
+use Rattle.judging.proofs.own_binary.Reads as own-binary-reads
+use Rattle.framing_head.proofs.within.Reads as within-reads
+use Rattle.reading_item.proofs.is_primitive.Reads as is-primitive-reads
+use Rattle.judging.proofs.told.Reads as told-reads
+
+binary-head-requires : tie.Need-binary-head-requires
+binary-head-requires c κs = search needs
+
+frame-head-requires : tie.Need-frame-head-requires
+frame-head-requires c κs = search needs
+
+enum-told : tie.Need-enum-told
+enum-told c = search needs
+
+enum-known-framed : tie.Need-enum-known-framed
+enum-known-framed c = search needs
+
+is-primitive-requires : tie.Need-is-primitive-requires
+is-primitive-requires c κs = search needs
+
+returns : tie.Need-returns
+returns c = search binary-other
+
+within-requires : tie.Need-within-requires
+within-requires c κs = search needs
+
+own-binary-requires : tie.Need-own-binary-requires
+own-binary-requires c κs = search needs
+
+told-requires : tie.Need-told-requires
+told-requires c κs = search needs
+
+returns-2 : tie.Need-returns-2
+returns-2 c = search binary-unframed
+
+returns-3 : tie.Need-returns-3
+returns-3 c = search binary-judged
+
+pub of-binary-spec : {M : Type 1} → statement M
+of-binary-spec =
+    tie.close
+    (tie.spec
+    binary-head-requires
+    frame-head-requires
+    enum-told
+    enum-known-framed
+    is-primitive-requires
+    returns
+    within-requires
+    own-binary-requires
+    told-requires
+    returns-2
+    returns-3)

@@ -1,0 +1,28 @@
+use mathlib.Core.Path.{refl}
+use denote.Ref.{now}
+use Rattle.format.specs.Report.{be4}
+use Rattle.report_rows.specs.Stores.{test-fits, test-put, test-left}
+use borrow.Author.Needs.{needs}
+use Rattle.report_rows.proofs.put_told.Statement.{statement}
+use Rattle.report_rows.proofs.put_told.Tie as tie
+
+has-room-requires : tie.Need-has-room-requires
+has-room-requires c κs = search needs
+
+store-told-requires : tie.Need-store-told-requires
+store-told-requires c κs = test-fits (now (c .before .before .before .before .args .out)) (c .before .before .before .before .args .at) 5 _ (c .before .before .has-room .ensures) (c .before .if1 .taken)
+
+same-length : tie.Need-same-length
+same-length c = search needs
+
+returns : tie.Need-returns
+unfolding be4
+returns c = test-put (now (c .before .before .before .before .before .before .before .args .out)) (c .before .before .before .before .before .before .before .args .at) 5 _ (c .before .before .before .before .before .has-room .ensures) _ refl (c .before .before .before .before .if1 .taken) (c .before .before .store-told .ensures)
+
+returns-2 : tie.Need-returns-2
+unfolding be4
+returns-2 c = test-left (now (c .before .before .before .args .out)) (c .before .before .before .args .at) 5 _ (c .before .has-room .ensures) _ refl (c .if1 .left)
+
+pub put-told-spec : {M : Type 1} → statement M
+put-told-spec =
+    tie.close (tie.spec has-room-requires store-told-requires same-length returns returns-2)
