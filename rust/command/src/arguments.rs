@@ -3,6 +3,7 @@
 use crate::help;
 use crate::input::Source;
 use crate::name::shown;
+use crate::pages::Asked;
 use crate::standing::Standing;
 use cesr::Form;
 use std::ffi::{OsStr, OsString};
@@ -10,6 +11,11 @@ use std::path::{Path, PathBuf};
 use std::vec::IntoIter;
 
 const COMMANDS: &str = "judge, convert, show, manifest, compare, expect or numbers";
+
+#[rustfmt::skip]
+const JUDGE: &[&str] = &[
+    "--form", "--manifest", "--all", "--json", "--report", "--html", "--junit", "--sarif",
+];
 
 /// What is asked for.
 #[derive(Debug)]
@@ -29,6 +35,8 @@ pub struct Judge {
     pub form: Option<Form>,
     pub style: Style,
     pub manifest: Option<PathBuf>,
+    /// Files that are written beside the lines.
+    pub pages: Vec<Asked>,
     /// None but with a manifest.
     pub sources: Vec<Source>,
 }
@@ -89,6 +97,7 @@ struct Given {
     to: Option<Form>,
     out: Option<OsString>,
     manifest: Option<OsString>,
+    pages: Vec<Asked>,
     all: bool,
     json: bool,
     report: bool,
@@ -105,10 +114,7 @@ pub fn parse(mut arguments: impl Iterator<Item = OsString>) -> Result<Task, Stri
         return Err(format!("which command? {COMMANDS}"));
     };
     let (task, allowed): (Made, &[&str]) = match command.to_str().unwrap_or_default() {
-        "judge" => (
-            judge,
-            &["--form", "--manifest", "--all", "--json", "--report"],
-        ),
+        "judge" => (judge, JUDGE),
         "convert" => (convert, &["--to", "--out"]),
         "show" => (show, &["--form"]),
         "manifest" => (manifest, &["--form"]),
@@ -198,6 +204,7 @@ impl Given {
             "--to" => once(name, &mut self.to, form(valued()?)?)?,
             "--out" => once(name, &mut self.out, valued()?)?,
             "--manifest" => once(name, &mut self.manifest, valued()?)?,
+            "--html" | "--junit" | "--sarif" => Asked::add(&mut self.pages, name, valued()?)?,
             "--all" => self.all = true,
             "--json" => self.json = true,
             _ => self.report = true,
@@ -281,6 +288,7 @@ fn judge(given: Given) -> Result<Task, String> {
         form: given.form,
         style,
         manifest: given.manifest.map(PathBuf::from),
+        pages: given.pages,
         sources,
     }))
 }

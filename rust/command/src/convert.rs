@@ -80,5 +80,9 @@ fn explained(input: &Input, refusal: Refusal) -> String {
     if let Some(note) = readable::note(input, refusal.number, place) {
         text.push_str(&format!("\n        {note}"));
     }
+    text.push_str(&format!(
+        "\n        usually {}",
+        crate::hint::usually(refusal.number)
+    ));
     text
 }

@@ -33,7 +33,7 @@ pub fn at(form: Form, stream: &[u8], item: Range<usize>, place: usize) -> Option
 
 /// The item's start if the place is then in sight; else a whole number of
 /// units behind it.
-fn window(form: Form, start: usize, place: usize, width: usize) -> usize {
+pub fn window(form: Form, start: usize, place: usize, width: usize) -> usize {
     let behind = place.saturating_sub(start);
     if behind < width.saturating_sub(form.unit()) {
         return start;

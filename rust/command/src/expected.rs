@@ -6,6 +6,7 @@ use crate::arguments::Judge;
 use crate::input::{self, Source};
 use crate::manifest::{self, Entry};
 use crate::name::Name;
+use crate::sha256::{self, Digest};
 use crate::words;
 use std::collections::HashMap;
 use std::fs;
@@ -28,6 +29,8 @@ pub struct Expected {
     pub cases: Vec<Case>,
     /// The lines of the manifest.
     pub listed: Option<usize>,
+    /// The digest of the manifest that was read.
+    pub digest: Option<Digest>,
 }
 
 pub fn of(task: &Judge) -> Expected {
@@ -36,11 +39,12 @@ pub fn of(task: &Judge) -> Expected {
         return Expected {
             cases: task.sources.iter().map(stream).collect(),
             listed: None,
+            digest: None,
         };
     };
     let trouble = |why: String| Case::Trouble(Source::File(list.clone()).name(), why);
-    let lines = match input::text(list, LONGEST) {
-        Ok(text) => manifest::parse(&text),
+    let (lines, digest) = match input::text(list, LONGEST) {
+        Ok(text) => (manifest::parse(&text), Some(sha256::of(&text))),
         Err(error) => {
             let why = format!("the manifest: {}", words::of_error(&error));
             return unlisted(trouble(why), &task.sources);
@@ -59,7 +63,11 @@ pub fn of(task: &Judge) -> Expected {
     if lines.is_empty() {
         cases.push(trouble("the manifest lists nothing".to_string()));
     }
-    Expected { cases, listed }
+    Expected {
+        cases,
+        listed,
+        digest,
+    }
 }
 
 /// Without a manifest no stream is judged that was to be held against it.
@@ -71,12 +79,13 @@ fn unlisted(trouble: Case, given: &[Source]) -> Expected {
     Expected {
         cases,
         listed: Some(0),
+        digest: None,
     }
 }
 
 /// A stream's place on the disk, whatever names its folder has. A link is a
 /// place of its own.
-type Place = PathBuf;
+pub type Place = PathBuf;
 
 /// The streams of a manifest in its order.
 struct Listed<'l> {
@@ -155,7 +164,7 @@ impl<'l> Listed<'l> {
     }
 }
 
-fn place(path: &Path) -> Place {
+pub fn place(path: &Path) -> Place {
     let folder = match path.parent() {
         Some(folder) if folder.as_os_str().is_empty() => Path::new("."),
         Some(folder) => folder,

@@ -1,12 +1,13 @@
 //! The texts of `--help`, `--version` and `numbers`.
 
+use crate::hint;
 use cesr::Number;
 
 pub const HELP: &str = "\
 cesr: judges, converts, shows and compares CESR streams
 
   cesr judge [--form text|binary] [--manifest LIST] [--all] [--json | --report]
-             [--] [FILE...]
+             [--html FILE] [--junit FILE] [--sarif FILE] [--] [FILE...]
   cesr convert [--to text|binary] [--out FILE] [--] [FILE]
   cesr show [--form text|binary] OFFSET [--] [FILE]
   cesr manifest [--form text|binary] [--] FILE...
@@ -23,6 +24,10 @@ judge     One FILE: items, accepted, refused, remainder; then refused items, eig
           --manifest  the streams of LIST, or the given ones held against it: 0
                       only if every stream of LIST is there, is the one that is
                       listed, and passed
+          Beside that, a file that is replaced when all is judged:
+          --html      a page to look at and print, with a drawing of each stream
+          --junit     a suite for build servers, a case for each stream
+          --sarif     a log for build servers, a result for each refusal
 convert   The whole stream in the other form, to standard output or --out FILE,
           which is replaced when all is written. It looks at no codes: a
           converted stream has not been judged.
@@ -60,6 +65,9 @@ for a file or report that is not well made, or nothing expected and nothing ther
 pub const VERSION: &str = concat!("cesr ", env!("CARGO_PKG_VERSION"), "\n");
 
 pub fn numbers() -> String {
-    let line = |number: Number| format!("{:>2}  {}\n", number.get(), number.words());
+    let line = |number: Number| {
+        let (words, usually) = (number.words(), hint::usually(number));
+        format!("{number:>2}  {words}\n    usually {usually}\n")
+    };
     Number::all().map(line).collect()
 }

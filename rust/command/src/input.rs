@@ -61,7 +61,7 @@ pub fn read(source: &Source, form: Option<Form>, progress: &mut Progress) -> Res
         Source::Standard => typed_or_piped(form, progress),
         Source::File(path) => whole(path, form, progress),
     };
-    progress.clear();
+    progress.pause();
     input.map_err(|error| words::of_error(&error))
 }
 

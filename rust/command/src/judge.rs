@@ -4,12 +4,15 @@ use crate::arguments::{Judge, Style};
 use crate::complain;
 use crate::expected::{self, Expected};
 use crate::json;
+use crate::name::shown;
 use crate::outcome::{self, Found, Outcome};
+use crate::pages::{Call, Pages};
 use crate::readable;
 use crate::standing::Standing;
 use crate::terminal::{Paint, Progress};
-use crate::words::counted;
+use crate::total::Total;
 use std::io::{self, IsTerminal, Write};
+use std::time::Instant;
 
 /// The worst standing of all streams.
 pub fn run(task: &Judge, out: &mut dyn Write) -> io::Result<Standing> {
@@ -17,21 +20,41 @@ pub fn run(task: &Judge, out: &mut dyn Write) -> io::Result<Standing> {
         complain("a report is bytes: send it to a file or a pipe");
         return Ok(Standing::Error);
     }
-    let Expected { cases, listed } = expected::of(task);
+    let Expected {
+        cases,
+        listed,
+        digest,
+    } = expected::of(task);
+    let list = task.manifest.as_ref();
+    let call = Call {
+        streams: cases.len(),
+        manifest: list.map(|list| (shown(list.as_os_str()), digest)),
+    };
+    let mut pages = match Pages::begun(task, &cases, &call) {
+        Ok(pages) => pages,
+        Err(why) => {
+            complain(&why);
+            return Ok(Standing::Error);
+        }
+    };
     let (count, lines) = (cases.len(), task.style.is_for_people());
     let alone = count == 1 && listed.is_none();
     // A stream's line and the complaint would stand there one below the other.
     let seen_twice = lines && io::stdout().is_terminal() && io::stderr().is_terminal();
     let (paint, mut progress) = (Paint::told(), Progress::told());
     let mut total = Total::over(listed);
+    progress.stays();
     for (index, case) in cases.into_iter().enumerate() {
         progress.at(index.saturating_add(1), count);
         progress.tick(|| "judging".to_string());
+        let started = Instant::now();
         let outcome = Outcome::of(case, task.form, &mut progress);
         let outcome = one(task.style, alone, out, outcome, paint)?;
         // A stream's line leaves whole, also where many write to one file.
         out.flush()?;
+        pages.add(&outcome, started.elapsed());
         if let Some(why) = outcome.complaint().filter(|_| !seen_twice) {
+            progress.clear();
             complain(&format!("{}: {why}", outcome.name));
         }
         total.add(&outcome);
@@ -39,7 +62,9 @@ pub fn run(task: &Judge, out: &mut dyn Write) -> io::Result<Standing> {
     if lines && !alone {
         writeln!(out, "{}", total.in_words())?;
     }
-    Ok(total.worst())
+    progress.clear();
+    out.flush()?;
+    Ok(total.worst().max(pages.write(&total)))
 }
 
 /// Writes what came of a stream, and gives it back: an error where there was
@@ -84,68 +109,4 @@ fn object(out: &mut dyn Write, outcome: Outcome, all: bool) -> io::Result<Outcom
     };
     out.write_all(&line)?;
     Ok(outcome)
-}
-
-/// Sums over all streams.
-#[derive(Default)]
-struct Total {
-    listed: Option<usize>,
-    standings: Vec<Standing>,
-    accepted: usize,
-    refused: usize,
-    remainders: usize,
-}
-
-impl Total {
-    fn over(listed: Option<usize>) -> Total {
-        Total {
-            listed,
-            ..Total::default()
-        }
-    }
-
-    fn add(&mut self, outcome: &Outcome) {
-        self.standings.push(outcome.standing());
-        if let Found::Judged(_, report) = &outcome.found {
-            self.accepted = self.accepted.saturating_add(report.accepted());
-            self.refused = self.refused.saturating_add(report.refused());
-            let rest = usize::from(report.remainder().is_some());
-            self.remainders = self.remainders.saturating_add(rest);
-        }
-    }
-
-    /// No stream at all is no pass, nor is a pass of other streams than the
-    /// manifest has lines.
-    fn worst(&self) -> Standing {
-        let worst = self.standings.iter().max().copied();
-        let listed = self.listed.unwrap_or(self.standings.len());
-        match worst {
-            Some(worst) if listed == self.standings.len() => worst,
-            _ => Standing::Error,
-        }
-    }
-
-    fn count(&self, standing: Standing) -> usize {
-        let alike = self.standings.iter().filter(|one| **one == standing);
-        alike.count()
-    }
-
-    fn in_words(&self) -> String {
-        let (passed, failed) = (self.count(Standing::Passed), self.count(Standing::Failed));
-        let not_judged = self
-            .standings
-            .len()
-            .saturating_sub(passed.saturating_add(failed));
-        let items = counted(self.accepted.saturating_add(self.refused), "item");
-        let mut streams = counted(self.standings.len(), "stream");
-        if let Some(listed) = self.listed {
-            streams.push_str(&format!(", {listed} expected"));
-        }
-        let rest = counted(self.remainders, "remainder");
-        format!(
-            "{streams}: {passed} passed, {failed} failed, {not_judged} not judged; \
-             {items}, {} accepted, {} refused, {rest}",
-            self.accepted, self.refused
-        )
-    }
 }

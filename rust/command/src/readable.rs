@@ -1,6 +1,8 @@
 //! A stream's outcome for people.
 
 use crate::excerpt;
+use crate::hint;
+use crate::inner::Inner;
 use crate::input::Input;
 use crate::outcome::{code_and_name, Found, Outcome};
 use crate::standing::Standing;
@@ -17,7 +19,13 @@ const SCREENFUL: usize = 8;
 
 /// The line of a stream among many; the first fault stands in it.
 pub fn line(out: &mut dyn Write, outcome: &Outcome, paint: Paint) -> io::Result<()> {
-    let text = match (&outcome.found, outcome.complaint()) {
+    let (word, text) = (word(outcome.standing(), paint), in_a_line(outcome));
+    writeln!(out, "{word}{}: {text}", outcome.name)
+}
+
+/// What came of a stream, without its name and the word in front.
+pub fn in_a_line(outcome: &Outcome) -> String {
+    match (&outcome.found, outcome.complaint()) {
         (Found::Judged(input, report), None) => {
             let detected = if input.detected { " (detected)" } else { "" };
             let mut parts = vec![format!("{}{detected}, {}", input.form, sums(report))];
@@ -26,9 +34,7 @@ pub fn line(out: &mut dyn Write, outcome: &Outcome, paint: Paint) -> io::Result<
             parts.join("; ")
         }
         (_, complaint) => complaint.unwrap_or_default(),
-    };
-    let word = word(outcome.standing(), paint);
-    writeln!(out, "{word}{}: {text}", outcome.name)
+    }
 }
 
 /// The word that opens a line, with colour, in a column of its own.
@@ -41,7 +47,7 @@ fn word(standing: Standing, paint: Paint) -> String {
     }
 }
 
-fn sums(report: &Report) -> String {
+pub fn sums(report: &Report) -> String {
     let items = counted(report.items().len(), "item");
     let (accepted, refused) = (report.accepted(), report.refused());
     let rest = match report.remainder() {
@@ -57,7 +63,7 @@ fn first_fault(report: &Report) -> Option<String> {
 }
 
 /// What may be accepted and was not looked into.
-fn unseen(input: &Input, report: &Report) -> Vec<String> {
+pub fn unseen(input: &Input, report: &Report) -> Vec<String> {
     let mut unseen = Vec::new();
     if input.is_all_zeros() {
         unseen.push("every byte is 0".to_string());
@@ -90,9 +96,10 @@ pub fn block(out: &mut dyn Write, outcome: &Outcome, all: bool, paint: Paint) ->
     if all {
         table(out, input, report, paint)?;
     }
-    let most = if all { usize::MAX } else { SCREENFUL };
+    let (most, mut hints) = (if all { usize::MAX } else { SCREENFUL }, Hints::default());
     for row in report.refusals().take(most) {
         refused(out, input, report, &row, paint)?;
+        hints.tell(out, row.refusal.number)?;
     }
     match report.refusals().len().saturating_sub(most) {
         0 => {}
@@ -100,9 +107,30 @@ pub fn block(out: &mut dyn Write, outcome: &Outcome, all: bool, paint: Paint) ->
         more => writeln!(out, "\n{more} more items are refused: --all lists them")?,
     }
     match report.remainder() {
-        Some(rest) => remainder(out, input, rest, paint),
+        Some(rest) => {
+            remainder(out, input, rest, paint)?;
+            hints.tell(out, rest.number)
+        }
         None => Ok(()),
     }
+}
+
+/// What is usually behind a number, told once in a stream's block.
+#[derive(Default)]
+struct Hints(Vec<Number>);
+
+impl Hints {
+    fn tell(&mut self, out: &mut dyn Write, number: Number) -> io::Result<()> {
+        if self.0.contains(&number) {
+            return Ok(());
+        }
+        self.0.push(number);
+        usually(out, number)
+    }
+}
+
+pub fn usually(out: &mut dyn Write, number: Number) -> io::Result<()> {
+    writeln!(out, "        usually {}", hint::usually(number))
 }
 
 /// Every item with its code's name.
@@ -145,7 +173,26 @@ fn refused(
     let (code, name) = code_and_name(input.form, item.of(&input.bytes));
     let size = measured(input.form, item.size);
     writeln!(out, "        {code} {name}, {size} from {}", item.offset)?;
-    bytes_at(out, input, item.range(), row.refusal)
+    bytes_at(out, input, item.range(), row.refusal)?;
+    asked(out, input, item.range(), row.refusal)
+}
+
+/// For 4: how much is asked for and how much is left.
+pub fn asked(
+    out: &mut dyn Write,
+    input: &Input,
+    part: Range<usize>,
+    refusal: Refusal,
+) -> io::Result<()> {
+    if refusal.number != Number::PAST_END {
+        return Ok(());
+    }
+    let start = part.start;
+    let part = input.bytes.get(part).unwrap_or_default();
+    match Inner::of(input.form, part, start).asked(refusal) {
+        Some(asked) => writeln!(out, "        {asked}"),
+        None => Ok(()),
+    }
 }
 
 fn remainder(out: &mut dyn Write, input: &Input, rest: Remainder, paint: Paint) -> io::Result<()> {
@@ -155,7 +202,8 @@ fn remainder(out: &mut dyn Write, input: &Input, rest: Remainder, paint: Paint) 
     let verdict = paint.bad(&format!("remainder {number} from {offset}"));
     writeln!(out, "\n{verdict}: {}", number.words())?;
     writeln!(out, "        {left} not judged")?;
-    bytes_at(out, input, offset..refusal.place, refusal)
+    bytes_at(out, input, offset..refusal.place, refusal)?;
+    asked(out, input, offset..input.bytes.len(), refusal)
 }
 
 /// The bytes of an item with a caret, and a note where one helps.

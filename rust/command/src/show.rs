@@ -163,6 +163,9 @@ fn tell(
     };
     let refused = paint.bad(&format!("refused {number} at {place}"));
     writeln!(out, "verdict  {refused}, {}", number.words())?;
-    readable::bytes_at(out, input, at..place, Refusal { number, place })?;
+    let refusal = Refusal { number, place };
+    readable::bytes_at(out, input, at..place, refusal)?;
+    readable::asked(out, input, at..input.bytes.len(), refusal)?;
+    readable::usually(out, number)?;
     Ok(Standing::Failed)
 }

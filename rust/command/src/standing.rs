@@ -28,10 +28,14 @@ impl Standing {
 
     /// 0 only for passed.
     pub fn exit(self) -> ExitCode {
+        ExitCode::from(self.status())
+    }
+
+    pub fn status(self) -> u8 {
         match self {
-            Standing::Passed => ExitCode::SUCCESS,
-            Standing::Failed => ExitCode::from(1),
-            Standing::Empty | Standing::Error => ExitCode::from(2),
+            Standing::Passed => 0,
+            Standing::Failed => 1,
+            Standing::Empty | Standing::Error => 2,
         }
     }
 }

@@ -6,7 +6,7 @@ use std::io::{self, IsTerminal};
 use std::time::{Duration, Instant};
 
 /// Work this long is shown.
-const LONG: Duration = Duration::from_millis(500);
+const LONG: Duration = Duration::from_secs(1);
 /// And not more often than this.
 const PAUSE: Duration = Duration::from_millis(100);
 
@@ -29,6 +29,8 @@ impl Paint {
             on: wanted && io::stdout().is_terminal() && !is_dumb(),
         }
     }
+
+    pub const NONE: Paint = Paint { on: false };
 
     pub fn good(self, text: &str) -> String {
         self.with("32", text)
@@ -57,6 +59,8 @@ pub struct Progress {
     /// When the next line may come.
     next: Option<Instant>,
     shown: bool,
+    /// Does nothing else come to the terminal between two streams?
+    stays: bool,
     prefix: String,
 }
 
@@ -77,6 +81,7 @@ impl Progress {
             on,
             next: now.checked_add(LONG),
             shown: false,
+            stays: false,
             prefix: String::new(),
         }
     }
@@ -86,6 +91,11 @@ impl Progress {
         if of > 1 {
             self.prefix = format!("stream {number} of {of}, ");
         }
+    }
+
+    /// Where lines go elsewhere, progress stays from stream to stream.
+    pub fn stays(&mut self) {
+        self.stays = !io::stdout().is_terminal();
     }
 
     /// Is the stream typed at a terminal? Says then that it is waited for, and
@@ -119,6 +129,13 @@ impl Progress {
         Some(format!("\r\u{1b}[K{}{}", self.prefix, text()))
     }
 
+    /// A stream is read: its line may come to the terminal.
+    pub fn pause(&mut self) {
+        if !self.stays {
+            self.clear();
+        }
+    }
+
     /// Clears the line, before anything else is written.
     pub fn clear(&mut self) {
         if self.shown {
@@ -137,8 +154,8 @@ mod tests {
         progress.line(now.expect("a time"), || format!("{after} ms"))
     }
 
-    /// Short work shows nothing, long work a line after half a second and then
-    /// ten a second.
+    /// Short work shows nothing, long work a line after a second and then ten a
+    /// second.
     #[test]
     fn progress_by_the_clock() {
         let start = Instant::now();
@@ -146,10 +163,10 @@ mod tests {
         progress.at(2, 3);
         for (after, shown) in [
             (0, false),
-            (499, false),
-            (500, true),
-            (599, false),
-            (600, true),
+            (999, false),
+            (1_000, true),
+            (1_099, false),
+            (1_100, true),
             (5_000, true),
             (5_001, false),
         ] {

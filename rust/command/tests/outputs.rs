@@ -37,7 +37,7 @@ out, err = writes(['judge', '--json', 'gone.cesr', '-', 'samples/clean.cesr'], l
 assert len(out) == 3 and all(piece.endswith(b'\\n') for piece in out) and len(out[1]) > 80000, out
 assert err == [b'cesr: gone.cesr: No such file or directory\\n'], err
 _, err = writes(['convert', '--to', 'binary'], b'MAAB!!!!')
-assert len(err) == 1 and err[0].count(b'\\n') == 4, err
+assert len(err) == 1 and err[0].count(b'\\n') == 5, err
 _, err = writes(['jugde'])
 assert len(err) == 1 and err[0].endswith(b\"\\nTry 'cesr --help'.\\n\"), err
 ";
@@ -257,10 +257,10 @@ fn the_small_code_is_told() {
     ] {
         let said = format!("        the small code's header is {short}\n");
         let ran = fed(&["judge", "--form=text"], stream.as_bytes());
-        assert!(ran.text().ends_with(&said), "{}", ran.text());
+        assert!(ran.text().contains(&said), "{}", ran.text());
         let binary = fed(&["convert", "--to", "binary"], stream.as_bytes()).out;
         let ran = fed(&["judge", "--form=binary"], &binary);
-        assert!(ran.text().ends_with(&said), "{}", ran.text());
+        assert!(ran.text().contains(&said), "{}", ran.text());
     }
     let ran = fed(&["show", "4", "--form", "text"], b"-AAD8AAHAAABAAAA");
     let told = "stream   standard input: text
@@ -271,6 +271,7 @@ verdict  refused 18 at 4, large variable code or large group whose size fits the
        4  8AAHAAABAAAA
           ^
         the small code's header is 5HAB
+        usually a writer that takes the large code for every size
 ";
     assert_eq!((ran.status, ran.text().as_str()), (1, told));
 }

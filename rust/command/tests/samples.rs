@@ -180,6 +180,10 @@ fn a_refused_conversion_writes_nothing() {
     let ran = fed(&["convert", "--to", "binary"], b"MAABMAA=");
     assert_eq!((ran.out.as_slice(), ran.status), (&b""[..], 2));
     assert_eq!(ran.err, expected("convert-19.txt"));
+    let ran = fed(&["convert", "--to", "binary"], b"+AAB");
+    assert!(ran
+        .err
+        .contains("URL-safe Base64 has - for the + at 0\n        usually "));
     let ran = fed(&["convert", "--to", "binary"], b"MAAB\n");
     assert_eq!((ran.out.as_slice(), ran.status), (&b""[..], 2));
     assert_eq!(ran.err, expected("convert-2.txt"));

@@ -88,6 +88,22 @@ assert b', 0 refused, no remainder' in piped and ESC not in piped, piped
     );
 }
 
+/// Of many streams it says which one is at work, also where files are written
+/// beside the lines, and the lines are what they are without it.
+#[test]
+fn progress_over_many_streams() {
+    holds(
+        "
+names = ['samples/clean.cesr', '-', 'samples/cut.cesr']
+at, piped = play(['judge', '--html', '/dev/null'] + names, False, True, until=b'stream 2 of 3, ')
+assert b'stream 2 of 3, ' in at and at.endswith(b'\\r\\x1b[K') and b'\\n' not in at, at
+assert piped.startswith(b'passed') and piped.count(b'\\n') == 4 and ESC not in piped, piped
+at, piped = play(['judge'] + names[:1] * 3 + ['gone.cesr'], False, True)
+assert at == b'cesr: gone.cesr: No such file or directory\\r\\n', at
+",
+    );
+}
+
 /// A stream that is typed: one end is enough, and the report starts on a line
 /// of its own.
 #[test]

@@ -1,0 +1,197 @@
+//! What stands at the place of a refusal: the item that is refused, the groups
+//! that it stands within, and how much it asks for where that is more than is
+//! left.
+//!
+//! For display only, and by the library's answers alone: the walk says where it
+//! stopped and which groups are open there, and how much an item asks for is
+//! the size that the library gives it with enough behind its header.
+
+use crate::words::measured;
+use cesr::{item_at, to_text, Code, Form, Head, Number, Refusal, Step, Walk, STATE_POSITION};
+
+/// Characters behind a header that are enough for an item: a fixed one, a small
+/// one, a large one.
+const ENOUGH: [usize; 3] = [256, 16_388, 4_194_304];
+
+/// Where a walk through a part of a stream stopped.
+#[derive(Debug)]
+pub struct Inner {
+    form: Form,
+    /// The groups that are open there, outermost first.
+    pub groups: Vec<Step>,
+    /// Where the refused item starts.
+    pub at: usize,
+    /// Its code, if it has one of the registry.
+    pub head: Option<Head>,
+    /// What asks: the first two units, as far as they are there.
+    start: Vec<u8>,
+    /// What is left for it, in its group or in the stream.
+    left: usize,
+}
+
+impl Inner {
+    /// `part` is an item that is refused, or the remainder; it starts at
+    /// `start`, and so do the places that are told.
+    pub fn of(form: Form, part: &[u8], start: usize) -> Inner {
+        let mut walk = Walk::new(form, part);
+        let mut groups: Vec<Step> = Vec::new();
+        for step in walk.by_ref().map_while(Result::ok) {
+            groups.retain(|group| end_of(group) > step.offset);
+            if step.head.code.is_group() {
+                groups.push(step);
+            }
+        }
+        let at = position(form, &walk);
+        groups.retain(|group| end_of(group) > at);
+        let end = groups.last().map_or(part.len(), end_of);
+        let here = part.get(at..end).unwrap_or_default();
+        for group in &mut groups {
+            group.offset = group.offset.saturating_add(start);
+        }
+        Inner {
+            form,
+            groups,
+            at: at.saturating_add(start),
+            head: Head::of(form, here),
+            start: here
+                .iter()
+                .take(form.unit().saturating_mul(2))
+                .copied()
+                .collect(),
+            left: here.len(),
+        }
+    }
+
+    /// For 4: how much is asked for, and how much is left.
+    pub fn asked(&self, refusal: Refusal) -> Option<String> {
+        let left = measured(self.form, self.left);
+        let are = if self.left == 1 { "is" } else { "are" };
+        let asked = match (refusal.number == Number::PAST_END, self.size()) {
+            (false, _) => return None,
+            (true, Some(size)) => measured(self.form, size),
+            (true, None) => "more".to_string(),
+        };
+        Some(format!("asks for {asked}, {left} {are} left"))
+    }
+
+    /// The size that it asks for: of its header where that is not all there.
+    fn size(&self) -> Option<usize> {
+        let unit = self.form.unit();
+        let Some(head) = self.head else {
+            return (self.left < unit).then_some(unit);
+        };
+        let units: usize = match head.code {
+            Code::Large { .. } | Code::LargeGroup { .. } | Code::GenusVersion => 2,
+            _ => 1,
+        };
+        let length = units.saturating_mul(unit);
+        let Some(header) = self.start.get(..length) else {
+            return Some(length);
+        };
+        let header = match (self.form, head.code) {
+            // Its size is its code's: what stands behind that may be wrong too.
+            (_, Code::Fixed { .. }) => head.to_string().into_bytes(),
+            (Form::Text, _) => header.to_vec(),
+            (Form::Binary, _) => to_text(header).ok()?,
+        };
+        let units = size_in_text(&header)?.checked_div(Form::Text.unit())?;
+        Some(units.saturating_mul(unit))
+    }
+}
+
+/// Where a walk stands: behind what it yielded, before what it refused.
+pub fn position(form: Form, walk: &Walk) -> usize {
+    let units = walk.state().numbers().get(STATE_POSITION).copied();
+    units.unwrap_or(0).saturating_mul(form.unit())
+}
+
+pub fn end_of(group: &Step) -> usize {
+    group.offset.saturating_add(group.size)
+}
+
+/// What the library says to an item of this header with enough behind it. The
+/// prepad of a tag is `_`, and zeros are right everywhere else.
+fn size_in_text(header: &[u8]) -> Option<usize> {
+    let size = |length: usize, first: u8| {
+        let mut whole = [header, &[first]].concat();
+        whole.resize(length, b'A');
+        item_at(Form::Text, &whole, 0).ok().map(|step| step.size)
+    };
+    let mut tried = ENOUGH
+        .iter()
+        .flat_map(|length| [(*length, b'A'), (*length, b'_')]);
+    tried.find_map(|(length, first)| size(length, first))
+}
+
+#[cfg(test)]
+mod tests {
+    use super::*;
+
+    fn asked(form: Form, part: &[u8]) -> Option<String> {
+        let refusal = Walk::new(form, part).find_map(Result::err)?;
+        Inner::of(form, part, 100).asked(refusal)
+    }
+
+    /// 01's sizes: `0A` 24, a small group 4 + 4n, a large one 8 + 4n, `0J` 4,
+    /// `1AAN` 12, and headers of two units.
+    #[test]
+    fn how_much_is_asked_and_left() {
+        for (part, said) in [
+            (
+                &b"-AAB0AAA"[..],
+                "asks for 24 characters, 4 characters are left",
+            ),
+            (b"-SARMAAB", "asks for 72 characters, 8 characters are left"),
+            (
+                b"--AAABAA",
+                "asks for 16392 characters, 8 characters are left",
+            ),
+            (b"--AA", "asks for 8 characters, 4 characters are left"),
+            (b"1AANAAA", "asks for 12 characters, 7 characters are left"),
+            (b"0K", "asks for 4 characters, 2 characters are left"),
+            (b"0LAA", "asks for 8 characters, 4 characters are left"),
+            (b"E!!!", "asks for 4 characters, 3 characters are left"),
+            (
+                b"4B__AAAA",
+                "asks for 16384 characters, 8 characters are left",
+            ),
+            (b"7AAB____", "asks for more, 8 characters are left"),
+            (b"MAAB\n", "asks for 4 characters, 1 character is left"),
+        ] {
+            let told = asked(Form::Text, part);
+            let stranger = part.contains(&b'!');
+            assert_eq!(
+                told.as_deref(),
+                (!stranger).then_some(said),
+                "{}",
+                part.escape_ascii()
+            );
+        }
+        let cut = cesr::to_binary(b"-SARMAAB").expect("whole units");
+        let said = "asks for 54 bytes, 6 bytes are left";
+        assert_eq!(asked(Form::Binary, &cut).as_deref(), Some(said));
+        assert_eq!(asked(Form::Text, b"MQAA"), None);
+    }
+
+    /// The item at the place, and the groups that are open there.
+    #[test]
+    fn in_which_groups_an_item_stands() {
+        let inner = Inner::of(Form::Text, b"-AAE-BABMAAB-CABMQAA", 100);
+        let groups: Vec<_> = inner
+            .groups
+            .iter()
+            .map(|group| (group.offset, group.size))
+            .collect();
+        assert_eq!((groups, inner.at), (vec![(100, 20), (112, 8)], 116));
+        assert_eq!(
+            inner.head.and_then(|head| head.name()),
+            Some("Short number 2-byte b2")
+        );
+        // 5 has the character's place; the item starts before it.
+        let inner = Inner::of(Form::Text, b"-AAC0HAAAA!A", 0);
+        assert_eq!((inner.at, inner.groups.len()), (4, 1));
+        // A group that is closed is left out, also an empty one and one that ends with its outer one.
+        let inner = Inner::of(Form::Text, b"-AAC-AAA-AAAMQAA", 0);
+        assert_eq!((inner.at, inner.groups.len()), (12, 0));
+    }
+}
