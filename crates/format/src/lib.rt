@@ -125,7 +125,7 @@ pub struct BinaryRead {
     pub tag: [u8; 11],
 }
 
-// What writing a primitive answers: the length written, or a number and, for 5, the index of the tag character.
+// What writing a primitive answers: the length written, or a number and, for 5 and 19, the index of the tag character.
 pub enum TextWritten {
     Written(TextOffset),
     Refused(u8, usize),

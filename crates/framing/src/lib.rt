@@ -118,7 +118,7 @@ fn known_first(cs: [u8; 12], next: Framed) -> Framed
     next
 }
 
-// An item with these first sextets, which must end within so many units: 4, 5, 6, 4, 5, 4.
+// An item with these first sextets, which must end within so many units: 4, 5 or 19, 6, 4, 5 or 19, 4.
 pub fn frame_head(cs: [u8; 12], len: usize) -> Framed
     ensures { λ r. ⌜ r ≡ frameWith opening (λ i. getD cs i 0) len ⌝ }
 {
