@@ -1,4 +1,4 @@
--- `walk_state::is_fit` meets its contract. The tests of 13 in the order of isFit. Assumes nothing.
+-- `walk_fit::is_fit` meets its contract. The tests of 13 in the order of isFit. Assumes nothing.
 use native.Mathlib.Omega.{arith}
 use borrow.Author.Tests.{not-true, not-false}
 use Rattle.walk_fit.proofs.Laws.{fit-many, fit-past, fit-slots, fit-top, fit-inner}

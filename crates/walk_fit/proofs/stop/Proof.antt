@@ -1,4 +1,4 @@
--- `walk_state::stop` meets its contract. Past the slots an end reads as 0. Assumes nothing.
+-- `walk_fit::stop` meets its contract. Past the slots an end reads as 0. Assumes nothing.
 use mathlib.Core.Path.{sym}
 use Prim.Native.Nat.{_-_}
 use native.Mathlib.Omega.{arith}
