@@ -1,10 +1,10 @@
--- `writing_code::count_for` meets its contract: one more than the whole triplets where there is a lead. Assumes nothing.
+-- `writing_sizes::count_for` meets its contract: one more than the whole triplets where there is a lead. Assumes nothing.
 use native.Mathlib.Omega.{arith}
 use Rattle.format.specs.Writing.{leadFor, countFor}
-use Rattle.writing_code.proofs.count_for.Statement.{statement}
-use Rattle.writing_code.proofs.count_for.Tie as tie
-use Rattle.writing_code.proofs.count_for.Reads as reads
-use Rattle.writing_code.proofs.count_for.Lts as lts
+use Rattle.writing_sizes.proofs.count_for.Statement.{statement}
+use Rattle.writing_sizes.proofs.count_for.Tie as tie
+use Rattle.writing_sizes.proofs.count_for.Reads as reads
+use Rattle.writing_sizes.proofs.count_for.Lts as lts
 
 add-result : tie.Need-add-result
 add-result c = omega arith

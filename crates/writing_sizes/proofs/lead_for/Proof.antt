@@ -1,11 +1,11 @@
 use native.Mathlib.Omega.{arith}
 use Rattle.format.specs.Writing.{leadFor}
 use borrow.Author.Needs.{needs}
-use Rattle.writing_code.proofs.lead_for.Statement.{statement}
-use Rattle.writing_code.proofs.lead_for.Tie as tie
-use Rattle.writing_code.proofs.lead_for.Reads as reads
-use Rattle.writing_code.proofs.lead_for.Lts as lts
-use Rattle.writing_code.proofs.narrow.Reads as narrow-reads
+use Rattle.writing_sizes.proofs.lead_for.Statement.{statement}
+use Rattle.writing_sizes.proofs.lead_for.Tie as tie
+use Rattle.writing_sizes.proofs.lead_for.Reads as reads
+use Rattle.writing_sizes.proofs.lead_for.Lts as lts
+use Rattle.writing_sizes.proofs.narrow.Reads as narrow-reads
 
 sub-narrow : tie.Need-sub-narrow
 sub-narrow c = search needs
