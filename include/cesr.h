@@ -4,9 +4,9 @@
  * returns a number: 0 for accepted, or one of the numbers below for refused. A refused call writes to no buffer, tag, info, item or
  * state: it writes only the place behind `answer`, and a comparison its five zeros; a walk in instalments that is refused on the way has
  * taken the items before it. An accepted call writes its answer from the buffer's start; bytes behind it stay. The place is the character
- * for 5 and 19, else the item's start; 0 for 1, 2, 3, 12, 13, 20 and for a writer's 6 and 18, and for a writer's 5 and 19 the index among
- * the tag characters. Places, offsets and lengths count characters in T and bytes in B. Where 5 stands in the order of a call, the first
- * character outside the alphabet gives 5 or 19.
+ * for 5 and 19, else the item's start; 0 for 1, 2, 3, 12, 13, 20 and for a writer's 6, 16 and 18, and for a writer's 5 and 19 the index
+ * among the tag characters or in the text. Places, offsets and lengths count characters in T and bytes in B. Where 5 stands in the order
+ * of a call, the first character outside the alphabet gives 5 or 19.
  *
  * What the caller ensures: no pointer is null, also where its length is 0; what is written (buffer, tag, info, item, state, items,
  * answer) overlaps nothing else that the call is given; each length is that of the memory behind its pointer. The library keeps nothing
@@ -27,7 +27,7 @@ enum cesr_number {
     CESR_NOT_WHOLE_UNITS = 2,     /* whole-stream conversion: not whole units */
     CESR_ROOM = 3,                /* output room too small */
     CESR_PAST_END = 4,            /* header or full size passes the end of stream or enclosing group */
-    CESR_CHARACTER = 5,           /* character outside the alphabet but + / = (in T, or a tag character given to a writer) */
+    CESR_CHARACTER = 5,           /* character outside the alphabet but + / = (in T, or a character of a tag or text given to a writer) */
     CESR_UNKNOWN_CODE = 6,        /* code unknown or reserved */
     CESR_GENUS_VERSION = 7,       /* genus/version required but not AAACAA */
     CESR_NOT_ZERO = 8,            /* pad bit or lead byte not zero */
@@ -37,8 +37,9 @@ enum cesr_number {
     CESR_UNFIT_LENGTH = 12,       /* writer: raw length or tag length unfit for the code */
     CESR_UNFIT_STATE = 13,        /* walk state unfit for the stream */
     CESR_NOT_A_PRIMITIVE = 14,    /* primitive asked for, group or genus/version found */
+    CESR_TEXT_FILL = 16,          /* type A without its full fill, or text that itself starts with A */
     CESR_NOT_SHORT = 18,          /* large variable code or large group whose size fits the small code */
-    CESR_ORDINARY_BASE64 = 19,    /* + / or = of ordinary Base64 (in T, or a tag character given to a writer) */
+    CESR_ORDINARY_BASE64 = 19,    /* + / or = of ordinary Base64 (in T, or a character of a tag or text given to a writer) */
     CESR_MALFORMED = 20,          /* expectation file or report with a missing count, a section shorter than its count says, a remainder
                                    * count above 1, or bytes left over */
     CESR_END = 255                /* the walk alone: the end of the stream */
@@ -59,33 +60,42 @@ uint8_t cesr_report_text(const uint8_t *stream, size_t stream_len, uint8_t *out,
 uint8_t cesr_report_binary(const uint8_t *stream, size_t stream_len, uint8_t *out, size_t out_len, size_t *answer);
 
 /* A code is two numbers. chars: 1, 2 or 4 for a fixed code of so many characters, 5 for a small variable, 6 for a large one. letter:
- * the code's last character, or the variable's type. */
+ * the code's last character, or the variable's type. The value of type A is text: characters of the alphabet, filled up in front with A
+ * to whole units, by none or one under selectors 4 and 7, by two under 5 and 8, by three under 6 and 9. It starts with another character
+ * than A. Readers and writers take the fill off and put it there. */
 
-/* What info holds after an accepted read. */
+/* What info holds after an accepted read: CESR_INFO numbers. */
 enum cesr_info {
     CESR_INFO_CHARS = 0,
     CESR_INFO_LETTER = 1,
     CESR_INFO_SIZE = 2,  /* full size in units */
-    CESR_INFO_START = 3, /* where the raw value starts, in bytes of the item's binary form */
-    CESR_INFO_RAW = 4,   /* raw length in bytes */
-    CESR_INFO_TAGS = 5   /* number of tag characters */
+    CESR_INFO_START = 3, /* where the raw value starts, in bytes of the item's binary form; of a text it is empty at the item's end */
+    CESR_INFO_RAW = 4,   /* raw length in bytes; 0 for a text */
+    CESR_INFO_TAGS = 5,  /* number of tag characters */
+    CESR_INFO_TEXT = 6,  /* number of characters of a text; 0 for any other code */
+    CESR_INFO = 7
 };
 
-/* Reads the primitive of a text at an offset: 1, 4 at or past the end, framing (never 7), 14, judging, 3. The raw value is copied to
- * out; room asked is its length. The tag characters go to tag, unused places 0. *answer: the raw length, or the place. Refused, out,
- * tag and info stay as they were; accepted, bytes of out behind the raw value stay. */
+/* Reads the primitive of a text at an offset: 1, 4 at or past the end, framing (never 7), 14, judging, 3. The raw value, or the
+ * characters of type A, are copied to out; room asked is their number. The tag characters go to tag, unused places 0. *answer: the length
+ * of what was copied, info[CESR_INFO_RAW] + info[CESR_INFO_TEXT], or the place. Refused, out, tag and info stay as they were; accepted,
+ * bytes of out behind what was copied stay. */
 uint8_t cesr_read_text(const uint8_t *stream, size_t stream_len, size_t at, uint8_t *out, size_t out_len, uint8_t tag[11],
-                       size_t info[6], size_t *answer);
+                       size_t info[CESR_INFO], size_t *answer);
 
-/* Reads the primitive of a binary at an offset: 1, 4 at or past the end, framing (never 7), 14, judging. The raw value isn't copied:
- * it is the part of the stream of info[4] bytes from at + info[3] on. *answer: the raw length, or the place. Refused, tag and info
- * stay as they were. */
-uint8_t cesr_read_binary(const uint8_t *stream, size_t stream_len, size_t at, uint8_t tag[11], size_t info[6], size_t *answer);
+/* Reads the primitive of a binary at an offset: 1, 4 at or past the end, framing (never 7), 14, judging, 3 for type A alone. Its
+ * characters are copied to out, as above. Any other value isn't copied, asks no room and leaves out as it was: it is the part of the
+ * stream of info[CESR_INFO_RAW] bytes from at + info[CESR_INFO_START] on. *answer: the value's length, info[CESR_INFO_RAW] +
+ * info[CESR_INFO_TEXT], or the place. Refused, out, tag and info stay as they were. */
+uint8_t cesr_read_binary(const uint8_t *stream, size_t stream_len, size_t at, uint8_t *out, size_t out_len, uint8_t tag[11],
+                         size_t info[CESR_INFO], size_t *answer);
 
-/* Writes a primitive as text: 6 (any code that isn't a primitive's), 12, 18, 5 (tags), 3. tags: how many places of tag count; the
- * others are ignored. A variable is small up to 12,285 raw bytes, where a large one is 18, and large from 12,286 on, where a small one
- * is 12. Room asked is the exact size. *answer: the characters written, or the place. Refused, out stays as it was; accepted, bytes
- * behind the item stay. A second item goes into the rest of the buffer: out + *answer, out_len - *answer. */
+/* Writes a primitive as text: 6 (any code that isn't a primitive's), 12, 18, 5 (tags and text), 16 (text that starts with A), 3. tags:
+ * how many places of tag count; the others are ignored. raw: the raw value, or the characters of type A without their fill. A variable is
+ * small up to 12,285 raw bytes, where a large one is 18, and large from 12,286 to 3,145,722, where a small one is 12; a text likewise, by
+ * its characters with their fill, up to 16,380 and from 16,384 to 4,194,296. Room asked is the exact size. *answer: the characters written,
+ * or the place. Refused, out stays as it was; accepted, bytes behind the item stay. A second item goes into the rest of the buffer: out +
+ * *answer, out_len - *answer. */
 uint8_t cesr_write_text(uint8_t chars, uint8_t letter, const uint8_t tag[11], size_t tags, const uint8_t *raw, size_t raw_len,
                         uint8_t *out, size_t out_len, size_t *answer);
 

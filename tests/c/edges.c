@@ -183,22 +183,30 @@ static void cut_in_both_forms(const char *text, uint8_t told) {
 
 /* ---- reading */
 
-static void read_at(const char *text, size_t at, size_t room, uint8_t number, size_t raw) {
-    size_t length = strlen(text);
-    uint8_t *source = copied(text, length), *out = exact(room), *tag = exact(11);
-    size_t *info = exact(6 * sizeof *info), *answer = exact(sizeof *answer);
+typedef uint8_t reads(const uint8_t *, size_t, size_t, uint8_t *, size_t, uint8_t *, size_t *, size_t *);
+
+/* A value of `length`, of which `copied_out` go to the buffer. */
+static void read_stream(reads *call, const void *stream, size_t size, size_t at, size_t room, uint8_t number, size_t length,
+                        size_t copied_out) {
+    uint8_t *source = copied(stream, size), *out = exact(room), *tag = exact(11);
+    size_t *info = exact(CESR_INFO * sizeof *info), *answer = exact(sizeof *answer);
     calls++;
-    check(cesr_read_text(source, length, at, out, room, tag, info, answer) == number, "number of a read", at);
+    check(call(source, size, at, out, room, tag, info, answer) == number, "number of a read", at);
     if (number == 0) {
-        check(*answer == raw && held(out, raw, room), "bytes behind the raw value stay", at);
+        check(*answer == length && held(out, copied_out, room), "bytes behind the value stay", at);
+        check(info[CESR_INFO_RAW] + info[CESR_INFO_TEXT] == length, "lengths", at);
     } else {
-        check(held(out, 0, room) && held(tag, 0, 11) && held(info, 0, 6 * sizeof *info), "a refused read writes nothing", at);
+        check(held(out, 0, room) && held(tag, 0, 11) && held(info, 0, CESR_INFO * sizeof *info), "a refused read writes nothing", at);
     }
     free(source);
     free(out);
     free(tag);
     free(info);
     free(answer);
+}
+
+static void read_at(const char *text, size_t at, size_t room, uint8_t number, size_t length) {
+    read_stream(cesr_read_text, text, strlen(text), at, room, number, length, length);
 }
 
 static void reading(void) {
@@ -217,34 +225,59 @@ static void reading(void) {
     read_at(digest, SIZE_MAX, 0, CESR_PAST_END, 0);
 }
 
+/* Out of both forms, into each room. */
+static void reading_texts(void) {
+    static const char *items[] = {"4AAA", "4AAB-4-5", "4AADA-a-personal", "5AAEAA-4-5-legalName", "6AAEAAA-a-personal-1"};
+    static const size_t lengths[] = {0, 4, 11, 14, 13};
+    for (size_t i = 0; i < 5; i++) {
+        size_t size = strlen(items[i]), length = lengths[i], answer = 0;
+        uint8_t binary[15];
+        check(cesr_text_to_binary((const uint8_t *)items[i], size, binary, size / 4 * 3, &answer) == 0, "whole units", i);
+        for (size_t room = 0; room <= length + 2; room++) {
+            uint8_t told = room < length ? CESR_ROOM : 0;
+            read_stream(cesr_read_text, items[i], size, 0, room, told, length, length);
+            read_stream(cesr_read_binary, binary, size / 4 * 3, 0, room, told, length, length);
+        }
+    }
+    read_at("4AABAAAA", 0, 0, CESR_TEXT_FILL, 0);
+    read_at("5AABAB-a", 0, 9, CESR_TEXT_FILL, 0);
+}
+
 static void reading_binary(void) {
     for (size_t length = 0; length <= 6; length++) {
-        uint8_t *source = copied("\x30\x00\x01\x58\x68\x69", length), *tag = exact(11);
-        size_t *info = exact(6 * sizeof *info), *answer = exact(sizeof *answer);
+        uint8_t *source = copied("\x30\x00\x01\x58\x68\x69", length), *out = exact(0), *tag = exact(11);
+        size_t *info = exact(CESR_INFO * sizeof *info), *answer = exact(sizeof *answer);
         uint8_t told = length == 6 ? 0 : CESR_PAST_END;
         calls++;
-        check(cesr_read_binary(source, length, 3, tag, info, answer) == told, "number of a binary read", length);
+        check(cesr_read_binary(source, length, 3, out, 0, tag, info, answer) == told, "number of a binary read", length);
         if (told == 0) {
             check(source[3 + info[CESR_INFO_START]] == 'h' && info[CESR_INFO_RAW] == 2, "the part", length);
         } else {
-            check(held(tag, 0, 11) && held(info, 0, 6 * sizeof *info), "a refused read writes nothing", length);
+            check(held(tag, 0, 11) && held(info, 0, CESR_INFO * sizeof *info), "a refused read writes nothing", length);
         }
         free(source);
+        free(out);
         free(tag);
         free(info);
         free(answer);
     }
+    /* Room for what is not copied stays as it was. */
+    read_stream(cesr_read_binary, "\x58\x68\x69", 3, 0, 5, 0, 2, 0);
 }
 
 /* ---- writing */
 
 typedef uint8_t writes(uint8_t, uint8_t, const uint8_t *, size_t, const uint8_t *, size_t, uint8_t *, size_t, size_t *);
 
-static void write_to(writes *call, uint8_t chars, size_t raw_length, size_t room, uint8_t number, size_t written) {
+/* Of type A a text of one letter. */
+static void write_as(uint8_t letter, writes *call, uint8_t chars, size_t raw_length, size_t room, uint8_t number, size_t written) {
     uint8_t *raw = exact(raw_length), *tag = exact(11), *out = exact(room);
     size_t *answer = exact(sizeof *answer);
+    if (letter == 'A') {
+        memset(raw, 'a', raw_length);
+    }
     calls++;
-    check(call(chars, 'B', tag, 0, raw, raw_length, out, room, answer) == number, "number of a write", raw_length);
+    check(call(chars, letter, tag, 0, raw, raw_length, out, room, answer) == number, "number of a write", raw_length);
     if (number == 0) {
         check(*answer == written && held(out, written, room), "bytes behind the item stay", raw_length);
     } else {
@@ -256,30 +289,41 @@ static void write_to(writes *call, uint8_t chars, size_t raw_length, size_t room
     free(answer);
 }
 
-/* A value of the type `B`, small or large, with each lead, into each room. */
-static void written(uint8_t chars, size_t raw_length) {
-    size_t units = (chars == 6 ? 2 : 1) + (raw_length + 2) / 3;
-    write_to(cesr_write_text, chars, raw_length, 4 * units, 0, 4 * units);
-    write_to(cesr_write_text, chars, raw_length, 4 * units + 5, 0, 4 * units);
-    write_to(cesr_write_text, chars, raw_length, 4 * units - 1, CESR_ROOM, 0);
-    write_to(cesr_write_text, chars, raw_length, 0, CESR_ROOM, 0);
-    write_to(cesr_write_binary, chars, raw_length, 3 * units, 0, 3 * units);
-    write_to(cesr_write_binary, chars, raw_length, 3 * units - 1, CESR_ROOM, 0);
-    write_to(cesr_write_binary, chars, raw_length, 0, CESR_ROOM, 0);
+static void write_to(writes *call, uint8_t chars, size_t raw_length, size_t room, uint8_t number, size_t written) {
+    write_as('B', call, chars, raw_length, room, number, written);
+}
+
+/* A value of the type `B`, three bytes a unit, or `A`, four characters, small or large, with each lead, into each room. */
+static void written(uint8_t letter, uint8_t chars, size_t raw_length) {
+    size_t held_by = letter == 'A' ? 4 : 3;
+    size_t units = (chars == 6 ? 2 : 1) + (raw_length + held_by - 1) / held_by;
+    write_as(letter, cesr_write_text, chars, raw_length, 4 * units, 0, 4 * units);
+    write_as(letter, cesr_write_text, chars, raw_length, 4 * units + 5, 0, 4 * units);
+    write_as(letter, cesr_write_text, chars, raw_length, 4 * units - 1, CESR_ROOM, 0);
+    write_as(letter, cesr_write_text, chars, raw_length, 0, CESR_ROOM, 0);
+    write_as(letter, cesr_write_binary, chars, raw_length, 3 * units, 0, 3 * units);
+    write_as(letter, cesr_write_binary, chars, raw_length, 3 * units - 1, CESR_ROOM, 0);
+    write_as(letter, cesr_write_binary, chars, raw_length, 0, CESR_ROOM, 0);
+}
+
+/* Around the most that a small code holds, one unit of it less and more. */
+static void around_small(uint8_t letter, size_t most, size_t unit) {
+    for (size_t length = 0; length < 12; length++) {
+        written(letter, 5, length);
+        write_as(letter, cesr_write_text, 6, length, 0, CESR_NOT_SHORT, 0);
+        write_as(letter, cesr_write_binary, 6, length, 40, CESR_NOT_SHORT, 0);
+    }
+    for (size_t length = most + 1 - unit; length <= most; length++) {
+        written(letter, 5, length);
+        write_as(letter, cesr_write_text, 6, length, 20000, CESR_NOT_SHORT, 0);
+        write_as(letter, cesr_write_text, 5, length + unit, 20000, CESR_UNFIT_LENGTH, 0);
+        written(letter, 6, length + unit);
+    }
 }
 
 static void writing(void) {
-    for (size_t length = 0; length < 12; length++) {
-        written(5, length);
-        write_to(cesr_write_text, 6, length, 0, CESR_NOT_SHORT, 0);
-        write_to(cesr_write_binary, 6, length, 40, CESR_NOT_SHORT, 0);
-    }
-    for (size_t length = 12283; length <= 12285; length++) {
-        written(5, length);
-        write_to(cesr_write_text, 6, length, 20000, CESR_NOT_SHORT, 0);
-        write_to(cesr_write_text, 5, length + 3, 20000, CESR_UNFIT_LENGTH, 0);
-        written(6, length + 3);
-    }
+    around_small('B', 12285, 3);
+    around_small('A', 16380, 4);
     /* A fixed code takes just its length: `B` has 32 bytes. */
     write_to(cesr_write_text, 1, 32, 44, 0, 44);
     write_to(cesr_write_text, 1, 32, 43, CESR_ROOM, 0);
@@ -331,6 +375,9 @@ static void limits(void) {
     write_to(cesr_write_text, 6, 3145722, TEXT_LIMIT - 1, CESR_ROOM, 0);
     write_to(cesr_write_binary, 6, 3145722, BINARY_LIMIT, 0, BINARY_LIMIT);
     write_to(cesr_write_binary, 6, 3145723, BINARY_LIMIT, CESR_UNFIT_LENGTH, 0);
+    write_as('A', cesr_write_text, 6, 4194296, TEXT_LIMIT, 0, TEXT_LIMIT);
+    write_as('A', cesr_write_binary, 6, 4194296, BINARY_LIMIT, 0, BINARY_LIMIT);
+    write_as('A', cesr_write_text, 6, 4194297, TEXT_LIMIT, CESR_UNFIT_LENGTH, 0);
 }
 
 /* ---- expected verdicts and a report */
@@ -366,6 +413,7 @@ int main(void) {
     cut_in_both_forms("MAAB9AABAAABAABh", CESR_NOT_SHORT);
     reading();
     reading_binary();
+    reading_texts();
     writing();
     limits();
     comparing();

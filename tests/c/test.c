@@ -47,6 +47,7 @@ static const uint8_t REFUSED_8[] = {0, 0, 0, 1, 0, 0, 0, 0, 0, 0, 0, 4, 8, 0, 0,
 static const uint8_t REST_4[] = {0, 0, 0, 0, 0, 0, 0, 0, 0, 0, 0, 1, 0, 0, 0, 0, 4};
 static const uint8_t REST_6[] = {0, 0, 0, 0, 0, 0, 0, 0, 0, 0, 0, 1, 0, 0, 0, 0, 6};
 static const uint8_t INNER_7[] = {0, 0, 0, 1, 0, 0, 0, 0, 0, 0, 0, 12, 7, 0, 0, 0, 1, 0, 0, 0, 0, 7, 0, 0, 0, 4, 0, 0, 0, 0};
+static const uint8_t REFUSED_16[] = {0, 0, 0, 1, 0, 0, 0, 0, 0, 0, 0, 8, 16, 0, 0, 0, 1, 0, 0, 0, 0, 16, 0, 0, 0, 0, 0, 0, 0, 0};
 static const uint8_t REFUSED_18[] = {0, 0, 0, 1, 0, 0, 0, 0, 0, 0, 0, 12, 18, 0, 0, 0, 1, 0, 0, 0, 0, 18, 0, 0, 0, 0, 0, 0, 0, 0};
 static const uint8_t REST_19[] = {0, 0, 0, 0, 0, 0, 0, 0, 0, 0, 0, 1, 0, 0, 0, 0, 19};
 static const uint8_t NOTHING[12] = {0};
@@ -76,6 +77,7 @@ static void reports(void) {
     report("-0AA", 0, REST_6, sizeof REST_6);
     report("-AAC-_AAABAA", 1, INNER_7, sizeof INNER_7);
     report("-AAB0AAAMAAB", 2, LONG, sizeof LONG);
+    report("4AABAAAA", 1, REFUSED_16, sizeof REFUSED_16);
     report("--JAAAABMAAB", 1, REFUSED_18, sizeof REFUSED_18);
     report("MA+!", 0, REST_19, sizeof REST_19);
 }
@@ -134,13 +136,13 @@ static void conversion(void) {
 /* The raw value at offset 0, and that one byte less of room is 3. */
 static void reads(const char *text, size_t chars, const char *raw, size_t length) {
     uint8_t out[ROOM], tag[11];
-    size_t info[6], answer = 99;
+    size_t info[CESR_INFO], answer = 99;
     memset(out, HELD, ROOM);
     check(cesr_read_text(bytes(text), strlen(text), 0, out, length, tag, info, &answer) == 0, "read accepted", text);
     check(answer == length && memcmp(out, raw, length) == 0 && held(out, length, ROOM), "raw", text);
     check(info[CESR_INFO_CHARS] == chars && info[CESR_INFO_SIZE] * 4 == strlen(text), "code and size", text);
     check(info[CESR_INFO_START] + length == info[CESR_INFO_SIZE] * 3, "raw ends the item", text);
-    check(info[CESR_INFO_RAW] == length && info[CESR_INFO_TAGS] == 0, "lengths", text);
+    check(info[CESR_INFO_RAW] == length && info[CESR_INFO_TAGS] == 0 && info[CESR_INFO_TEXT] == 0, "lengths", text);
     if (length > 0) {
         memset(out, HELD, ROOM);
         check(cesr_read_text(bytes(text), strlen(text), 0, out, length - 1, tag, info, &answer) == 3, "3", text);
@@ -148,21 +150,50 @@ static void reads(const char *text, size_t chars, const char *raw, size_t length
     }
 }
 
+/* What was read of a text of type A, and that one character less of room is 3. */
+static void characters(uint8_t number, const uint8_t *out, const size_t *info, size_t answer, const char *text, size_t units) {
+    size_t length = strlen(text);
+    check(number == 0 && answer == length, "text read", text);
+    check(memcmp(out, text, length) == 0 && held(out, length, ROOM), "characters", text);
+    check(info[CESR_INFO_LETTER] == 'A' && info[CESR_INFO_SIZE] == units, "code and size", text);
+    check(info[CESR_INFO_START] == 3 * units && info[CESR_INFO_RAW] == 0, "no raw value, at the item's end", text);
+    check(info[CESR_INFO_TAGS] == 0 && info[CESR_INFO_TEXT] == length, "lengths", text);
+}
+
+/* Out of either form. */
+static void reads_text(const char *item, const char *text) {
+    uint8_t out[ROOM], tag[11], binary[ROOM];
+    size_t info[CESR_INFO], answer = 99, length = strlen(text), units = strlen(item) / 4;
+    check(cesr_text_to_binary(bytes(item), 4 * units, binary, ROOM, &answer) == 0, "whole units", item);
+    memset(out, HELD, ROOM);
+    uint8_t number = cesr_read_text(bytes(item), 4 * units, 0, out, length, tag, info, &answer);
+    characters(number, out, info, answer, text, units);
+    memset(out, HELD, ROOM);
+    number = cesr_read_binary(binary, 3 * units, 0, out, length, tag, info, &answer);
+    characters(number, out, info, answer, text, units);
+    if (length > 0) {
+        memset(out, HELD, ROOM);
+        check(cesr_read_text(bytes(item), 4 * units, 0, out, length - 1, tag, info, &answer) == 3 && answer == 0, "3", item);
+        check(cesr_read_binary(binary, 3 * units, 0, out, length - 1, tag, info, &answer) == 3 && answer == 0, "3", item);
+        check(held(out, 0, ROOM), "3 leaves the buffer", item);
+    }
+}
+
 static void not_read(const char *text, size_t at, uint8_t number, size_t place) {
     uint8_t out[ROOM], tag[11];
-    size_t info[6] = {7, 7, 7, 7, 7, 7}, answer = 99;
+    size_t info[CESR_INFO] = {7, 7, 7, 7, 7, 7, 7}, answer = 99;
     memset(out, HELD, ROOM);
     memset(tag, HELD, sizeof tag);
     check(cesr_read_text(bytes(text), strlen(text), at, out, ROOM, tag, info, &answer) == number, "number", text);
     check(answer == place, "place", text);
-    check(held(out, 0, ROOM) && held(tag, 0, 11) && all(info, 6, 7), "a refused read writes nothing", text);
+    check(held(out, 0, ROOM) && held(tag, 0, 11) && all(info, CESR_INFO, 7), "a refused read writes nothing", text);
 }
 
 static void reading(void) {
     static const uint8_t binary[] = {0x58, 0x68, 0x69}; /* `WGhp` */
     static const uint8_t tagged[11] = {'A'};
-    uint8_t out[1], tag[11];
-    size_t info[6], answer = 99;
+    uint8_t out[1] = {HELD}, tag[11];
+    size_t info[CESR_INFO], answer = 99;
     reads("MAAB", 1, "\0\1", 2);
     reads("VABh", 1, "a", 1);
     reads("WGhp", 1, "hi", 2);
@@ -177,9 +208,18 @@ static void reading(void) {
     not_read("MAAB8AABAAAA", 4, CESR_NOT_SHORT, 4);
     not_read("MAABb+!A", 4, CESR_ORDINARY_BASE64, 5);
     not_read("0HAA!/AA", 0, CESR_CHARACTER, 4);
+    reads_text("4AAA", "");
+    reads_text("4AAB-4-5", "-4-5");
+    reads_text("4AADA-a-personal", "-a-personal");
+    reads_text("5AAEAA-4-5-legalName", "-4-5-legalName");
+    reads_text("6AAEAAA-a-personal-1", "-a-personal-1");
+    not_read("4AABAAAA", 0, CESR_TEXT_FILL, 0);
+    not_read("MAAB5AABAB-a", 4, CESR_TEXT_FILL, 4);
+    not_read("5AABBA-a", 0, 8, 0);
     check(cesr_read_text(bytes("0J_A"), 4, 0, out, 0, tag, info, &answer) == 0 && info[5] == 1, "one tag character", "0J_A");
     check(memcmp(tag, tagged, 11) == 0, "tag A, unused places 0", "0J_A");
-    check(cesr_read_binary(binary, 3, 0, tag, info, &answer) == 0 && answer == 2, "read accepted", "586869");
+    check(cesr_read_binary(binary, 3, 0, out, 0, tag, info, &answer) == 0 && answer == 2, "read accepted", "586869");
+    check(cesr_read_binary(binary, 3, 0, out, 1, tag, info, &answer) == 0 && out[0] == HELD, "nothing copied", "586869");
     check(info[CESR_INFO_START] == 1 && info[CESR_INFO_RAW] == 2, "part 68 69", "586869");
     check(info[CESR_INFO_LETTER] == 'W', "letter W", "586869");
 }
@@ -206,7 +246,19 @@ static void writing(void) {
     check(cesr_write_text(6, 'B', tag, 0, bytes("hi"), 2, out, 0, &answer) == CESR_NOT_SHORT && answer == 0, "18 at 0", "8AAB");
     check(cesr_write_binary(6, 'B', tag, 0, bytes(""), 0, out, 0, &answer) == CESR_NOT_SHORT && answer == 0, "18 at 0", "7AAB");
     check(cesr_write_text(1, 'W', tag, 0, bytes("hi"), 2, out, 3, &answer) == 3 && answer == 0, "3 at 0", "W");
+    check(cesr_write_text(5, 'A', tag, 0, bytes("A!"), 2, out, ROOM, &answer) == 5 && answer == 1, "5 at 1", "A!");
+    check(cesr_write_text(5, 'A', tag, 0, bytes("-a="), 3, out, ROOM, &answer) == CESR_ORDINARY_BASE64 && answer == 2, "19 at 2", "-a=");
+    check(cesr_write_text(5, 'A', tag, 0, bytes("Aa"), 2, out, 0, &answer) == CESR_TEXT_FILL && answer == 0, "16 at 0", "Aa");
+    check(cesr_write_binary(5, 'A', tag, 0, bytes("AAAA"), 4, out, 0, &answer) == CESR_TEXT_FILL && answer == 0, "16 at 0", "AAAA");
+    check(cesr_write_text(5, 'A', tag, 1, bytes("!"), 1, out, ROOM, &answer) == 12 && answer == 0, "12 at 0", "4A");
+    check(cesr_write_text(6, 'A', tag, 0, bytes("!"), 1, out, ROOM, &answer) == CESR_NOT_SHORT && answer == 0, "18 at 0", "7AAA");
+    check(cesr_write_text(5, 'A', tag, 0, bytes("-a"), 2, out, 7, &answer) == 3 && answer == 0, "3 at 0", "5A");
     check(held(out, 0, ROOM), "refusals leave the buffer", "writing");
+    check(cesr_write_text(5, 'A', tag, 0, bytes("-a-personal"), 11, out, ROOM, &answer) == 0 && answer == 16, "written", "4A");
+    check(memcmp(out, "4AADA-a-personal", 16) == 0 && held(out, 16, ROOM), "001's path", "4AADA-a-personal");
+    memset(out, HELD, ROOM);
+    check(cesr_write_binary(5, 'A', tag, 0, bytes("-a"), 2, out, ROOM, &answer) == 0 && answer == 6, "written", "5A");
+    check(memcmp(out, "\xE4\0\1\0\x0F\x9A", 6) == 0 && held(out, 6, ROOM), "E4 00 01 00 0F 9A", "5AABAA-a");
 }
 
 /* ---- the walk */
@@ -245,6 +297,8 @@ static void walking(void) {
     no_step("-KAB_A=!", state, CESR_ORDINARY_BASE64, 6);
     step("-JAC--AAAAAA", state, 0, 12, 0, 7, 'J');
     no_step("-JAC--AAAAAA", state, CESR_NOT_SHORT, 4);
+    memset(state, 0, sizeof state);
+    no_step("4AABAAAA", state, CESR_TEXT_FILL, 0);
     memset(state, 0, sizeof state);
     state[CESR_STATE_FIRST] = 1;
     no_step("MAAB", state, 13, 0);

@@ -90,7 +90,8 @@ def pages():
     yield "faults", ["samples/faults.cesr"], b"", 1, [
         "Item 0: refused 4 at 4", "at 4: 0A Random salt", "-A Generic pipeline group, 8 characters from 0",
         "asks for 24 characters, 4 characters are left", "Item 7: refused 11", "64 groups, one in the other", "the byte at 15 is 21",
-        "Item 9: refused 19 at 327", "URL-safe Base64 has - for the + at 327"]
+        "Item 8: refused 16 at 308", "behind the fill A the text starts with A",
+        "Item 10: refused 19 at 335", "URL-safe Base64 has - for the + at 335"]
     yield "binary", ["samples/first-binary.cesr"], b"", 1, ["Item 2: refused 8 at 60", "Bytes from 60 on", "13CC18B818E1"]
     yield "many", [*samples, "gone.cesr", "/dev/null"], b"", 2, [
         "! error", "8 streams: 2 passed, 4 failed, 2 not judged", "gone.cesr", "No such file or directory", "∅ empty",

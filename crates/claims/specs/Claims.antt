@@ -3,7 +3,7 @@
 -- the deck, in format's Deck. Assumes nothing.
 use Prim.Native.Nat.{ℕ, suc, _+_, _-_, _*_, _/_, _≤_, _<_}
 use mathlib.Core.Path.{_≡_}
-use mathlib.Core.List.{List, [], _∷_, _++_}
+use mathlib.Core.List.{List, [], _∷_, _++_, map}
 use mathlib.Core.Logic.{_⊎_}
 use lib.Dec.{eqb, ltb, leb}
 use lib.ListN.{length, getD, drop}
@@ -21,26 +21,28 @@ use Rattle.format.specs.declared.TextFound.the-variants as TF
 use Rattle.format.specs.declared.BinaryFound.the-variants as BF
 use Rattle.format.specs.declared.TextWritten.the-variants as TW
 use Rattle.format.specs.declared.BinaryWritten.the-variants as BW
-use Rattle.format.specs.Alphabet.{stranger, ordinary, sextetOf, sextetTable}
+use Rattle.format.specs.Alphabet.{stranger, ordinary, charOf, sextetOf, sextetTable}
 use Rattle.format.specs.Characters.{characterWith, ordinaryAt, howMany}
 use Rattle.format.specs.Units.{Domain, text, binary, textSextets, binarySextets}
 use Rattle.format.specs.Offsets.{textOffset, binaryOffset}
 use Rattle.format.specs.Conversion.{toBinary, toText, textToBinary, binaryLeft, binaryToText, textLeft}
 use Rattle.format.specs.Report.{rowsIn, refusalsIn, remainderIn, refusal, frameIn, judgeIn}
 use Rattle.format.specs.Report.{rowBytes, refusalBytes, remainderBytes, concat, section, report, reportAnswer, reportLeft}
-use Rattle.format.specs.Reading.{readText, rawLeft, readBinary, partAt}
+use Rattle.format.specs.Reading.{readText, valueLeft, readBinary, charsLeft, partAt}
 use Rattle.format.specs.Writing.{writeText, textItemLeft, writeBinary, binaryItemLeft}
 use Rattle.format.specs.declared.Opening.the-variants.{Unknown}
 use Rattle.format.specs.declared.Framed.the-variants.{Item, Unframed}
+use Rattle.format.specs.declared.Verdict.{Verdict}
 use Rattle.format.specs.declared.Verdict.the-variants.{Accepted, Refused}
 use Rattle.format.specs.Registry.{isOpaque, isOverrideable, opening, headerUnits, extent}
 use Rattle.format.specs.Framing.{digits4, sextet, frame}
-use Rattle.format.specs.Judging.{shift, andThen, unless, behind, hasLead, zeroBits, inTurn, contents, judge}
-use Rattle.format.specs.Values.{rawStart, rawOf}
+use Rattle.format.specs.Judging.{shift, andThen, unless, isShortest, behind, hasLead, zeroBits, inTurn, contents, judge}
+use Rattle.format.specs.Texts.{valueRight}
+use Rattle.format.specs.Values.{rawStart, rawOf, textIn}
 use Rattle.damage.specs.Words.{row, itemAt, headOf, Alike, accepted, withIndex, Damaged, ByItself, Partition}
 use Rattle.claims.specs.Order.{None, Refusal}
 use Rattle.claims.specs.Conditions.{toBinaryRules, toTextRules, reportRules, readTextRules, readBinaryRules, writeRules}
-use Rattle.claims.specs.Conditions.{framing, openingOf, itemKind}
+use Rattle.claims.specs.Conditions.{framing, openingOf, itemKind, StartsWith, WrongText}
 use Rattle.claims.specs.Words.{WholeText, WholeBinary, SameReport, headerOf, remainderAt, refusalsTo, reportTo, NoEleven}
 
 -- ---- demand 1: "Take any bytes of any length. Every public entry refuses bad input by number and asks nothing of its caller. Where a call
@@ -63,28 +65,31 @@ pub record Demand1 : Type 0 where
       → Refusal (1 ∷ 3 ∷ []) (reportRules f s (length d)) m × (reportLeft (reportAnswer f s (length d)) f s d ≡ d)
   pub reports-accepts : (f : Domain) (s d : List ℕ) (n : ℕ) → reportAnswer f s (length d) ≡ R.Written n → None (reportRules f s (length d))
   -- 01: "Reading a primitive at an offset: 1, 4 at or past the end, framing (never 7), 14, judging, then 3 for T"; framing gives 4, 5 and
-  -- 6, judging 5, 18 (02 h), 9, 8 and 10. 5 is for "character outside the alphabet (in T ..)"
+  -- 6, judging 5, 18 (02 h), 9, 8, 16 (02 c) and 10. 5 is for "character outside the alphabet (in T ..)"
   pub read-text : (s : List ℕ) (at : ℕ) (d : List ℕ) (m : ℕ) (p : TextOffset) → readText s at (length d) .found ≡ TF.Refused m p
-      → Refusal (1 ∷ 4 ∷ 5 ∷ 19 ∷ 6 ∷ 14 ∷ 18 ∷ 9 ∷ 8 ∷ 10 ∷ 3 ∷ []) (readTextRules s at (length d)) m
-      × (rawLeft (readText s at (length d) .found) s at d ≡ d)
+      → Refusal (1 ∷ 4 ∷ 5 ∷ 19 ∷ 6 ∷ 14 ∷ 18 ∷ 9 ∷ 8 ∷ 16 ∷ 10 ∷ 3 ∷ []) (readTextRules s at (length d)) m
+      × (valueLeft (readText s at (length d) .found) s at d ≡ d)
   pub read-text-accepts : (s : List ℕ) (at : ℕ) (d : List ℕ) (q : Primitive) → readText s at (length d) .found ≡ TF.Found q
       → None (readTextRules s at (length d))
-  -- the same in B, where nothing is written: a refused read hands "an empty part" back
-  pub read-binary : (s : List ℕ) (at m : ℕ) (p : BinaryOffset) → readBinary s at .found ≡ BF.Refused m p
-      → Refusal (1 ∷ 4 ∷ 6 ∷ 14 ∷ 18 ∷ 9 ∷ 8 ∷ 10 ∷ []) (readBinaryRules s at) m × (partAt s at (readBinary s at .found) ≡ [])
-  pub read-binary-accepts : (s : List ℕ) (at : ℕ) (q : Primitive) → readBinary s at .found ≡ BF.Found q → None (readBinaryRules s at)
-  -- 01: "Writing, to T or B: 6 (any code that isn't a primitive's), 12, 5 (tags), 3.", 02 h: 18 "directly after 12"
+  -- the same in B, where only a text is copied out (02 c: "in both forms, with 3 when room is short"): a refused read hands "an empty part" back
+  pub read-binary : (s : List ℕ) (at : ℕ) (d : List ℕ) (m : ℕ) (p : BinaryOffset) → readBinary s at (length d) .found ≡ BF.Refused m p
+      → Refusal (1 ∷ 4 ∷ 6 ∷ 14 ∷ 18 ∷ 9 ∷ 8 ∷ 16 ∷ 10 ∷ 3 ∷ []) (readBinaryRules s at (length d)) m
+      × (partAt s at (readBinary s at (length d) .found) ≡ []) × (charsLeft (readBinary s at (length d) .found) s at d ≡ d)
+  pub read-binary-accepts : (s : List ℕ) (at : ℕ) (d : List ℕ) (q : Primitive) → readBinary s at (length d) .found ≡ BF.Found q
+      → None (readBinaryRules s at (length d))
+  -- 01: "Writing, to T or B: 6 (any code that isn't a primitive's), 12, 5 (tags), 3.", 02 h: 18 "directly after 12", 02 c: "The writer's order
+  -- is 6, 12, 5 .., 16 .., 3"
   pub write-text : (code : Code) (tag : List ℕ) (tags : ℕ) (raw d : List ℕ) (m p : ℕ) → writeText code tag tags raw (length d) ≡ TW.Refused m p
-      → Refusal (6 ∷ 12 ∷ 18 ∷ 5 ∷ 19 ∷ 3 ∷ []) (writeRules 4 code tag tags (length raw) (length d)) m
+      → Refusal (6 ∷ 12 ∷ 18 ∷ 5 ∷ 19 ∷ 16 ∷ 3 ∷ []) (writeRules 4 code tag tags raw (length d)) m
       × (textItemLeft (writeText code tag tags raw (length d)) code tag tags raw d ≡ d)
   pub write-text-accepts : (code : Code) (tag : List ℕ) (tags : ℕ) (raw d : List ℕ) (n : TextOffset)
-      → writeText code tag tags raw (length d) ≡ TW.Written n → None (writeRules 4 code tag tags (length raw) (length d))
+      → writeText code tag tags raw (length d) ≡ TW.Written n → None (writeRules 4 code tag tags raw (length d))
   pub write-binary : (code : Code) (tag : List ℕ) (tags : ℕ) (raw d : List ℕ) (m p : ℕ)
       → writeBinary code tag tags raw (length d) ≡ BW.Refused m p
-      → Refusal (6 ∷ 12 ∷ 18 ∷ 5 ∷ 19 ∷ 3 ∷ []) (writeRules 3 code tag tags (length raw) (length d)) m
+      → Refusal (6 ∷ 12 ∷ 18 ∷ 5 ∷ 19 ∷ 16 ∷ 3 ∷ []) (writeRules 3 code tag tags raw (length d)) m
       × (binaryItemLeft (writeBinary code tag tags raw (length d)) code tag tags raw d ≡ d)
   pub write-binary-accepts : (code : Code) (tag : List ℕ) (tags : ℕ) (raw d : List ℕ) (n : BinaryOffset)
-      → writeBinary code tag tags raw (length d) ≡ BW.Written n → None (writeRules 3 code tag tags (length raw) (length d))
+      → writeBinary code tag tags raw (length d) ≡ BW.Written n → None (writeRules 3 code tag tags raw (length d))
 
 -- ---- demand 2: "A binary stream of whole triplets, or a text one of whole quadlets in the alphabet, either within the length
 -- limit, is the premise."
@@ -213,13 +218,51 @@ pub record ShortFormClaims : Type 0 where
   pub eleven : (letter h size : ℕ) (s : List ℕ) → frame s ≡ Item (Group letter) h size → judge 0 s ≡ Refused 11 0
   pub large-group : (l letter size : ℕ) (s : List ℕ) → frame s ≡ Item (Group letter) 2 size → length s ≡ 4 * size → size < 2 + 4096
       → judge (suc l) s ≡ Refused 18 0
-  -- "`--AAABAA` with its 4,096 units still passes": under a small code, and from 4,096 units on, an item has 01's own verdict
+  -- "`--AAABAA` with its 4,096 units still passes": under a small code, and from 4,096 units on, an item has 01's own verdict, mended by 02 c
   pub other-variable : (l t lead n h size : ℕ) (s : List ℕ) → frame s ≡ Item (Variable t lead n) h size → (h ≡ 1) ⊎ (4096 ≤ n)
-      → judge l s ≡ andThen (behind h s) (andThen (unless 9 (hasLead lead n)) (unless 8 (zeroBits s (4 * h) (8 * lead))))
+      → judge l s
+      ≡ andThen (behind h s)
+      (andThen (unless 9 (hasLead lead n)) (andThen (unless 8 (zeroBits s (4 * h) (8 * lead))) (unless 16 (valueRight t lead (drop (4 * h) s)))))
   pub other-group : (l letter h size : ℕ) (s : List ℕ) → frame s ≡ Item (Group letter) h size → length s ≡ 4 * size
       → (h ≡ 1) ⊎ (4096 ≤ size - h)
       → judge (suc l) s
       ≡ pick (isOpaque letter) (behind h s) (shift (4 * h) (inTurn (judge l) (contents (isOverrideable letter) (drop (4 * h) s))))
+
+-- ---- 02's request c, of the verdict on an item's own sextets, and of its characters. What it says of a writer, and that reading and writing
+-- are inverse, is in roundtrip's Claims
+
+-- what is judged before 16: "Judged after 8"
+abbrev pub beforeText : ℕ → ℕ → ℕ → List ℕ → Verdict
+beforeText lead n h s =
+    andThen (behind h s)
+    (andThen (unless 18 (isShortest h n)) (andThen (unless 9 (hasLead lead n)) (unless 8 (zeroBits s (4 * h) (8 * lead)))))
+
+pub record TextClaims : Type 0 where
+  -- "A text that itself starts with `A` .. under every selector it is refused .. with number 16, as is a value without the full fill.
+  -- Judged after 8."
+  pub wrong-text : (l lead n h size : ℕ) (s : List ℕ) → frame s ≡ Item (Variable 0 lead n) h size → WrongText lead (drop (4 * h) s)
+      → judge l s ≡ andThen (beforeText lead n h s) (Refused 16 0)
+  -- any other text, and a value of any other type, has the verdict that it had
+  pub right-text : (l lead n h size : ℕ) (s : List ℕ) → frame s ≡ Item (Variable 0 lead n) h size → ¬ (WrongText lead (drop (4 * h) s))
+      → judge l s ≡ beforeText lead n h s
+  pub other-type : (l t lead n h size : ℕ) (s : List ℕ) → frame s ≡ Item (Variable t lead n) h size → ¬ (t ≡ 0)
+      → judge l s ≡ beforeText lead n h s
+  -- "Selectors 4 and 7 take off one `A` if there is one,"
+  pub one-off : (n h : ℕ) (s : List ℕ) → StartsWith 1 (drop (4 * h) s) → textIn (Variable 0 0 n) h s ≡ map charOf (drop 1 (drop (4 * h) s))
+  pub none-off : (n h : ℕ) (s : List ℕ) → ¬ (StartsWith 1 (drop (4 * h) s)) → textIn (Variable 0 0 n) h s ≡ map charOf (drop (4 * h) s)
+  -- "5 and 8 exactly two, 6 and 9 exactly three."
+  pub two-off : (n h : ℕ) (s : List ℕ) → textIn (Variable 0 1 n) h s ≡ map charOf (drop 2 (drop (4 * h) s))
+  pub three-off : (n h : ℕ) (s : List ℕ) → textIn (Variable 0 2 n) h s ≡ map charOf (drop 3 (drop (4 * h) s))
+  -- so no text that is accepted starts with `A`, which is 65
+  pub never-from-a : (l lead n h size : ℕ) (s : List ℕ) → frame s ≡ Item (Variable 0 lead n) h size → judge l s ≡ Accepted
+      → ¬ (getD (textIn (Variable 0 lead n) h s) 0 0 ≡ 65)
+  -- "Characters are copied out in both forms": the same ones, of demand 2's streams
+  pub text-form : (t : List ℕ) (k : Kind) (h : ℕ) → WholeText t → textIn k h (binarySextets (toBinary t)) ≡ textIn k h (textSextets t)
+  pub binary-form : (b : List ℕ) (k : Kind) (h : ℕ) → WholeBinary b → textIn k h (textSextets (toText b)) ≡ textIn k h (binarySextets b)
+  -- "the empty text is `4AAA`", and "`4AABAAAA` is 16", in sextets
+  pub empty-text : (l : ℕ) → let s : List ℕ = 56 ∷ 0 ∷ 0 ∷ 0 ∷ [] in
+      (frame s ≡ Item (Variable 0 0 0) 1 1) × (judge l s ≡ Accepted) × (textIn (Variable 0 0 0) 1 s ≡ [])
+  pub four-of-a : (l : ℕ) → judge l (56 ∷ 0 ∷ 0 ∷ 1 ∷ 0 ∷ 0 ∷ 0 ∷ 0 ∷ []) ≡ Refused 16 0
 
 -- ---- all of it
 
@@ -232,3 +275,4 @@ pub record Claims : Type 0 where
   pub demand3-binary : Demand3 binary
   pub deeper : (d : Domain) → DeeperClaims d
   pub short-form : ShortFormClaims
+  pub texts : TextClaims

@@ -1,10 +1,11 @@
 -- What each number of a call is given for, in 01's words, a list for each call in 01's order. It cites the registry's rules, single tests
 -- and the number of a report's items, and none of the definitions whose order is compared with it: those of the calls, of framing and of
 -- judging. No proofs. Assumes nothing.
-use Prim.Native.Nat.{ℕ, _+_, _-_, _*_, _/_, _%_, _≤_, _<_}
+use Prim.Native.Nat.{ℕ, zero, suc, _+_, _-_, _*_, _/_, _%_, _≤_, _<_}
 use mathlib.Core.Path.{_≡_}
 use mathlib.Core.List.{List, [], _∷_, _++_}
 use mathlib.Core.Bool.{Bool, true, false}
+use mathlib.Core.Logic.{_⊎_}
 use lib.ListN.{length, getD, take, drop}
 use Rattle.format.specs.declared.CodeRow.{CodeRow}
 use Rattle.format.specs.declared.Kind.{Kind}
@@ -17,11 +18,12 @@ use Rattle.format.specs.Units.{Domain, text, binary}
 use Rattle.format.specs.Registry.{isOpaque, zeroBitsOf, prepadOf, opening, headerUnits, extent}
 use Rattle.format.specs.Framing.{digits4, sextet}
 use Rattle.format.specs.Judging.{zeroBits, prepadRight}
-use Rattle.format.specs.Values.{rawStart}
+use Rattle.format.specs.Texts.{fillFor}
+use Rattle.format.specs.Values.{textIn, valueOf}
 use Rattle.format.specs.Report.{rowsIn}
 use Rattle.format.specs.Reading.{isPrimitive}
-use Rattle.format.specs.Writing.{Named, rawSize, rawLimit, named, unitsOf}
-use Rattle.format.specs.Writing.Named.{unknown, row, variable}
+use Rattle.format.specs.Writing.{Named, rawSize, rawLimit, textLimit, named, charsOf, charsFor, unitsOf}
+use Rattle.format.specs.Writing.Named.{unknown, row, variable, textual}
 use Rattle.claims.specs.Order.{Rule, _when_}
 
 -- ---- 5: "character outside the alphabet"; 19, by 02 j: one "from the ordinary alphabet". "the first bad character is reported, of
@@ -107,7 +109,8 @@ itemSize s = extent (openingOf s) (digits4 (sextet s))
 abbrev pub framing : List ℕ → List Rule
 framing s = framingRules (openingOf s) (sextet s) (length s / 4)
 
--- ---- "Judging a framed primitive: 5 behind the header, 9, 8, 10.", and by 02 h 18 "before 9". Of its own sextets and a header of h units
+-- ---- "Judging a framed primitive: 5 behind the header, 9, 8, 10.", by 02 h 18 "before 9", by 02 c 16 "after 8". Of its own sextets and a
+-- header of h units
 
 -- 02 h: a large code "whose size fits the small code": its header is not the small one's unit, and behind it are so few
 abbrev pub FitsSmall : ℕ → ℕ → Type 0
@@ -133,6 +136,30 @@ NotZero (Variable t lead n) h s = zeroBits s (4 * h) (8 * lead) ≡ false
 NotZero (Group letter) h s = ⊥
 NotZero Genus h s = ⊥
 
+-- so many `A` stand in front of a value's sextets
+abbrev pub StartsWith : ℕ → List ℕ → Type 0
+StartsWith n v = (n ≤ length v) × ((i : ℕ) → i < n → sextet v i ≡ 0)
+
+-- 02 c: "Selectors 4 and 7 take off one `A` if there is one, 5 and 8 exactly two, 6 and 9 exactly three.": their leads are 0, 1 and 2.
+-- "a value without the full fill"
+abbrev pub Unfilled : ℕ → List ℕ → Type 0
+Unfilled zero v = ⊥
+Unfilled (suc l) v = StartsWith (l + 2) v → ⊥
+
+-- "A text that itself starts with `A`": one more than is taken off
+abbrev pub OwnA : ℕ → List ℕ → Type 0
+OwnA lead v = StartsWith (lead + 2) v
+
+abbrev pub WrongText : ℕ → List ℕ → Type 0
+WrongText lead v = Unfilled lead v ⊎ OwnA lead v
+
+-- asked of type `A` alone
+abbrev pub NotText : Kind → ℕ → List ℕ → Type 0
+NotText (Fixed c) h s = ⊥
+NotText (Variable t lead n) h s = (t ≡ 0) × WrongText lead (drop (4 * h) s)
+NotText (Group letter) h s = ⊥
+NotText Genus h s = ⊥
+
 -- "tag prepad not `_`"
 abbrev pub OtherPrepad : Kind → List ℕ → Type 0
 OtherPrepad (Fixed c) s = prepadRight s (c .chars) (prepadOf c) ≡ false
@@ -147,6 +174,7 @@ judging k h s =
     18 when (LongForm k h) ∷
     9 when (Empty k) ∷
     8 when (NotZero k h s) ∷
+    16 when (NotText k h s) ∷
     10 when (OtherPrepad k s) ∷
     []
 
@@ -167,7 +195,8 @@ ownRules l (Variable t lead n) h s = judging (Variable t lead n) h s
 ownRules l (Group letter) h s = groupRules l letter h s
 ownRules l Genus h s = []
 
--- ---- "Reading a primitive at an offset: 1, 4 at or past the end, framing (never 7), 14, judging, then 3 for T"
+-- ---- "Reading a primitive at an offset: 1, 4 at or past the end, framing (never 7), 14, judging, then 3 for T", and of type `A` by 02 c
+-- "in both forms, with 3 when room is short"
 
 -- s: the sextets from the offset on
 abbrev pub readRules : Domain → List ℕ → ℕ → List ℕ → List Rule
@@ -179,32 +208,45 @@ readRules d xs at s =
 abbrev pub readTextRules : List ℕ → ℕ → ℕ → List Rule
 readTextRules xs at room =
     let s : List ℕ = text .sextets (drop at xs) in
-    readRules text xs at s ++ (3 when (room < 3 * itemSize s - rawStart (itemKind s) (itemHead s)) ∷ [])
+    readRules text xs at s ++ (3 when (room < length (valueOf (itemKind s) (itemHead s) (take (4 * itemSize s) s))) ∷ [])
 
-abbrev pub readBinaryRules : List ℕ → ℕ → List Rule
-readBinaryRules xs at = readRules binary xs at (binary .sextets (drop at xs))
+abbrev pub readBinaryRules : List ℕ → ℕ → ℕ → List Rule
+readBinaryRules xs at room =
+    let s : List ℕ = binary .sextets (drop at xs) in
+    readRules binary xs at s ++ (3 when (room < length (textIn (itemKind s) (itemHead s) (take (4 * itemSize s) s))) ∷ [])
 
--- ---- "Writing, to T or B: 6 (any code that isn't a primitive's), 12, 5 (tags), 3.", and by 02 h 18 "directly after 12"
+-- ---- "Writing, to T or B: 6 (any code that isn't a primitive's), 12, 5 (tags), 3.", by 02 h 18 "directly after 12", and of type `A` by 02 c
+-- "6, 12, 5 (place its index in the text), 16 (place 0), 3"
 
 -- "raw length or tag length unfit for the code"
 abbrev pub Unfit : Named → ℕ → ℕ → Type 0
 Unfit unknown tags raw = ⊥
 Unfit (row c) tags raw = (tags ≡ c .tag) × (raw ≡ rawSize c) → ⊥
 Unfit (variable t h) tags raw = (tags ≡ 0) × (raw ≤ rawLimit h) → ⊥
+Unfit (textual h) tags chars = (tags ≡ 0) × (chars + fillFor chars ≤ textLimit h) → ⊥
 
--- a large code where "small holds at most 12,285 raw bytes"
+-- a large code where "small holds at most 12,285 raw bytes", and where "text with its fill is at most 16,380 characters small"
 abbrev pub SmallHolds : Named → ℕ → Type 0
 SmallHolds unknown raw = ⊥
 SmallHolds (row c) raw = ⊥
 SmallHolds (variable t h) raw = (h ≡ 1 → ⊥) × (raw ≤ 12285)
+SmallHolds (textual h) chars = (h ≡ 1 → ⊥) × (chars + fillFor chars ≤ 16380)
 
--- u elements to the unit
-abbrev pub writeRules : ℕ → Code → List ℕ → ℕ → ℕ → ℕ → List Rule
+-- 02 c: "A text that itself starts with `A`", which is 65
+abbrev pub FromA : Named → List ℕ → Type 0
+FromA unknown raw = ⊥
+FromA (row c) raw = ⊥
+FromA (variable t h) raw = ⊥
+FromA (textual h) chars = getD chars 0 0 ≡ 65
+
+-- u elements to the unit. 5 is asked of a text's own characters, and for every other code of the tag's
+abbrev pub writeRules : ℕ → Code → List ℕ → ℕ → List ℕ → ℕ → List Rule
 writeRules u code tag tags raw room =
     6 when (named code ≡ unknown) ∷
-    12 when (Unfit (named code) tags raw) ∷
-    18 when (SmallHolds (named code) raw) ∷
-    5 when (FirstIs Other (valueIn tag) 0 tags) ∷
-    19 when (FirstIs Ordinary (valueIn tag) 0 tags) ∷
-    3 when (room < unitsOf (named code) raw * u) ∷
+    12 when (Unfit (named code) tags (length raw)) ∷
+    18 when (SmallHolds (named code) (length raw)) ∷
+    5 when (FirstIs Other (valueIn (charsOf (named code) tag raw)) 0 (charsFor (named code) tags (length raw))) ∷
+    19 when (FirstIs Ordinary (valueIn (charsOf (named code) tag raw)) 0 (charsFor (named code) tags (length raw))) ∷
+    16 when (FromA (named code) raw) ∷
+    3 when (room < unitsOf (named code) (length raw) * u) ∷
     []

@@ -1,8 +1,8 @@
 -- Demand 1: each call refuses by Conditions, in order, and a refusal leaves every buffer. Assumes nothing.
 use Prim.Native.Nat.{ℕ, zero, suc, _+_, _-_, _*_, _/_, _%_, _≤_, _<_}
-use mathlib.Core.Path.{_≡_, refl, subst, ap}
-use mathlib.Core.List.{List, [], _∷_, _++_}
-use mathlib.Core.Bool.{Bool, true, false}
+use mathlib.Core.Path.{_≡_, refl, subst, ap, sym, _∙_}
+use mathlib.Core.List.{List, [], _∷_, _++_, map}
+use mathlib.Core.Bool.{Bool, true, false, not}
 use mathlib.Core.Logic.{_⊎_, inl, inr, ⊎-elim}
 use native.Mathlib.Omega.{arith}
 use lib.ListN.{length, getD, take, drop, length-drop, List·getD-eq-default}
@@ -38,16 +38,19 @@ use Rattle.format.specs.declared.TextWritten.{TextWritten}
 use Rattle.format.specs.declared.TextWritten.the-variants as TextWritten
 use Rattle.format.specs.declared.BinaryWritten.{BinaryWritten}
 use Rattle.format.specs.declared.BinaryWritten.the-variants as BinaryWritten
-use Rattle.format.specs.Alphabet.{sextetOf}
+use Rattle.format.specs.Alphabet.{charOf, sextetOf}
 use Rattle.format.specs.Units.{Domain, text, binary, textSextets, binarySextets}
 use Rattle.format.specs.Framing.{sextet, frame, frameWith}
 use Rattle.format.specs.Judging.{isShortest, judgeKind, ownCheck}
 use Rattle.format.specs.Conversion.{firstStranger, firstNumber, textToBinary, binaryToText, binaryLeft, textLeft}
 use Rattle.format.specs.Report.{rowsIn, reportAnswer, reportLeft}
-use Rattle.format.specs.Reading.{Reading, judged, readFramed, reading, from, textAnswer, readText, rawLeft, binaryAnswer, readBinary, partAt, isPrimitive}
+use Rattle.format.specs.Reading.{Reading, judged, readFramed, reading, from, valueAt, textAt, isPrimitive}
+use Rattle.format.specs.Reading.{textAnswer, readText, valueLeft, binaryAnswer, readBinary, charsLeft, partAt}
 use Rattle.format.specs.Reading.Reading.{refused, found}
-use Rattle.format.specs.Values.{rawStart}
+use Rattle.format.specs.Texts.{fills, fillFor, textCount}
+use Rattle.format.specs.Values.{textIn, valueOf}
 use Rattle.format.specs.Writing as W
+use Rattle.laws.specs.Alphabet.{char-sextet}
 use Rattle.laws.specs.Conversion.{binary-below}
 use Rattle.laws.specs.Domains.{Reader, text-reader, binary-reader}
 use Rattle.claims.specs.Order.{Rule, _when_, First, None}
@@ -145,33 +148,42 @@ toldWriting : W.Writing → Told
 toldWriting (W.refused m p) = told m
 toldWriting (W.written n) = accepted
 
+-- no tag characters, and so many at most
+no-tag-fits : (tags many most : ℕ) → pick (eqb tags 0) (leb many most) false ≡ true → ((tags ≡ 0) × (many ≤ most) → ⊥) → ⊥
+no-tag-fits tags many most e u = go (eqb tags 0) refl e
+  where
+    go : (b : Bool) → eqb tags 0 ≡ b → pick b (leb many most) false ≡ true → ⊥
+    go true f g = u (eqb-true tags 0 f, leb-true many most g)
+    go false f g = let z : _≡_ {A = ℕ} 0 1 = cc in omega arith
+
+no-tag-unfit : (tags many most : ℕ) → pick (eqb tags 0) (leb many most) false ≡ false → (tags ≡ 0) × (many ≤ most) → ⊥
+no-tag-unfit tags many most e q = go (eqb tags 0) refl e
+  where
+    go : (b : Bool) → eqb tags 0 ≡ b → pick b (leb many most) false ≡ false → ⊥
+    go true f g = omega (arith, leb-false many most g, q .1)
+    go false f g = eqb-false tags 0 f (q .0)
+
 fits : (n : W.Named) (tags raw : ℕ) → W.isFit n tags raw ≡ true → C.Unfit n tags raw → ⊥
-unfolding W.isFit W.fitsRow W.fitsVariable
+unfolding W.isFit W.fitsRow W.fitsVariable W.fitsText
 fits W.unknown tags raw e u = u
 fits (W.row c) tags raw e u = go (eqb tags (c .tag)) refl e
   where
     go : (b : Bool) → eqb tags (c .tag) ≡ b → pick b (eqb raw (W.rawSize c)) false ≡ true → ⊥
     go true f g = u (eqb-true tags (c .tag) f, eqb-true raw (W.rawSize c) g)
     go false f g = let z : _≡_ {A = ℕ} 0 1 = cc in omega arith
-fits (W.variable t h) tags raw e u = go (eqb tags 0) refl e
-  where
-    go : (b : Bool) → eqb tags 0 ≡ b → pick b (leb raw (W.rawLimit h)) false ≡ true → ⊥
-    go true f g = u (eqb-true tags 0 f, leb-true raw (W.rawLimit h) g)
-    go false f g = let z : _≡_ {A = ℕ} 0 1 = cc in omega arith
+fits (W.variable t h) tags raw e u = no-tag-fits tags raw (W.rawLimit h) e u
+fits (W.textual h) tags raw e u = no-tag-fits tags (raw + fillFor raw) (W.textLimit h) e u
 
 unfit : (n : W.Named) (tags raw : ℕ) → W.isNamed n ≡ true → W.isFit n tags raw ≡ false → C.Unfit n tags raw
-unfolding W.isFit W.isNamed W.fitsRow W.fitsVariable
+unfolding W.isFit W.isNamed W.fitsRow W.fitsVariable W.fitsText
 unfit W.unknown tags raw i e = let z : _≡_ {A = ℕ} 0 1 = cc in absurd (omega arith)
 unfit (W.row c) tags raw i e = λ q. go q (eqb tags (c .tag)) refl e
   where
     go : (tags ≡ c .tag) × (raw ≡ W.rawSize c) → (b : Bool) → eqb tags (c .tag) ≡ b → pick b (eqb raw (W.rawSize c)) false ≡ false → ⊥
     go q true f g = eqb-false raw (W.rawSize c) g (q .1)
     go q false f g = eqb-false tags (c .tag) f (q .0)
-unfit (W.variable t h) tags raw i e = λ q. go q (eqb tags 0) refl e
-  where
-    go : (tags ≡ 0) × (raw ≤ W.rawLimit h) → (b : Bool) → eqb tags 0 ≡ b → pick b (leb raw (W.rawLimit h)) false ≡ false → ⊥
-    go q true f g = omega (arith, leb-false raw (W.rawLimit h) g, q .1)
-    go q false f g = eqb-false tags 0 f (q .0)
+unfit (W.variable t h) tags raw i e = no-tag-unfit tags raw (W.rawLimit h) e
+unfit (W.textual h) tags raw i e = no-tag-unfit tags (raw + fillFor raw) (W.textLimit h) e
 
 -- two digits count the triplets of 12,285 bytes, and of no more
 few-units : (raw : ℕ) → W.countFor raw < 4096 → raw ≤ 12285
@@ -182,55 +194,121 @@ many-units : (raw : ℕ) → raw ≤ 12285 → W.countFor raw < 4096
 unfolding W.countFor W.leadFor
 many-units raw l = omega arith
 
+-- and the quadlets of a text of 16,380 characters with its fill
+few-quadlets : (chars : ℕ) → textCount chars < 4096 → chars + fillFor chars ≤ 16380
+unfolding textCount fillFor
+few-quadlets chars l = omega arith
+
+many-quadlets : (chars : ℕ) → chars + fillFor chars ≤ 16380 → textCount chars < 4096
+unfolding textCount fillFor
+many-quadlets chars l = omega arith
+
 long : (n : W.Named) (raw : ℕ) → W.isShort n raw ≡ false → C.SmallHolds n raw
 unfolding W.isShort
 long W.unknown raw e = absurd (true-false e)
 long (W.row c) raw e = absurd (true-false e)
 long (W.variable t h) raw e = let f = long-form h (W.countFor raw) e in (f .0, few-units raw (f .1))
+long (W.textual h) raw e = let f = long-form h (textCount raw) e in (f .0, few-quadlets raw (f .1))
 
 short : (n : W.Named) (raw : ℕ) → W.isShort n raw ≡ true → C.SmallHolds n raw → ⊥
 unfolding W.isShort
 short W.unknown raw e q = q
 short (W.row c) raw e q = q
 short (W.variable t h) raw e q = short-form h (W.countFor raw) e (q .0, many-units raw (q .1))
+short (W.textual h) raw e q = short-form h (textCount raw) e (q .0, many-quadlets raw (q .1))
+
+-- 16: `A` alone has the value 0
+first-a : (chars : List ℕ) → fills 1 (map sextetOf chars) ≡ true → getD chars 0 0 ≡ 65
+unfolding fills charOf
+first-a [] e = let z : _≡_ {A = ℕ} 0 1 = cc in absurd (omega arith)
+first-a (c ∷ chars) e =
+    pick-by (λ (b : Bool). b ≡ true → c ≡ 65) (eqb (sextetOf c) 0) true false
+    (λ t _. let v : sextetOf c ≡ 0 = eqb-true (sextetOf c) 0 t in sym (char-sextet c (omega arith)) ∙ ap charOf v)
+    (λ _ q. let z : _≡_ {A = ℕ} 0 1 = cc in absurd (omega arith)) e
+
+a-first : (chars : List ℕ) → getD chars 0 0 ≡ 65 → fills 1 (map sextetOf chars) ≡ true
+unfolding fills sextetOf
+a-first [] e = absurd (omega arith)
+a-first (c ∷ chars) e = let q : c ≡ 65 = e in rw q
+
+from-a : (n : W.Named) (raw : List ℕ) → W.beginsRight n raw ≡ false → C.FromA n raw
+unfolding W.beginsRight
+from-a W.unknown raw e = absurd (true-false e)
+from-a (W.row c) raw e = absurd (true-false e)
+from-a (W.variable t h) raw e = absurd (true-false e)
+from-a (W.textual h) raw e = by (fills 1 (map sextetOf raw)) refl e
+  where
+    by : (b : Bool) → fills 1 (map sextetOf raw) ≡ b → not b ≡ false → getD raw 0 0 ≡ 65
+    by true f g = first-a raw f
+    by false f g = absurd (true-false g)
+
+from-other : (n : W.Named) (raw : List ℕ) → W.beginsRight n raw ≡ true → C.FromA n raw → ⊥
+unfolding W.beginsRight
+from-other W.unknown raw e q = q
+from-other (W.row c) raw e q = q
+from-other (W.variable t h) raw e q = q
+from-other (W.textual h) raw e q = true-false (sym e ∙ ap not (a-first raw q))
+
+-- 5 and 19: the characters asked are the first so many of a list
+pub asked : (n : W.Named) (tag : List ℕ) (tags : ℕ) (raw : List ℕ)
+    → W.charsOf n (take tags tag) raw ≡ take (W.charsFor n tags (length raw)) (W.charsOf n tag raw)
+unfolding W.charsOf W.charsFor
+asked W.unknown tag tags raw = refl
+asked (W.row c) tag tags raw = refl
+asked (W.variable t h) tag tags raw = refl
+asked (W.textual h) tag tags raw = sym (take-length raw)
 
 -- what stands behind 6, of a code that is named
-module _ (u : ℕ) (n : W.Named) (tag : List ℕ) (tags raw room : ℕ) where
-  abbrev writeBy : List Rule
-  writeBy =
-      6 when (n ≡ W.unknown) ∷
-      12 when (C.Unfit n tags raw) ∷
-      18 when (C.SmallHolds n raw) ∷
-      5 when (C.FirstIs C.Other (C.valueIn tag) 0 tags) ∷
-      19 when (C.FirstIs C.Ordinary (C.valueIn tag) 0 tags) ∷
-      3 when (room < W.unitsOf n raw * u) ∷
-      []
+module _ (u : ℕ) (n : W.Named) (tag : List ℕ) (tags : ℕ) (raw : List ℕ) (room : ℕ) where
+  abbrev chars : List ℕ
+  chars = W.charsOf n tag raw
+
+  abbrev many : ℕ
+  many = W.charsFor n tags (length raw)
+
+  abbrev behindStrangers : List Rule
+  behindStrangers = 16 when (C.FromA n raw) ∷ 3 when (room < W.unitsOf n (length raw) * u) ∷ []
 
   abbrev behindTwelve : List Rule
-  behindTwelve = 18 when (C.SmallHolds n raw) ∷ strange (C.valueIn tag) 0 tags (3 when (room < W.unitsOf n raw * u) ∷ [])
+  behindTwelve = 18 when (C.SmallHolds n (length raw)) ∷ strange (C.valueIn chars) 0 many behindStrangers
+
+  abbrev writeBy : List Rule
+  writeBy = 6 when (n ≡ W.unknown) ∷ 12 when (C.Unfit n tags (length raw)) ∷ behindTwelve
+
+  -- 16, 3
+  begins : By behindStrangers
+      (toldWriting (pick (W.beginsRight n raw)
+      (pick (ltb room (W.unitsOf n (length raw) * u)) (W.refused 3 0) (W.written (W.unitsOf n (length raw)))) (W.refused 16 0)))
+  unfolding toldWriting
+  begins =
+      pick-by (λ (w : W.Writing). By behindStrangers (toldWriting w)) (W.beginsRight n raw) _ _
+      (λ e. skip (16 when (C.FromA n raw)) _ _ (from-other n raw e)
+      (ask-lt toldWriting room (W.unitsOf n (length raw) * u) 3 _ _ _ refl (none tt)))
+      (λ e. first (inl (from-a n raw e, refl)))
 
   named : (n ≡ W.unknown → ⊥) → W.isNamed n ≡ true → By writeBy (toldWriting (W.writing u n tag tags raw room))
   unfolding W.writing firstNumber toldWriting
-  named not i =
-      rw i (skip (6 when (n ≡ W.unknown)) _ _ not
-      (pick-by (λ (w : W.Writing). By (12 when (C.Unfit n tags raw) ∷ behindTwelve) (toldWriting w))
-      (W.isFit n tags raw) _ _
-      (λ e. skip (12 when (C.Unfit n tags raw)) _ _ (fits n tags raw e)
-      (pick-by (λ (w : W.Writing). By behindTwelve (toldWriting w)) (W.isShort n raw) _ _
-      (λ s. skip (18 when (C.SmallHolds n raw)) _ _ (short n raw s)
-      (ask-strange toldWriting (ltb (firstStranger (take tags tag)) tags) (C.valueIn tag) 0 tags (firstStranger (take tags tag)) _ _ _
-      (λ f. rw (getD-take tags tag (firstStranger (take tags tag)) 0 (ltb-true _ tags f)))
-      (λ f. stranger-in tags tag (ltb-true _ tags f)) (λ f. no-stranger-in tags tag (ltb-false _ tags f))
-      (ask-lt toldWriting room (W.unitsOf n raw * u) 3 _ _ _ refl (none tt))))
-      (λ s. first (inl (long n raw s, refl)))))
-      (λ e. first (inl (unfit n tags raw i e, refl)))))
+  named not-unknown i =
+      rw (i, asked n tag tags raw) (skip (6 when (n ≡ W.unknown)) _ _ not-unknown
+      (pick-by (λ (w : W.Writing). By (12 when (C.Unfit n tags (length raw)) ∷ behindTwelve) (toldWriting w))
+      (W.isFit n tags (length raw)) _ _
+      (λ e. skip (12 when (C.Unfit n tags (length raw))) _ _ (fits n tags (length raw) e)
+      (pick-by (λ (w : W.Writing). By behindTwelve (toldWriting w)) (W.isShort n (length raw)) _ _
+      (λ s. skip (18 when (C.SmallHolds n (length raw))) _ _ (short n (length raw) s)
+      (ask-strange toldWriting (ltb (firstStranger (take many chars)) many) (C.valueIn chars) 0 many (firstStranger (take many chars)) _ _ _
+      (λ f. rw (getD-take many chars (firstStranger (take many chars)) 0 (ltb-true _ many f)))
+      (λ f. stranger-in many chars (ltb-true _ many f)) (λ f. no-stranger-in many chars (ltb-false _ many f)) begins))
+      (λ s. first (inl (long n (length raw) s, refl)))))
+      (λ e. first (inl (unfit n tags (length raw) i e, refl)))))
 
-writes : (u : ℕ) (n : W.Named) (tag : List ℕ) (tags raw room : ℕ) → By (writeBy u n tag tags raw room) (toldWriting (W.writing u n tag tags raw room))
+writes : (u : ℕ) (n : W.Named) (tag : List ℕ) (tags : ℕ) (raw : List ℕ) (room : ℕ)
+    → By (writeBy u n tag tags raw room) (toldWriting (W.writing u n tag tags raw room))
 unfolding W.writing W.isNamed toldWriting
 writes u W.unknown tag tags raw room = first (inl (refl, refl))
 writes u (W.row c) tag tags raw room = named u (W.row c) tag tags raw room (λ e. let z : _≡_ {A = ℕ} 0 1 = cc in omega arith) refl
 writes u (W.variable t h) tag tags raw room =
     named u (W.variable t h) tag tags raw room (λ e. let z : _≡_ {A = ℕ} 0 1 = cc in omega arith) refl
+writes u (W.textual h) tag tags raw room = named u (W.textual h) tag tags raw room (λ e. let z : _≡_ {A = ℕ} 0 1 = cc in omega arith) refl
 
 -- ---- reading
 
@@ -295,17 +373,18 @@ toldBinaryRead r = toldBinaryFound (r .found)
 
 -- 3, behind all that reading asks
 text-answer : (at : ℕ) (rs : List Rule) (k : Kind) (h n : ℕ) (r : Reading) (s : List ℕ) (room : ℕ) → Reads rs k h n r
-    → By (rs ++ (3 when (room < 3 * n - rawStart k h) ∷ [])) (toldTextRead (textAnswer at r s room))
-unfolding textAnswer toldTextRead toldTextFound
+    → By (rs ++ (3 when (room < length (valueOf k h (take (4 * n) s))) ∷ [])) (toldTextRead (textAnswer at r s room))
+unfolding textAnswer valueAt toldTextRead toldTextFound
 text-answer at rs k h n r s room (not-there {m = m} f) = first (in-front rs _ m f)
 text-answer at rs k h n r s room (there q) =
-    behind rs _ _ q (ask-lt toldTextRead room (3 * n - rawStart k h) 3 _ _ _ refl (none tt))
+    behind rs _ _ q (ask-lt toldTextRead room (length (valueOf k h (take (4 * n) s))) 3 _ _ _ refl (none tt))
 
-binary-answer : (at : ℕ) (rs : List Rule) (k : Kind) (h n : ℕ) (r : Reading) (s : List ℕ) → Reads rs k h n r
-    → By rs (toldBinaryRead (binaryAnswer at r s))
-unfolding binaryAnswer toldBinaryRead toldBinaryFound
-binary-answer at rs k h n r s (not-there f) = first f
-binary-answer at rs k h n r s (there q) = none q
+binary-answer : (at : ℕ) (rs : List Rule) (k : Kind) (h n : ℕ) (r : Reading) (s : List ℕ) (room : ℕ) → Reads rs k h n r
+    → By (rs ++ (3 when (room < length (textIn k h (take (4 * n) s))) ∷ [])) (toldBinaryRead (binaryAnswer at r s room))
+unfolding binaryAnswer textAt toldBinaryRead toldBinaryFound
+binary-answer at rs k h n r s room (not-there {m = m} f) = first (in-front rs _ m f)
+binary-answer at rs k h n r s room (there q) =
+    behind rs _ _ q (ask-lt toldBinaryRead room (length (textIn k h (take (4 * n) s))) 3 _ _ _ refl (none tt))
 
 text-read : (xs : List ℕ) (at room : ℕ) → By (C.readTextRules xs at room) (toldTextRead (readText xs at room))
 unfolding readText from textAnswer toldTextRead toldTextFound
@@ -316,12 +395,12 @@ text-read xs at room =
     (λ g. rw (no-unit s (omega (arith, text-reader .units (drop at xs), length-drop at xs))) (first (inl (g, refl))))
     (lt-or-ge at (length xs)))
 
-binary-read : (xs : List ℕ) (at : ℕ) → By (C.readBinaryRules xs at) (toldBinaryRead (readBinary xs at))
+binary-read : (xs : List ℕ) (at room : ℕ) → By (C.readBinaryRules xs at room) (toldBinaryRead (readBinary xs at room))
 unfolding readBinary from binaryAnswer toldBinaryRead toldBinaryFound
-binary-read xs at =
+binary-read xs at room =
     let s : List ℕ = binary .sextets (drop at xs) in
     ask-lt toldBinaryRead (binary .limit) (length xs) 1 _ _ _ refl
-    (⊎-elim (λ l. skip (4 when (length xs ≤ at)) _ _ (λ g. omega arith) (binary-answer at (fromFraming s) _ _ _ (reading s) s (reads s)))
+    (⊎-elim (λ l. skip (4 when (length xs ≤ at)) _ _ (λ g. omega arith) (binary-answer at (fromFraming s) _ _ _ (reading s) s room (reads s)))
     (λ g. rw (no-unit s (omega (arith, binary-reader .units (drop at xs), length-drop at xs))) (first (inl (g, refl))))
     (lt-or-ge at (length xs)))
 
@@ -331,7 +410,7 @@ clean : (s : List ℕ) → Below 64 s → (start stop : ℕ) → Clean (sextet s
 clean s b start stop i l u =
     ⊎-elim (λ g. below-at 64 s b i g) (λ g. omega (arith, List·getD-eq-default s 0 {n = i} g)) (lt-or-ge i (length s))
 
-module _ (xs : List ℕ) (at : ℕ) where
+module _ (xs : List ℕ) (at room : ℕ) where
   abbrev fromOffset : List ℕ
   fromOffset = binary .sextets (drop at xs)
 
@@ -342,11 +421,11 @@ module _ (xs : List ℕ) (at : ℕ) where
   own-known = clean _ (below-take 64 (4 * C.itemSize fromOffset) fromOffset (binary-below (drop at xs)))
 
   -- in the first unit, in the header, behind it
-  no-five : Allowed (1 ∷ 4 ∷ 6 ∷ 14 ∷ 18 ∷ 9 ∷ 8 ∷ 10 ∷ []) (C.readBinaryRules xs at)
+  no-five : Allowed (1 ∷ 4 ∷ 6 ∷ 14 ∷ 18 ∷ 9 ∷ 8 ∷ 16 ∷ 10 ∷ 3 ∷ []) (C.readBinaryRules xs at room)
   no-five =
       inl tt & inl tt & inl tt & inr (clean-other _ _ _ (all-known _ _)) & inr (clean-ordinary _ _ _ (all-known _ _)) & inl tt & inl tt
       & inr (clean-other _ _ _ (all-known _ _)) & inr (clean-ordinary _ _ _ (all-known _ _)) & inl tt & inl tt
-      & inr (clean-other _ _ _ (own-known _ _)) & inr (clean-ordinary _ _ _ (own-known _ _)) & inl tt & inl tt & inl tt & inl tt & end
+      & inr (clean-other _ _ _ (own-known _ _)) & inr (clean-ordinary _ _ _ (own-known _ _)) & inl tt & inl tt & inl tt & inl tt & inl tt & inl tt & end
 
 -- ---- all of it
 
@@ -369,17 +448,17 @@ binary-outcome (W.refused m p) = refl
 binary-outcome (W.written n) = refl
 
 write-text : (code : Code) (tag : List ℕ) (tags : ℕ) (raw : List ℕ) (room : ℕ)
-    → By (C.writeRules 4 code tag tags (length raw) room) (toldTextWritten (W.writeText code tag tags raw room))
+    → By (C.writeRules 4 code tag tags raw room) (toldTextWritten (W.writeText code tag tags raw room))
 unfolding W.writeText
-write-text code tag tags raw room = rw text-outcome (writes 4 (W.named code) tag tags (length raw) room)
+write-text code tag tags raw room = rw text-outcome (writes 4 (W.named code) tag tags raw room)
 
 write-binary : (code : Code) (tag : List ℕ) (tags : ℕ) (raw : List ℕ) (room : ℕ)
-    → By (C.writeRules 3 code tag tags (length raw) room) (toldBinaryWritten (W.writeBinary code tag tags raw room))
+    → By (C.writeRules 3 code tag tags raw room) (toldBinaryWritten (W.writeBinary code tag tags raw room))
 unfolding W.writeBinary
-write-binary code tag tags raw room = rw binary-outcome (writes 3 (W.named code) tag tags (length raw) room)
+write-binary code tag tags raw room = rw binary-outcome (writes 3 (W.named code) tag tags raw room)
 
 pub demand1 : Demand1
-unfolding binaryLeft textLeft reportLeft rawLeft partAt W.textItemLeft W.binaryItemLeft toldBinary toldText toldReport toldTextRead
+unfolding binaryLeft textLeft reportLeft valueLeft charsLeft partAt W.textItemLeft W.binaryItemLeft toldBinary toldText toldReport toldTextRead
     toldTextFound toldBinaryRead toldBinaryFound toldTextWritten toldBinaryWritten
 demand1 = record {
   to-binary = λ s d m p e.
@@ -393,27 +472,28 @@ demand1 = record {
   reports-accepts = λ f s d n e. by-none _ (subst (By _) (ap toldReport e) (report f s (length d)));
   read-text = λ s at d m p e. (
     refusal _ (C.readTextRules s at (length d)) m (λ z. z)
-        (inl tt & inl tt & inl tt & inl tt & inl tt & inl tt & inl tt & inl tt & inl tt & inl tt & inl tt & inl tt & inl tt & inl tt & inl tt & inl tt & inl tt & inl tt & end)
+        (inl tt & inl tt & inl tt & inl tt & inl tt & inl tt & inl tt & inl tt & inl tt & inl tt & inl tt & inl tt & inl tt & inl tt & inl tt & inl tt & inl tt & inl tt & inl tt & end)
         (by-first _ m (subst (By (C.readTextRules s at (length d))) (ap toldTextFound e) (text-read s at (length d)))),
     rw e,
   );
   read-text-accepts = λ s at d q e.
       by-none (C.readTextRules s at (length d)) (subst (By (C.readTextRules s at (length d))) (ap toldTextFound e) (text-read s at (length d)));
-  read-binary = λ s at m p e. (
-    refusal _ (C.readBinaryRules s at) m (λ z. z) (no-five s at)
-        (by-first _ m (subst (By (C.readBinaryRules s at)) (ap toldBinaryFound e) (binary-read s at))),
+  read-binary = λ s at d m p e. (
+    refusal _ (C.readBinaryRules s at (length d)) m (λ z. z) (no-five s at (length d))
+        (by-first _ m (subst (By (C.readBinaryRules s at (length d))) (ap toldBinaryFound e) (binary-read s at (length d)))),
+    rw e,
     rw e,
   );
-  read-binary-accepts = λ s at q e.
-      by-none (C.readBinaryRules s at) (subst (By (C.readBinaryRules s at)) (ap toldBinaryFound e) (binary-read s at));
+  read-binary-accepts = λ s at d q e.
+      by-none (C.readBinaryRules s at (length d)) (subst (By (C.readBinaryRules s at (length d))) (ap toldBinaryFound e) (binary-read s at (length d)));
   write-text = λ code tag tags raw d m p e. (
-    refusal _ _ m (λ z. z) (inl tt & inl tt & inl tt & inl tt & inl tt & inl tt & end)
+    refusal _ _ m (λ z. z) (inl tt & inl tt & inl tt & inl tt & inl tt & inl tt & inl tt & end)
         (by-first _ m (subst (By _) (ap toldTextWritten e) (write-text code tag tags raw (length d)))),
     rw e,
   );
   write-text-accepts = λ code tag tags raw d n e. by-none _ (subst (By _) (ap toldTextWritten e) (write-text code tag tags raw (length d)));
   write-binary = λ code tag tags raw d m p e. (
-    refusal _ _ m (λ z. z) (inl tt & inl tt & inl tt & inl tt & inl tt & inl tt & end)
+    refusal _ _ m (λ z. z) (inl tt & inl tt & inl tt & inl tt & inl tt & inl tt & inl tt & end)
         (by-first _ m (subst (By _) (ap toldBinaryWritten e) (write-binary code tag tags raw (length d)))),
     rw e,
   );

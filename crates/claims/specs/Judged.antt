@@ -22,6 +22,7 @@ use Rattle.claims.specs.Order.{Rule, _when_, First, None}
 use Rattle.claims.specs.Rules.{in-front}
 use Rattle.claims.specs.Conditions.{Other, Ordinary, FirstIs, FitsSmall, judging, groupRules, ownRules}
 use Rattle.claims.specs.Strangers.{strange, bad-first}
+use Rattle.claims.specs.TextRules.{wrong-value, right-value}
 
 infixr 5 _&_
 pub data Judged (rs : List Rule) : Verdict → Type 0 where
@@ -176,12 +177,14 @@ pub own-judged : (l : ℕ) (k : Kind) (h : ℕ) (s : List ℕ) → Judged (ownRu
 unfolding judgeKind behind ownCheck
 own-judged l (Fixed c) h s =
     then-judged _ _ _ _ (behind-judged (4 * h) s)
-    (skip (18 when ⊥) _ _ (λ q. q) (skip (9 when ⊥) _ _ (λ q. q) (then-judged _ _ _ _ (unless-false 8 _) (unless-false 10 _))))
+    (skip (18 when ⊥) _ _ (λ q. q) (skip (9 when ⊥) _ _ (λ q. q)
+    (then-judged _ _ _ _ (unless-false 8 _) (skip (16 when ⊥) _ _ (λ q. q) (unless-false 10 _)))))
 own-judged l (Variable t lead n) h s =
     then-judged _ _ _ _ (behind-judged (4 * h) s)
     (then-judged _ _ _ _ (short-judged h n)
     (then-judged _ _ _ _ (unless-judged 9 _ _ (lead-missing lead n) (lead-there lead n))
-    (trail _ (10 when ⊥) _ (λ q. q) (unless-false 8 _))))
+    (then-judged _ _ _ _ (unless-false 8 _)
+    (trail _ (10 when ⊥) _ (λ q. q) (unless-judged 16 _ _ (wrong-value t lead (drop (4 * h) s)) (right-value t lead (drop (4 * h) s)))))))
 own-judged l (Group letter) h s = check l
   where
     check : (m : ℕ) → Judged (groupRules m letter h s) (ownCheck m letter h (drop (4 * h) s))

@@ -4,6 +4,7 @@ pub mod Rules
 pub mod Conditions
 pub mod Strangers
 pub mod Framed
+pub mod TextRules
 pub mod Judged
 pub mod Claims
 pub mod Header
@@ -17,5 +18,6 @@ pub mod Parts
 pub mod Demand2
 pub mod Deeper
 pub mod Short
+pub mod Text
 pub mod Proved
 pub mod Room

@@ -7,6 +7,7 @@ use Rattle.claims.specs.Lookup.{lookup-claims}
 use Rattle.claims.specs.Demand3.{text-demand3, binary-demand3}
 use Rattle.claims.specs.Deeper.{deeper-claims}
 use Rattle.claims.specs.Short.{short-form}
+use Rattle.claims.specs.Text.{text-claims}
 
 pub proved : Claims
 proved = record {
@@ -18,4 +19,5 @@ proved = record {
   demand3-binary = binary-demand3;
   deeper = deeper-claims;
   short-form = short-form;
+  texts = text-claims;
 }

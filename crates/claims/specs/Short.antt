@@ -15,6 +15,7 @@ use Rattle.format.specs.declared.Framed.the-variants.{Item}
 use Rattle.format.specs.declared.Verdict.the-variants.{Accepted, Refused}
 use Rattle.format.specs.Registry.{isOpaque, isOverrideable}
 use Rattle.format.specs.Framing.{frame}
+use Rattle.format.specs.Texts.{valueRight}
 use Rattle.format.specs.Judging.{shift, andThen, unless, isShortest, behind, hasLead, zeroBits, judgeKind, judgeBy, ownCheck, group, inTurn, contents, judge}
 use Rattle.laws.specs.Levels.{then-accepts}
 use Rattle.claims.specs.Claims.{ShortFormClaims}
@@ -38,7 +39,9 @@ unfolding judge judgeBy judgeKind andThen unless
 large-variable l t lead n size s e few known = rw (e, known, long n few)
 
 other-variable : (l t lead n h size : ℕ) (s : List ℕ) → frame s ≡ Item (Variable t lead n) h size → (h ≡ 1) ⊎ (4096 ≤ n)
-    → judge l s ≡ andThen (behind h s) (andThen (unless 9 (hasLead lead n)) (unless 8 (zeroBits s (4 * h) (8 * lead))))
+    → judge l s
+    ≡ andThen (behind h s)
+    (andThen (unless 9 (hasLead lead n)) (andThen (unless 8 (zeroBits s (4 * h) (8 * lead))) (unless 16 (valueRight t lead (drop (4 * h) s)))))
 unfolding judge judgeBy judgeKind andThen unless
 other-variable l t lead n h size s e many = rw (e, short h n many)
 

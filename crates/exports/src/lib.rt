@@ -1,5 +1,6 @@
 // The public calls for C and Rust, on numbers and byte slices: a number, 0 for accepted, and what else there is to say behind
 // `answer`. Nothing is decided here.
+use exports_values::INFO;
 use exports_values::STATE;
 use format::BinaryFound;
 use format::BinaryOffset;
@@ -16,7 +17,7 @@ ghost use mathlib.Core.Path.{_≡_};
 ghost use lib.ListN.{length};
 ghost use Rattle.format.specs.Conversion.{textToBinary, toBinaryNumber, toBinaryValue, binaryLeft, binaryToText, toTextNumber, toTextValue, textLeft};
 ghost use Rattle.format.specs.Units.{text, binary};
-ghost use Rattle.format.specs.Reading.{readText, readBinary, rawLeft};
+ghost use Rattle.format.specs.Reading.{readText, valueLeft, readBinary, charsLeft};
 ghost use Rattle.format.specs.Writing.{writeText, textItemLeft, writeBinary, binaryItemLeft};
 ghost use Rattle.walk_state.specs.Walking.{textStep, binaryStep};
 ghost use Rattle.exports_values.specs.Answers.{codeFrom};
@@ -111,19 +112,19 @@ pub extern "C" fn cesr_report_binary(stream: &[u8], out: &mut [u8], answer: &mut
 
 // ---- reading and writing a primitive
 
-// answer: the raw length, or the place in the text. A refused call writes to no other place.
+// out: the value, raw bytes or a text; answer: its length, or the place in the text. A refused call writes to no other place.
 #[no_mangle]
 pub extern "C" fn cesr_read_text(
     stream: &[u8],
     at: usize,
     out: &mut [u8],
     tag: &mut [u8; 11],
-    info: &mut [usize; 6],
+    info: &mut [usize; INFO],
     answer: &mut usize,
 ) -> u8
     ensures { λ r. ⌜ r ≡ textFoundNumber (readText (now (stream .entry)) at (length (now (out .entry))) .found) ⌝ }
     ensures { λ r. ⌜ now (answer .exit) ≡ textFoundValue (readText (now (stream .entry)) at (length (now (out .entry))) .found) ⌝ }
-    ensures { λ r. ⌜ now (out .exit) ≡ rawLeft (readText (now (stream .entry)) at (length (now (out .entry))) .found) (now (stream .entry)) at (now (out .entry)) ⌝ }
+    ensures { λ r. ⌜ now (out .exit) ≡ valueLeft (readText (now (stream .entry)) at (length (now (out .entry))) .found) (now (stream .entry)) at (now (out .entry)) ⌝ }
     ensures { λ r. ⌜ now (tag .exit) ≡ textTagLeft (readText (now (stream .entry)) at (length (now (out .entry))) .found) (readText (now (stream .entry)) at (length (now (out .entry))) .tag) (now (tag .entry)) ⌝ }
     ensures { λ r. ⌜ now (info .exit) ≡ textInfoLeft (readText (now (stream .entry)) at (length (now (out .entry))) .found) (now (info .entry)) ⌝ }
 {
@@ -135,7 +136,7 @@ pub extern "C" fn cesr_read_text(
             let numbers = exports_values::info_of(p);
             *tag = characters;
             *info = numbers;
-            *answer = p.raw;
+            *answer = exports_values::value_size(p);
             0
         }
         TextFound::Refused(number, place) => {
@@ -145,21 +146,23 @@ pub extern "C" fn cesr_read_text(
     }
 }
 
-// answer: the raw length, or the place in the binary. The raw value lies in the stream, where info says.
+// out: a text; any other value lies in the stream, where info says. answer: the value's length, or the place in the binary.
 #[no_mangle]
 pub extern "C" fn cesr_read_binary(
     stream: &[u8],
     at: usize,
+    out: &mut [u8],
     tag: &mut [u8; 11],
-    info: &mut [usize; 6],
+    info: &mut [usize; INFO],
     answer: &mut usize,
 ) -> u8
-    ensures { λ r. ⌜ r ≡ binaryFoundNumber (readBinary (now (stream .entry)) at .found) ⌝ }
-    ensures { λ r. ⌜ now (answer .exit) ≡ binaryFoundValue (readBinary (now (stream .entry)) at .found) ⌝ }
-    ensures { λ r. ⌜ now (tag .exit) ≡ binaryTagLeft (readBinary (now (stream .entry)) at .found) (readBinary (now (stream .entry)) at .tag) (now (tag .entry)) ⌝ }
-    ensures { λ r. ⌜ now (info .exit) ≡ binaryInfoLeft (readBinary (now (stream .entry)) at .found) (now (info .entry)) ⌝ }
+    ensures { λ r. ⌜ r ≡ binaryFoundNumber (readBinary (now (stream .entry)) at (length (now (out .entry))) .found) ⌝ }
+    ensures { λ r. ⌜ now (answer .exit) ≡ binaryFoundValue (readBinary (now (stream .entry)) at (length (now (out .entry))) .found) ⌝ }
+    ensures { λ r. ⌜ now (out .exit) ≡ charsLeft (readBinary (now (stream .entry)) at (length (now (out .entry))) .found) (now (stream .entry)) at (now (out .entry)) ⌝ }
+    ensures { λ r. ⌜ now (tag .exit) ≡ binaryTagLeft (readBinary (now (stream .entry)) at (length (now (out .entry))) .found) (readBinary (now (stream .entry)) at (length (now (out .entry))) .tag) (now (tag .entry)) ⌝ }
+    ensures { λ r. ⌜ now (info .exit) ≡ binaryInfoLeft (readBinary (now (stream .entry)) at (length (now (out .entry))) .found) (now (info .entry)) ⌝ }
 {
-    let read = reading_binary::read_binary(stream, BinaryOffset(at));
+    let read = reading_binary::read_binary(stream, BinaryOffset(at), out);
     let found = read.found;
     let characters = read.tag;
     match found {
@@ -167,7 +170,7 @@ pub extern "C" fn cesr_read_binary(
             let numbers = exports_values::info_of(p);
             *tag = characters;
             *info = numbers;
-            *answer = p.raw;
+            *answer = exports_values::value_size(p);
             0
         }
         BinaryFound::Refused(number, place) => {
@@ -177,7 +180,7 @@ pub extern "C" fn cesr_read_binary(
     }
 }
 
-// answer: the length written, or the place: for 5 and 19 the index among the tag characters.
+// answer: the length written, or the place: for 5 and 19 the index among the tag characters, or in a text.
 #[no_mangle]
 pub extern "C" fn cesr_write_text(
     chars: u8,
@@ -206,7 +209,7 @@ pub extern "C" fn cesr_write_text(
     }
 }
 
-// answer: the length written, or the place: for 5 and 19 the index among the tag characters.
+// answer: the length written, or the place: for 5 and 19 the index among the tag characters, or in a text.
 #[no_mangle]
 pub extern "C" fn cesr_write_binary(
     chars: u8,

@@ -11,7 +11,7 @@ use Rattle.format.specs.Units.{Domain, text, binary}
 use Rattle.format.specs.Judging.{maxDepth}
 use Rattle.format.specs.Conversion.{textToBinary, toBinaryNumber, binaryLeft, binaryToText, toTextNumber, textLeft}
 use Rattle.format.specs.Report.{reportAnswer, reportNumber, reportLeft}
-use Rattle.format.specs.Reading.{readText, rawLeft, readBinary}
+use Rattle.format.specs.Reading.{readText, valueLeft, readBinary, charsLeft}
 use Rattle.format.specs.Writing.{writeText, textItemLeft, writeBinary, binaryItemLeft}
 use Rattle.walk_state.specs.declared.Walk.{Walk}
 use Rattle.walk_state.specs.declared.TextItem.the-variants as TI
@@ -37,7 +37,8 @@ pub record ZeroClaims : Type 0 where
   pub reports : (f : Domain) (s d : List ℕ) → (reportNumber (reportAnswer f s (length d)) ≡ 0) ↔ Report (reportAnswer f s (length d))
   pub read-text : (s : List ℕ) (at : ℕ) (d : List ℕ)
       → (textFoundNumber (readText s at (length d) .found) ≡ 0) ↔ ReadText (readText s at (length d) .found)
-  pub read-binary : (s : List ℕ) (at : ℕ) → (binaryFoundNumber (readBinary s at .found) ≡ 0) ↔ ReadBinary (readBinary s at .found)
+  pub read-binary : (s : List ℕ) (at : ℕ) (d : List ℕ)
+      → (binaryFoundNumber (readBinary s at (length d) .found) ≡ 0) ↔ ReadBinary (readBinary s at (length d) .found)
   pub write-text : (code : Code) (tag : List ℕ) (tags : ℕ) (raw d : List ℕ)
       → (textWrittenNumber (writeText code tag tags raw (length d)) ≡ 0) ↔ WroteText (writeText code tag tags raw (length d))
   pub write-binary : (code : Code) (tag : List ℕ) (tags : ℕ) (raw d : List ℕ)
@@ -55,9 +56,9 @@ pub record KeepClaims : Type 0 where
   pub to-text : (s d : List ℕ) → let a = binaryToText s (length d) in (toTextNumber a ≡ 0 → ⊥) → textLeft a s d ≡ d
   pub reports : (f : Domain) (s d : List ℕ) → let a = reportAnswer f s (length d) in (reportNumber a ≡ 0 → ⊥) → reportLeft a f s d ≡ d
   pub read-text : (s : List ℕ) (at : ℕ) (d tag info : List ℕ) → let a = readText s at (length d) in (textFoundNumber (a .found) ≡ 0 → ⊥)
-      → (rawLeft (a .found) s at d ≡ d) × (textTagLeft (a .found) (a .tag) tag ≡ tag) × (textInfoLeft (a .found) info ≡ info)
-  pub read-binary : (s : List ℕ) (at : ℕ) (tag info : List ℕ) → let a = readBinary s at in (binaryFoundNumber (a .found) ≡ 0 → ⊥)
-      → (binaryTagLeft (a .found) (a .tag) tag ≡ tag) × (binaryInfoLeft (a .found) info ≡ info)
+      → (valueLeft (a .found) s at d ≡ d) × (textTagLeft (a .found) (a .tag) tag ≡ tag) × (textInfoLeft (a .found) info ≡ info)
+  pub read-binary : (s : List ℕ) (at : ℕ) (d tag info : List ℕ) → let a = readBinary s at (length d) in (binaryFoundNumber (a .found) ≡ 0 → ⊥)
+      → (charsLeft (a .found) s at d ≡ d) × (binaryTagLeft (a .found) (a .tag) tag ≡ tag) × (binaryInfoLeft (a .found) info ≡ info)
   pub write-text : (code : Code) (tag : List ℕ) (tags : ℕ) (raw d : List ℕ) → let a = writeText code tag tags raw (length d) in
       (textWrittenNumber a ≡ 0 → ⊥) → textItemLeft a code tag tags raw d ≡ d
   pub write-binary : (code : Code) (tag : List ℕ) (tags : ℕ) (raw d : List ℕ) → let a = writeBinary code tag tags raw (length d) in

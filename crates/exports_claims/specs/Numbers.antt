@@ -28,7 +28,7 @@ use Rattle.format.specs.Units.{Domain, text, binary}
 use Rattle.format.specs.Offsets.{textOffset, binaryOffset}
 use Rattle.format.specs.Conversion.{textToBinary, toBinaryNumber, binaryLeft, binaryToText, toTextNumber, textLeft}
 use Rattle.format.specs.Report.{reportAnswer, reportNumber, reportLeft}
-use Rattle.format.specs.Reading.{readText, rawLeft, readBinary}
+use Rattle.format.specs.Reading.{readText, valueLeft, readBinary, charsLeft}
 use Rattle.format.specs.Writing.{writeText, textItemLeft, writeBinary, binaryItemLeft}
 use Rattle.claims.specs.Claims.{Demand1}
 use Rattle.claims.specs.Demand1.{demand1}
@@ -100,16 +100,16 @@ report-keeps (R.Written n) f s d h = absurd (h refl)
 report-keeps (R.Refused m p) f s d h = refl
 
 text-found-keeps : (a : TextFound) (s : List ℕ) (at : ℕ) (d chars tag info : List ℕ) → (textFoundNumber a ≡ 0 → ⊥)
-    → (rawLeft a s at d ≡ d) × (textTagLeft a chars tag ≡ tag) × (textInfoLeft a info ≡ info)
-unfolding textFoundNumber rawLeft textTagLeft textInfoLeft
+    → (valueLeft a s at d ≡ d) × (textTagLeft a chars tag ≡ tag) × (textInfoLeft a info ≡ info)
+unfolding textFoundNumber valueLeft textTagLeft textInfoLeft
 text-found-keeps (TF.Found q) s at d chars tag info h = absurd (h refl)
 text-found-keeps (TF.Refused m p) s at d chars tag info h = (refl, refl, refl)
 
-binary-found-keeps : (a : BinaryFound) (chars tag info : List ℕ) → (binaryFoundNumber a ≡ 0 → ⊥)
-    → (binaryTagLeft a chars tag ≡ tag) × (binaryInfoLeft a info ≡ info)
-unfolding binaryFoundNumber binaryTagLeft binaryInfoLeft
-binary-found-keeps (BF.Found q) chars tag info h = absurd (h refl)
-binary-found-keeps (BF.Refused m p) chars tag info h = (refl, refl)
+binary-found-keeps : (a : BinaryFound) (s : List ℕ) (at : ℕ) (d chars tag info : List ℕ) → (binaryFoundNumber a ≡ 0 → ⊥)
+    → (charsLeft a s at d ≡ d) × (binaryTagLeft a chars tag ≡ tag) × (binaryInfoLeft a info ≡ info)
+unfolding binaryFoundNumber charsLeft binaryTagLeft binaryInfoLeft
+binary-found-keeps (BF.Found q) s at d chars tag info h = absurd (h refl)
+binary-found-keeps (BF.Refused m p) s at d chars tag info h = (refl, refl, refl)
 
 text-written-keeps : (a : TextWritten) (code : Code) (tag : List ℕ) (tags : ℕ) (raw d : List ℕ) → (textWrittenNumber a ≡ 0 → ⊥)
     → textItemLeft a code tag tags raw d ≡ d
@@ -183,7 +183,7 @@ zero-claims = record {
   to-text = λ s d. text-zero (binaryToText s (length d)) (λ m p e. demand1 .to-text s d m p e .0 .not-accepted);
   reports = λ f s d. report-zero (reportAnswer f s (length d)) (λ m p e. demand1 .reports f s d m p e .0 .not-accepted);
   read-text = λ s at d. text-found-zero (readText s at (length d) .found) (λ m p e. demand1 .read-text s at d m p e .0 .not-accepted);
-  read-binary = λ s at. binary-found-zero (readBinary s at .found) (λ m p e. demand1 .read-binary s at m p e .0 .not-accepted);
+  read-binary = λ s at d. binary-found-zero (readBinary s at (length d) .found) (λ m p e. demand1 .read-binary s at d m p e .0 .not-accepted);
   write-text = λ code tag tags raw d. text-written-zero (writeText code tag tags raw (length d))
       (λ m p e. demand1 .write-text code tag tags raw d m p e .0 .not-accepted);
   write-binary = λ code tag tags raw d. binary-written-zero (writeBinary code tag tags raw (length d))
@@ -200,7 +200,7 @@ keep-claims = record {
   to-text = λ s d. text-keeps (binaryToText s (length d)) s d;
   reports = λ f s d. report-keeps (reportAnswer f s (length d)) f s d;
   read-text = λ s at d. text-found-keeps (readText s at (length d) .found) s at d (readText s at (length d) .tag);
-  read-binary = λ s at. binary-found-keeps (readBinary s at .found) (readBinary s at .tag);
+  read-binary = λ s at d. binary-found-keeps (readBinary s at (length d) .found) s at d (readBinary s at (length d) .tag);
   write-text = λ code tag tags raw d. text-written-keeps (writeText code tag tags raw (length d)) code tag tags raw d;
   write-binary = λ code tag tags raw d. binary-written-keeps (writeBinary code tag tags raw (length d)) code tag tags raw d;
   walk-text = λ s w. text-step-keeps (textStep s w .found) (textStep s w .next);

@@ -35,17 +35,21 @@ codeFrom chars letter = pick (eqb chars 5) (C.Small letter) (pick (eqb chars 6) 
 -- ---- reading
 
 -- chars and letter of the code, full size in units, where the raw value starts in bytes of the binary form from the item's start, its
--- length, and the number of tag characters
+-- length, the number of tag characters, and that of a text's
 unfoldable pub infoOf : Primitive → List ℕ
-infoOf p = charsOf (p .code) ∷ letterOf (p .code) ∷ p .size ∷ p .start .0 ∷ p .raw ∷ p .tags ∷ []
+infoOf p = charsOf (p .code) ∷ letterOf (p .code) ∷ p .size ∷ p .start .0 ∷ p .raw ∷ p .tags ∷ p .text ∷ []
 
--- 0 and the raw length, or 01's number and the place
+-- the length of the value, a text's characters or raw bytes: one of the two is 0
+unfoldable pub valueSize : Primitive → ℕ
+valueSize p = pick (eqb (p .text) 0) (p .raw) (p .text)
+
+-- 0 and that length, or 01's number and the place
 unfoldable pub textFoundNumber : TextFound → ℕ
 textFoundNumber (T.Found p) = 0
 textFoundNumber (T.Refused number place) = number
 
 unfoldable pub textFoundValue : TextFound → ℕ
-textFoundValue (T.Found p) = p .raw
+textFoundValue (T.Found p) = valueSize p
 textFoundValue (T.Refused number place) = place .0
 
 -- a refused call writes to neither place
@@ -62,7 +66,7 @@ binaryFoundNumber (B.Found p) = 0
 binaryFoundNumber (B.Refused number place) = number
 
 unfoldable pub binaryFoundValue : BinaryFound → ℕ
-binaryFoundValue (B.Found p) = p .raw
+binaryFoundValue (B.Found p) = valueSize p
 binaryFoundValue (B.Refused number place) = place .0
 
 unfoldable pub binaryTagLeft : BinaryFound → List ℕ → List ℕ → List ℕ

@@ -16,7 +16,7 @@ ghost use Rattle.base.specs.Pick.{pick};
 ghost use Rattle.format.specs.Alphabet.{charOf};
 ghost use Rattle.format.specs.Judging.{maxDepth};
 ghost use Rattle.walk_state.specs.Lent.{slotsIn};
-ghost use Rattle.exports_values.specs.Answers.{charsOf, letterOf, codeFrom, infoOf};
+ghost use Rattle.exports_values.specs.Answers.{charsOf, letterOf, codeFrom, infoOf, valueSize};
 ghost use Rattle.exports_values.specs.Counts.{countsOf};
 ghost use Rattle.exports_values.specs.Lent.{stateSize, tooMany, placeIn, placeNumbers, walkOf, stateOf, sortOf, signOf, leadOf, itemOf};
 
@@ -48,13 +48,23 @@ fn letter_of(code: Code) -> usize
     }
 }
 
-pub fn info_of(p: Primitive) -> [usize; 6]
+// What C is told of a primitive.
+pub const INFO: usize = 7;
+
+pub fn info_of(p: Primitive) -> [usize; INFO]
     ensures { λ r. ⌜ r ≡ infoOf p ⌝ }
 {
     let code = p.code;
     let chars = chars_of(code);
     let letter = letter_of(code);
-    [chars, letter, p.size, p.start.0, p.raw, p.tags]
+    [chars, letter, p.size, p.start.0, p.raw, p.tags, p.text]
+}
+
+// The length of its value, a text's characters or raw bytes.
+pub fn value_size(p: Primitive) -> usize
+    ensures { λ r. ⌜ r ≡ valueSize p ⌝ }
+{
+    if p.text == 0 { p.raw } else { p.text }
 }
 
 pub fn code_from(chars: u8, letter: u8) -> Code

@@ -1,9 +1,9 @@
 -- 01, "Numbers a vendor sees" and "The report": calls with what they answer and what the buffer holds afterwards, as one table under a
 -- single claim. Each order of numbers is shown by a call that tells a number from the one asked next (but 9, 8, 10, which no item tells
--- apart: D60, and a writer's 18 and 5: D111). Text is written by its characters' numbers; a buffer holds nines. What is expected is 01's word. Assumes nothing.
+-- apart: D60). Text is written by its characters' numbers; a buffer holds nines. What is expected is 01's word. Assumes nothing.
 use Prim.Native.Nat.{ℕ, _*_, _/_, _≤_, _<_}
 use mathlib.Core.Path.{_≡_, refl}
-use mathlib.Core.List.{List, [], _∷_}
+use mathlib.Core.List.{List, [], _∷_, _++_}
 use native.Mathlib.Omega.{arith}
 use lib.ListN.{length}
 use borrow.Author.Tests.{lt-ltb, le-ltb}
@@ -33,7 +33,9 @@ use Rattle.format.specs.Conversion.{toBinary, toText, firstStranger, fir
 use Rattle.format.specs.Report.{refusal, refusalsOf, refusals, be4, verdictByte, rowBytes, refusalBytes, remainderBytes, concat}
 use Rattle.format.specs.Report.{section, report, reportAnswer, reportLeft}
 use Rattle.format.specs.Reading.{codeOf, isPrimitive, tagsOf, primitiveOf, judged, readFramed, reading, from, placeFrom, padded, noTag}
-use Rattle.format.specs.Reading.{textAnswer, readText, textRaw, rawLeft, binaryAnswer, readBinary, partAt}
+use Rattle.format.specs.Reading.{valueAt, textAt, textAnswer, readText, valueLeft, binaryAnswer, readBinary, charsLeft, partAt}
+use Rattle.format.specs.Texts.{fillFor, textLead, textCount}
+use Rattle.format.specs.Values.{valueOf}
 use Rattle.format.specs.Writing as W
 use Rattle.format.specs.Deck.{given}
 
@@ -43,14 +45,14 @@ infixr 5 _&_
 pub data Call : Type 0 where
   ToBinary ToText : List ℕ → List ℕ → Call  -- the stream, the buffer
   Reports : Domain → List ℕ → List ℕ → Call  -- the stream, the buffer
-  ReadText : List ℕ → ℕ → List ℕ → Call  -- the stream, the offset, the buffer
-  ReadBinary : List ℕ → ℕ → Call
-  WriteText WriteBinary : Code → List ℕ → ℕ → List ℕ → List ℕ → Call  -- eleven places and their number, the raw value, the buffer
+  ReadText ReadBinary : List ℕ → ℕ → List ℕ → Call  -- the stream, the offset, the buffer
+  WriteText WriteBinary : Code → List ℕ → ℕ → List ℕ → List ℕ → Call  -- eleven places and their number, the raw value or a text, the buffer
 
 pub data Outcome : Type 0 where
   refused : ℕ → ℕ → List ℕ → Outcome  -- number, place, the buffer
   written : ℕ → List ℕ → Outcome  -- length, the buffer
-  read : Primitive → List ℕ → List ℕ → Outcome  -- tag characters, and the buffer or, in B, the part
+  read : Primitive → List ℕ → List ℕ → Outcome  -- tag characters, the buffer
+  readPart : Primitive → List ℕ → List ℕ → List ℕ → Outcome  -- in B: tag characters, the buffer, the part
 
 pub record Asked : Type 0 where
   pub call : Call
@@ -117,21 +119,21 @@ calls =
     asked (ReadText (77 ∷ 65 ∷ 65 ∷ 66 ∷ 77 ∷ 81 ∷ 65 ∷ 65 ∷ []) 4 []) (refused 8 4 []) ∷  -- `MAABMQAA` at 4, room 0: 8, then 3
     asked (ReadText (77 ∷ 65 ∷ 65 ∷ 66 ∷ 48 ∷ 74 ∷ 65 ∷ 65 ∷ []) 4 []) (refused 10 4 []) ∷  -- `MAAB0JAA` at 4, room 0: 10
     asked (ReadText (77 ∷ 65 ∷ 65 ∷ 66 ∷ 77 ∷ 65 ∷ 65 ∷ 66 ∷ []) 4 (9 ∷ [])) (refused 3 0 (9 ∷ [])) ∷  -- `MAABMAAB` at 4, room 1: 3, at place 0
-    asked (ReadText (77 ∷ 65 ∷ 65 ∷ 66 ∷ []) 0 (9 ∷ 9 ∷ 9 ∷ [])) (read (record { code = (C.Fixed 1 77); size = 1; start = binaryOffset 1; raw = 2; tags = 0 }) (0 ∷ 0 ∷ 0 ∷ 0 ∷ 0 ∷ 0 ∷ 0 ∷ 0 ∷ 0 ∷ 0 ∷ 0 ∷ []) (0 ∷ 1 ∷ 9 ∷ [])) ∷  -- `MAAB` at 0, room 3: raw 00 01, bytes behind it stay
-    asked (ReadText (65 ∷ 77 ∷ 65 ∷ 65 ∷ 66 ∷ []) 1 (9 ∷ 9 ∷ [])) (read (record { code = (C.Fixed 1 77); size = 1; start = binaryOffset 1; raw = 2; tags = 0 }) (0 ∷ 0 ∷ 0 ∷ 0 ∷ 0 ∷ 0 ∷ 0 ∷ 0 ∷ 0 ∷ 0 ∷ 0 ∷ []) (0 ∷ 1 ∷ [])) ∷  -- `AMAAB` at 1, room 2: any offset
-    asked (ReadText (86 ∷ 65 ∷ 66 ∷ 104 ∷ []) 0 (9 ∷ [])) (read (record { code = (C.Fixed 1 86); size = 1; start = binaryOffset 2; raw = 1; tags = 0 }) (0 ∷ 0 ∷ 0 ∷ 0 ∷ 0 ∷ 0 ∷ 0 ∷ 0 ∷ 0 ∷ 0 ∷ 0 ∷ []) (97 ∷ [])) ∷  -- `VABh` at 0, room 1: one zero lead byte more
-    asked (ReadText (48 ∷ 74 ∷ 95 ∷ 65 ∷ []) 0 (9 ∷ [])) (read (record { code = (C.Fixed 2 74); size = 1; start = binaryOffset 3; raw = 0; tags = 1 }) (65 ∷ 0 ∷ 0 ∷ 0 ∷ 0 ∷ 0 ∷ 0 ∷ 0 ∷ 0 ∷ 0 ∷ 0 ∷ []) (9 ∷ [])) ∷  -- `0J_A` at 0, room 1: a tag: no raw, at the item's end
-    asked (ReadText (49 ∷ 65 ∷ 65 ∷ 78 ∷ 65 ∷ 66 ∷ 67 ∷ 68 ∷ 69 ∷ 70 ∷ 71 ∷ 72 ∷ []) 0 []) (read (record { code = (C.Fixed 4 78); size = 3; start = binaryOffset 9; raw = 0; tags = 8 }) (65 ∷ 66 ∷ 67 ∷ 68 ∷ 69 ∷ 70 ∷ 71 ∷ 72 ∷ 0 ∷ 0 ∷ 0 ∷ []) []) ∷  -- `1AANABCDEFGH` at 0, room 0: eight tag characters
-    asked (ReadText (53 ∷ 66 ∷ 65 ∷ 66 ∷ 65 ∷ 71 ∷ 104 ∷ 112 ∷ []) 0 (9 ∷ 9 ∷ [])) (read (record { code = (C.Small 66); size = 2; start = binaryOffset 4; raw = 2; tags = 0 }) (0 ∷ 0 ∷ 0 ∷ 0 ∷ 0 ∷ 0 ∷ 0 ∷ 0 ∷ 0 ∷ 0 ∷ 0 ∷ []) (104 ∷ 105 ∷ [])) ∷  -- `5BABAGhp` at 0, room 2: small
+    asked (ReadText (77 ∷ 65 ∷ 65 ∷ 66 ∷ []) 0 (9 ∷ 9 ∷ 9 ∷ [])) (read (record { code = (C.Fixed 1 77); size = 1; start = binaryOffset 1; raw = 2; text = 0; tags = 0 }) (0 ∷ 0 ∷ 0 ∷ 0 ∷ 0 ∷ 0 ∷ 0 ∷ 0 ∷ 0 ∷ 0 ∷ 0 ∷ []) (0 ∷ 1 ∷ 9 ∷ [])) ∷  -- `MAAB` at 0, room 3: raw 00 01, bytes behind it stay
+    asked (ReadText (65 ∷ 77 ∷ 65 ∷ 65 ∷ 66 ∷ []) 1 (9 ∷ 9 ∷ [])) (read (record { code = (C.Fixed 1 77); size = 1; start = binaryOffset 1; raw = 2; text = 0; tags = 0 }) (0 ∷ 0 ∷ 0 ∷ 0 ∷ 0 ∷ 0 ∷ 0 ∷ 0 ∷ 0 ∷ 0 ∷ 0 ∷ []) (0 ∷ 1 ∷ [])) ∷  -- `AMAAB` at 1, room 2: any offset
+    asked (ReadText (86 ∷ 65 ∷ 66 ∷ 104 ∷ []) 0 (9 ∷ [])) (read (record { code = (C.Fixed 1 86); size = 1; start = binaryOffset 2; raw = 1; text = 0; tags = 0 }) (0 ∷ 0 ∷ 0 ∷ 0 ∷ 0 ∷ 0 ∷ 0 ∷ 0 ∷ 0 ∷ 0 ∷ 0 ∷ []) (97 ∷ [])) ∷  -- `VABh` at 0, room 1: one zero lead byte more
+    asked (ReadText (48 ∷ 74 ∷ 95 ∷ 65 ∷ []) 0 (9 ∷ [])) (read (record { code = (C.Fixed 2 74); size = 1; start = binaryOffset 3; raw = 0; text = 0; tags = 1 }) (65 ∷ 0 ∷ 0 ∷ 0 ∷ 0 ∷ 0 ∷ 0 ∷ 0 ∷ 0 ∷ 0 ∷ 0 ∷ []) (9 ∷ [])) ∷  -- `0J_A` at 0, room 1: a tag: no raw, at the item's end
+    asked (ReadText (49 ∷ 65 ∷ 65 ∷ 78 ∷ 65 ∷ 66 ∷ 67 ∷ 68 ∷ 69 ∷ 70 ∷ 71 ∷ 72 ∷ []) 0 []) (read (record { code = (C.Fixed 4 78); size = 3; start = binaryOffset 9; raw = 0; text = 0; tags = 8 }) (65 ∷ 66 ∷ 67 ∷ 68 ∷ 69 ∷ 70 ∷ 71 ∷ 72 ∷ 0 ∷ 0 ∷ 0 ∷ []) []) ∷  -- `1AANABCDEFGH` at 0, room 0: eight tag characters
+    asked (ReadText (53 ∷ 66 ∷ 65 ∷ 66 ∷ 65 ∷ 71 ∷ 104 ∷ 112 ∷ []) 0 (9 ∷ 9 ∷ [])) (read (record { code = (C.Small 66); size = 2; start = binaryOffset 4; raw = 2; text = 0; tags = 0 }) (0 ∷ 0 ∷ 0 ∷ 0 ∷ 0 ∷ 0 ∷ 0 ∷ 0 ∷ 0 ∷ 0 ∷ 0 ∷ []) (104 ∷ 105 ∷ [])) ∷  -- `5BABAGhp` at 0, room 2: small
     asked (ReadText (56 ∷ 65 ∷ 65 ∷ 66 ∷ 65 ∷ 65 ∷ 65 ∷ 66 ∷ 65 ∷ 71 ∷ 104 ∷ 112 ∷ []) 0 []) (refused 18 0 []) ∷  -- `8AABAAABAGhp` at 0, room 0: large, 18, then 3
     asked (ReadText (45 ∷ 45 ∷ 65 ∷ 65 ∷ 65 ∷ 65 ∷ 65 ∷ 65 ∷ []) 0 (9 ∷ [])) (refused 14 0 (9 ∷ [])) ∷  -- `--AAAAAA` at 0, room 1: 14, then 18
-    asked (ReadBinary (48 ∷ 0 ∷ 1 ∷ []) 3) (refused 4 3 []) ∷  -- `MAAB` in B at 3: 4 at the end
-    asked (ReadBinary (48 ∷ 0 ∷ 1 ∷ 49 ∷ 0 ∷ 0 ∷ []) 3) (refused 8 3 []) ∷  -- `MAABMQAA` in B at 3: places in bytes
-    asked (ReadBinary (248 ∷ 0 ∷ 1 ∷ 49 ∷ 0 ∷ 0 ∷ []) 0) (refused 14 0 []) ∷  -- `-AABMQAA` in B at 0: 14
-    asked (ReadBinary (251 ∷ 240 ∷ 0 ∷ 0 ∷ 16 ∷ 0 ∷ []) 0) (refused 14 0 []) ∷  -- `-_AAABAA` in B at 0: never 7
-    asked (ReadBinary (48 ∷ 0 ∷ 1 ∷ 48 ∷ 255 ∷ 255 ∷ []) 3) (read (record { code = (C.Fixed 1 77); size = 1; start = binaryOffset 1; raw = 2; tags = 0 }) (0 ∷ 0 ∷ 0 ∷ 0 ∷ 0 ∷ 0 ∷ 0 ∷ 0 ∷ 0 ∷ 0 ∷ 0 ∷ []) (255 ∷ 255 ∷ [])) ∷  -- `MAABMP__` in B at 3: the part where it lies
-    asked (ReadBinary (208 ∷ 159 ∷ 192 ∷ []) 0) (read (record { code = (C.Fixed 2 74); size = 1; start = binaryOffset 3; raw = 0; tags = 1 }) (65 ∷ 0 ∷ 0 ∷ 0 ∷ 0 ∷ 0 ∷ 0 ∷ 0 ∷ 0 ∷ 0 ∷ 0 ∷ []) []) ∷  -- `0J_A` in B at 0: an empty part
-    asked (ReadBinary (244 ∷ 0 ∷ 1 ∷ 0 ∷ 0 ∷ 1 ∷ 0 ∷ 0 ∷ 97 ∷ []) 0) (refused 18 0 []) ∷  -- `9AABAAABAABh` in B at 0: 18
+    asked (ReadBinary (48 ∷ 0 ∷ 1 ∷ []) 3 (9 ∷ [])) (refused 4 3 (9 ∷ [])) ∷  -- `MAAB` in B at 3: 4 at the end
+    asked (ReadBinary (48 ∷ 0 ∷ 1 ∷ 49 ∷ 0 ∷ 0 ∷ []) 3 (9 ∷ [])) (refused 8 3 (9 ∷ [])) ∷  -- `MAABMQAA` in B at 3: places in bytes
+    asked (ReadBinary (248 ∷ 0 ∷ 1 ∷ 49 ∷ 0 ∷ 0 ∷ []) 0 (9 ∷ [])) (refused 14 0 (9 ∷ [])) ∷  -- `-AABMQAA` in B at 0: 14
+    asked (ReadBinary (251 ∷ 240 ∷ 0 ∷ 0 ∷ 16 ∷ 0 ∷ []) 0 (9 ∷ [])) (refused 14 0 (9 ∷ [])) ∷  -- `-_AAABAA` in B at 0: never 7
+    asked (ReadBinary (48 ∷ 0 ∷ 1 ∷ 48 ∷ 255 ∷ 255 ∷ []) 3 (9 ∷ [])) (readPart (record { code = (C.Fixed 1 77); size = 1; start = binaryOffset 1; raw = 2; text = 0; tags = 0 }) (0 ∷ 0 ∷ 0 ∷ 0 ∷ 0 ∷ 0 ∷ 0 ∷ 0 ∷ 0 ∷ 0 ∷ 0 ∷ []) (9 ∷ []) (255 ∷ 255 ∷ [])) ∷  -- `MAABMP__` in B at 3: the part where it lies
+    asked (ReadBinary (208 ∷ 159 ∷ 192 ∷ []) 0 (9 ∷ [])) (readPart (record { code = (C.Fixed 2 74); size = 1; start = binaryOffset 3; raw = 0; text = 0; tags = 1 }) (65 ∷ 0 ∷ 0 ∷ 0 ∷ 0 ∷ 0 ∷ 0 ∷ 0 ∷ 0 ∷ 0 ∷ 0 ∷ []) (9 ∷ []) []) ∷  -- `0J_A` in B at 0: an empty part
+    asked (ReadBinary (244 ∷ 0 ∷ 1 ∷ 0 ∷ 0 ∷ 1 ∷ 0 ∷ 0 ∷ 97 ∷ []) 0 (9 ∷ [])) (refused 18 0 (9 ∷ [])) ∷  -- `9AABAAABAABh` in B at 0: 18
     asked (WriteText (C.Fixed 3 65) (33 ∷ 33 ∷ 33 ∷ 33 ∷ 33 ∷ 33 ∷ 33 ∷ 33 ∷ 33 ∷ 33 ∷ 33 ∷ []) 12 [] []) (refused 6 0 []) ∷  -- no code of three characters: 6, then 12
     asked (WriteText (C.Fixed 1 98) (33 ∷ 33 ∷ 33 ∷ 33 ∷ 33 ∷ 33 ∷ 33 ∷ 33 ∷ 33 ∷ 33 ∷ 33 ∷ []) 0 [] []) (refused 6 0 []) ∷  -- `b`: 6
     asked (WriteText (C.Small 71) (33 ∷ 33 ∷ 33 ∷ 33 ∷ 33 ∷ 33 ∷ 33 ∷ 33 ∷ 33 ∷ 33 ∷ 33 ∷ []) 0 [] []) (refused 6 0 []) ∷  -- type G: 6
@@ -166,6 +168,33 @@ calls =
     asked (WriteBinary (C.Fixed 1 88) (65 ∷ 33 ∷ 65 ∷ 33 ∷ 33 ∷ 33 ∷ 33 ∷ 33 ∷ 33 ∷ 33 ∷ 33 ∷ []) 3 [] []) (refused 5 1 []) ∷  -- 5, then 3, in B
     asked (WriteBinary (C.Fixed 1 88) (65 ∷ 47 ∷ 65 ∷ 33 ∷ 33 ∷ 33 ∷ 33 ∷ 33 ∷ 33 ∷ 33 ∷ 33 ∷ []) 3 [] []) (refused 19 1 []) ∷  -- 19, then 3, in B
     asked (WriteBinary (C.Large 66) (33 ∷ 33 ∷ 33 ∷ 33 ∷ 33 ∷ 33 ∷ 33 ∷ 33 ∷ 33 ∷ 33 ∷ 33 ∷ []) 0 (97 ∷ []) (9 ∷ 9 ∷ 9 ∷ 9 ∷ 9 ∷ 9 ∷ 9 ∷ 9 ∷ [])) (refused 18 0 (9 ∷ 9 ∷ 9 ∷ 9 ∷ 9 ∷ 9 ∷ 9 ∷ 9 ∷ [])) ∷  -- 18, then 3, in B
+    -- 02 c: "Reading and writing such text gives the characters back .. Characters are copied out in both forms, with 3 when room is short"
+    asked (ReadText (52 ∷ 65 ∷ 65 ∷ 68 ∷ 65 ∷ 45 ∷ 97 ∷ 45 ∷ 112 ∷ 101 ∷ 114 ∷ 115 ∷ 111 ∷ 110 ∷ 97 ∷ 108 ∷ []) 0 (9 ∷ 9 ∷ 9 ∷ 9 ∷ 9 ∷ 9 ∷ 9 ∷ 9 ∷ 9 ∷ 9 ∷ 9 ∷ [])) (read (record { code = (C.Small 65); size = 4; start = binaryOffset 12; raw = 0; text = 11; tags = 0 }) (0 ∷ 0 ∷ 0 ∷ 0 ∷ 0 ∷ 0 ∷ 0 ∷ 0 ∷ 0 ∷ 0 ∷ 0 ∷ []) (45 ∷ 97 ∷ 45 ∷ 112 ∷ 101 ∷ 114 ∷ 115 ∷ 111 ∷ 110 ∷ 97 ∷ 108 ∷ [])) ∷  -- `4AADA-a-personal`, room 11: the characters
+    asked (ReadText (52 ∷ 65 ∷ 65 ∷ 68 ∷ 65 ∷ 45 ∷ 97 ∷ 45 ∷ 112 ∷ 101 ∷ 114 ∷ 115 ∷ 111 ∷ 110 ∷ 97 ∷ 108 ∷ []) 0 (9 ∷ 9 ∷ 9 ∷ 9 ∷ 9 ∷ 9 ∷ 9 ∷ 9 ∷ 9 ∷ 9 ∷ [])) (refused 3 0 (9 ∷ 9 ∷ 9 ∷ 9 ∷ 9 ∷ 9 ∷ 9 ∷ 9 ∷ 9 ∷ 9 ∷ [])) ∷  -- room 10: 3
+    asked (ReadText (77 ∷ 65 ∷ 65 ∷ 66 ∷ 53 ∷ 65 ∷ 65 ∷ 66 ∷ 65 ∷ 65 ∷ 66 ∷ 67 ∷ []) 4 (9 ∷ 9 ∷ 9 ∷ [])) (read (record { code = (C.Small 65); size = 2; start = binaryOffset 6; raw = 0; text = 2; tags = 0 }) (0 ∷ 0 ∷ 0 ∷ 0 ∷ 0 ∷ 0 ∷ 0 ∷ 0 ∷ 0 ∷ 0 ∷ 0 ∷ []) (66 ∷ 67 ∷ 9 ∷ [])) ∷  -- `MAAB5AABAABC` at 4, room 3: bytes behind it stay
+    asked (ReadText (52 ∷ 65 ∷ 65 ∷ 65 ∷ []) 0 []) (read (record { code = (C.Small 65); size = 1; start = binaryOffset 3; raw = 0; text = 0; tags = 0 }) (0 ∷ 0 ∷ 0 ∷ 0 ∷ 0 ∷ 0 ∷ 0 ∷ 0 ∷ 0 ∷ 0 ∷ 0 ∷ []) []) ∷  -- `4AAA`, no room: the empty text
+    asked (ReadText (77 ∷ 65 ∷ 65 ∷ 66 ∷ 52 ∷ 65 ∷ 65 ∷ 66 ∷ 65 ∷ 65 ∷ 65 ∷ 65 ∷ []) 4 []) (refused 16 4 []) ∷  -- `MAAB4AABAAAA` at 4, no room: 16, then 3
+    asked (ReadBinary (224 ∷ 0 ∷ 1 ∷ 251 ∷ 143 ∷ 185 ∷ []) 0 (9 ∷ 9 ∷ 9 ∷ 9 ∷ [])) (readPart (record { code = (C.Small 65); size = 2; start = binaryOffset 6; raw = 0; text = 4; tags = 0 }) (0 ∷ 0 ∷ 0 ∷ 0 ∷ 0 ∷ 0 ∷ 0 ∷ 0 ∷ 0 ∷ 0 ∷ 0 ∷ []) (45 ∷ 52 ∷ 45 ∷ 53 ∷ []) []) ∷  -- `4AAB-4-5` in B, room 4: the characters, and an empty part
+    asked (ReadBinary (224 ∷ 0 ∷ 1 ∷ 251 ∷ 143 ∷ 185 ∷ []) 0 (9 ∷ 9 ∷ 9 ∷ [])) (refused 3 0 (9 ∷ 9 ∷ 9 ∷ [])) ∷  -- room 3: 3 in B too
+    asked (ReadBinary (48 ∷ 0 ∷ 1 ∷ 232 ∷ 0 ∷ 1 ∷ 0 ∷ 0 ∷ 62 ∷ []) 3 (9 ∷ 9 ∷ [])) (readPart (record { code = (C.Small 65); size = 2; start = binaryOffset 6; raw = 0; text = 1; tags = 0 }) (0 ∷ 0 ∷ 0 ∷ 0 ∷ 0 ∷ 0 ∷ 0 ∷ 0 ∷ 0 ∷ 0 ∷ 0 ∷ []) (45 ∷ 9 ∷ []) []) ∷  -- `MAAB6AABAAA-` in B at 3, room 2
+    asked (ReadBinary (48 ∷ 0 ∷ 1 ∷ 224 ∷ 0 ∷ 1 ∷ 0 ∷ 0 ∷ 0 ∷ []) 3 []) (refused 16 3 []) ∷  -- `MAAB4AABAAAA` in B at 3, no room: 16, then 3
+    asked (ReadBinary (48 ∷ 0 ∷ 1 ∷ []) 0 []) (readPart (record { code = (C.Fixed 1 77); size = 1; start = binaryOffset 1; raw = 2; text = 0; tags = 0 }) (0 ∷ 0 ∷ 0 ∷ 0 ∷ 0 ∷ 0 ∷ 0 ∷ 0 ∷ 0 ∷ 0 ∷ 0 ∷ []) [] (0 ∷ 1 ∷ [])) ∷  -- `MAAB` in B, no room: none is asked for a raw value
+    asked (WriteText (C.Small 65) (33 ∷ 33 ∷ 33 ∷ 33 ∷ 33 ∷ 33 ∷ 33 ∷ 33 ∷ 33 ∷ 33 ∷ 33 ∷ []) 0 (45 ∷ []) (9 ∷ 9 ∷ 9 ∷ 9 ∷ 9 ∷ 9 ∷ 9 ∷ 9 ∷ 9 ∷ [])) (written 8 (54 ∷ 65 ∷ 65 ∷ 66 ∷ 65 ∷ 65 ∷ 65 ∷ 45 ∷ 9 ∷ [])) ∷  -- `6AABAAA-`
+    asked (WriteText (C.Small 65) (33 ∷ 33 ∷ 33 ∷ 33 ∷ 33 ∷ 33 ∷ 33 ∷ 33 ∷ 33 ∷ 33 ∷ 33 ∷ []) 0 (45 ∷ 97 ∷ 45 ∷ 112 ∷ 101 ∷ 114 ∷ 115 ∷ 111 ∷ 110 ∷ 97 ∷ 108 ∷ []) (9 ∷ 9 ∷ 9 ∷ 9 ∷ 9 ∷ 9 ∷ 9 ∷ 9 ∷ 9 ∷ 9 ∷ 9 ∷ 9 ∷ 9 ∷ 9 ∷ 9 ∷ 9 ∷ [])) (written 16 (52 ∷ 65 ∷ 65 ∷ 68 ∷ 65 ∷ 45 ∷ 97 ∷ 45 ∷ 112 ∷ 101 ∷ 114 ∷ 115 ∷ 111 ∷ 110 ∷ 97 ∷ 108 ∷ [])) ∷  -- `4AADA-a-personal`
+    asked (WriteText (C.Small 65) (33 ∷ 33 ∷ 33 ∷ 33 ∷ 33 ∷ 33 ∷ 33 ∷ 33 ∷ 33 ∷ 33 ∷ 33 ∷ []) 0 (45 ∷ 52 ∷ 45 ∷ 53 ∷ []) (9 ∷ 9 ∷ 9 ∷ 9 ∷ 9 ∷ 9 ∷ 9 ∷ 9 ∷ [])) (written 8 (52 ∷ 65 ∷ 65 ∷ 66 ∷ 45 ∷ 52 ∷ 45 ∷ 53 ∷ [])) ∷  -- `4AAB-4-5`
+    asked (WriteText (C.Small 65) (33 ∷ 33 ∷ 33 ∷ 33 ∷ 33 ∷ 33 ∷ 33 ∷ 33 ∷ 33 ∷ 33 ∷ 33 ∷ []) 0 (45 ∷ 52 ∷ 45 ∷ 53 ∷ 45 ∷ 108 ∷ 101 ∷ 103 ∷ 97 ∷ 108 ∷ 78 ∷ 97 ∷ 109 ∷ 101 ∷ []) (9 ∷ 9 ∷ 9 ∷ 9 ∷ 9 ∷ 9 ∷ 9 ∷ 9 ∷ 9 ∷ 9 ∷ 9 ∷ 9 ∷ 9 ∷ 9 ∷ 9 ∷ 9 ∷ 9 ∷ 9 ∷ 9 ∷ 9 ∷ [])) (written 20 (53 ∷ 65 ∷ 65 ∷ 69 ∷ 65 ∷ 65 ∷ 45 ∷ 52 ∷ 45 ∷ 53 ∷ 45 ∷ 108 ∷ 101 ∷ 103 ∷ 97 ∷ 108 ∷ 78 ∷ 97 ∷ 109 ∷ 101 ∷ [])) ∷  -- `5AAEAA-4-5-legalName`
+    asked (WriteText (C.Small 65) (33 ∷ 33 ∷ 33 ∷ 33 ∷ 33 ∷ 33 ∷ 33 ∷ 33 ∷ 33 ∷ 33 ∷ 33 ∷ []) 0 (45 ∷ 97 ∷ 45 ∷ 112 ∷ 101 ∷ 114 ∷ 115 ∷ 111 ∷ 110 ∷ 97 ∷ 108 ∷ 45 ∷ 49 ∷ []) (9 ∷ 9 ∷ 9 ∷ 9 ∷ 9 ∷ 9 ∷ 9 ∷ 9 ∷ 9 ∷ 9 ∷ 9 ∷ 9 ∷ 9 ∷ 9 ∷ 9 ∷ 9 ∷ 9 ∷ 9 ∷ 9 ∷ 9 ∷ [])) (written 20 (54 ∷ 65 ∷ 65 ∷ 69 ∷ 65 ∷ 65 ∷ 65 ∷ 45 ∷ 97 ∷ 45 ∷ 112 ∷ 101 ∷ 114 ∷ 115 ∷ 111 ∷ 110 ∷ 97 ∷ 108 ∷ 45 ∷ 49 ∷ [])) ∷  -- `6AAEAAA-a-personal-1`
+    asked (WriteText (C.Small 65) (33 ∷ 33 ∷ 33 ∷ 33 ∷ 33 ∷ 33 ∷ 33 ∷ 33 ∷ 33 ∷ 33 ∷ 33 ∷ []) 0 [] (9 ∷ 9 ∷ 9 ∷ 9 ∷ [])) (written 4 (52 ∷ 65 ∷ 65 ∷ 65 ∷ [])) ∷  -- `4AAA`
+    asked (WriteText (C.Small 65) (33 ∷ 33 ∷ 33 ∷ 33 ∷ 33 ∷ 33 ∷ 33 ∷ 33 ∷ 33 ∷ 33 ∷ 33 ∷ []) 0 (66 ∷ 67 ∷ 68 ∷ []) (9 ∷ 9 ∷ 9 ∷ 9 ∷ 9 ∷ 9 ∷ 9 ∷ 9 ∷ [])) (written 8 (52 ∷ 65 ∷ 65 ∷ 66 ∷ 65 ∷ 66 ∷ 67 ∷ 68 ∷ [])) ∷  -- `4AABABCD`
+    asked (WriteText (C.Small 65) (33 ∷ 33 ∷ 33 ∷ 33 ∷ 33 ∷ 33 ∷ 33 ∷ 33 ∷ 33 ∷ 33 ∷ 33 ∷ []) 1 (65 ∷ 33 ∷ []) []) (refused 12 0 []) ∷  -- a tag character: 12, then 5
+    asked (WriteText (C.Large 65) (33 ∷ 33 ∷ 33 ∷ 33 ∷ 33 ∷ 33 ∷ 33 ∷ 33 ∷ 33 ∷ 33 ∷ 33 ∷ []) 0 (65 ∷ 33 ∷ []) []) (refused 18 0 []) ∷  -- 18, then 5
+    asked (WriteText (C.Small 65) (33 ∷ 33 ∷ 33 ∷ 33 ∷ 33 ∷ 33 ∷ 33 ∷ 33 ∷ 33 ∷ 33 ∷ 33 ∷ []) 0 (65 ∷ 33 ∷ 61 ∷ []) []) (refused 5 1 []) ∷  -- 5 at the index in the text, then 16
+    asked (WriteText (C.Small 65) (33 ∷ 33 ∷ 33 ∷ 33 ∷ 33 ∷ 33 ∷ 33 ∷ 33 ∷ 33 ∷ 33 ∷ 33 ∷ []) 0 (45 ∷ 65 ∷ 61 ∷ 33 ∷ []) []) (refused 19 2 []) ∷  -- 19 at the index in the text, then 3
+    asked (WriteText (C.Small 65) (33 ∷ 33 ∷ 33 ∷ 33 ∷ 33 ∷ 33 ∷ 33 ∷ 33 ∷ 33 ∷ 33 ∷ 33 ∷ []) 0 (65 ∷ 45 ∷ 52 ∷ 45 ∷ 53 ∷ []) []) (refused 16 0 []) ∷  -- 16, then 3
+    asked (WriteText (C.Small 65) (33 ∷ 33 ∷ 33 ∷ 33 ∷ 33 ∷ 33 ∷ 33 ∷ 33 ∷ 33 ∷ 33 ∷ 33 ∷ []) 0 (45 ∷ 52 ∷ 45 ∷ 53 ∷ []) (9 ∷ 9 ∷ 9 ∷ 9 ∷ 9 ∷ 9 ∷ 9 ∷ [])) (refused 3 0 (9 ∷ 9 ∷ 9 ∷ 9 ∷ 9 ∷ 9 ∷ 9 ∷ [])) ∷  -- 3
+    asked (WriteBinary (C.Small 65) (33 ∷ 33 ∷ 33 ∷ 33 ∷ 33 ∷ 33 ∷ 33 ∷ 33 ∷ 33 ∷ 33 ∷ 33 ∷ []) 0 (45 ∷ 52 ∷ 45 ∷ 53 ∷ []) (9 ∷ 9 ∷ 9 ∷ 9 ∷ 9 ∷ 9 ∷ 9 ∷ [])) (written 6 (224 ∷ 0 ∷ 1 ∷ 251 ∷ 143 ∷ 185 ∷ 9 ∷ [])) ∷  -- `4AAB-4-5` in B
+    asked (WriteBinary (C.Small 65) (33 ∷ 33 ∷ 33 ∷ 33 ∷ 33 ∷ 33 ∷ 33 ∷ 33 ∷ 33 ∷ 33 ∷ 33 ∷ []) 0 (45 ∷ 52 ∷ 45 ∷ 53 ∷ []) (9 ∷ 9 ∷ 9 ∷ 9 ∷ 9 ∷ [])) (refused 3 0 (9 ∷ 9 ∷ 9 ∷ 9 ∷ 9 ∷ [])) ∷  -- 3 in B
+    asked (WriteBinary (C.Small 65) (33 ∷ 33 ∷ 33 ∷ 33 ∷ 33 ∷ 33 ∷ 33 ∷ 33 ∷ 33 ∷ 33 ∷ 33 ∷ []) 0 (65 ∷ []) []) (refused 16 0 []) ∷  -- 16, then 3, in B
     []
 
 -- ---- what it means
@@ -186,9 +215,9 @@ abbrev foundText : TextFound → List ℕ → List ℕ → Outcome
 foundText (TF.Found p) tag left = read p tag left
 foundText (TF.Refused m p) tag left = refused m (p .0) left
 
-abbrev foundBinary : BinaryFound → List ℕ → List ℕ → Outcome
-foundBinary (BF.Found p) tag part = read p tag part
-foundBinary (BF.Refused m p) tag part = refused m (p .0) part
+abbrev foundBinary : BinaryFound → List ℕ → List ℕ → List ℕ → Outcome
+foundBinary (BF.Found p) tag left part = readPart p tag left part
+foundBinary (BF.Refused m p) tag left part = refused m (p .0) (left ++ part)
 
 abbrev wroteText : TextWritten → List ℕ → Outcome
 wroteText (TW.Written n) left = written (n .0) left
@@ -202,15 +231,18 @@ wroteBinary (BW.Refused m p) left = refused m p left
 unfoldable pub answered : Call → Outcome
 unfolding given toText quadletOf firstStranger firstNumber textToBinary binaryLeft binaryToText textLeft refusal refusalsOf refusals be4 verdictByte
     rowBytes refusalBytes remainderBytes concat section report reportAnswer reportLeft codeOf isPrimitive tagsOf primitiveOf judged
-    readFramed reading from placeFrom padded noTag textAnswer readText textRaw rawLeft binaryAnswer readBinary partAt W.namedFixed W.named
-    W.rawSize W.fitsRow W.rawLimit W.fitsVariable W.leadFor W.countFor W.codeSextets W.rawPrefix W.tagPrefix W.rowPrefix
-    W.variableHeader W.variablePrefix W.itemBytes W.unitsOf W.isFit W.isNamed W.isShort W.writing W.writtenBytes W.textOutcome W.binaryOutcome
+    readFramed reading from placeFrom padded noTag valueOf valueAt textAt textAnswer readText valueLeft binaryAnswer
+    readBinary charsLeft partAt fillFor textLead textCount W.namedFixed W.namedVariable W.named
+    W.rawSize W.fitsRow W.rawLimit W.fitsVariable W.textLimit W.fitsText W.leadFor W.countFor W.codeSextets W.rawPrefix W.tagPrefix W.rowPrefix
+    W.variableHeader W.variablePrefix W.filled W.textBytes W.itemBytes W.unitsOf W.isFit W.isNamed W.isShort W.charsOf W.charsFor W.beginsRight W.writing W.writtenBytes W.textOutcome W.binaryOutcome
     W.writeText W.writeBinary W.textItemLeft W.binaryItemLeft
 answered (ToBinary s d) = inBinary (textToBinary s (length d)) (binaryLeft (textToBinary s (length d)) s d)
 answered (ToText s d) = inText (binaryToText s (length d)) (textLeft (binaryToText s (length d)) s d)
 answered (Reports f s d) = reported (reportAnswer f s (length d)) (reportLeft (reportAnswer f s (length d)) f s d)
-answered (ReadText s at d) = foundText (readText s at (length d) .found) (readText s at (length d) .tag) (rawLeft (readText s at (length d) .found) s at d)
-answered (ReadBinary s at) = foundBinary (readBinary s at .found) (readBinary s at .tag) (partAt s at (readBinary s at .found))
+answered (ReadText s at d) = foundText (readText s at (length d) .found) (readText s at (length d) .tag) (valueLeft (readText s at (length d) .found) s at d)
+answered (ReadBinary s at d) =
+    foundBinary (readBinary s at (length d) .found) (readBinary s at (length d) .tag) (charsLeft (readBinary s at (length d) .found) s at d)
+    (partAt s at (readBinary s at (length d) .found))
 answered (WriteText code tag tags raw d) =
     wroteText (W.writeText code tag tags raw (length d)) (W.textItemLeft (W.writeText code tag tags raw (length d)) code tag tags raw d)
 answered (WriteBinary code tag tags raw d) =
@@ -225,7 +257,16 @@ pub data Answers : List Asked → Type 0 where
 
 pub calls-hold : Answers calls
 unfolding answered calls
-calls-hold = refl & refl & refl & refl & refl & refl & refl & refl & refl & refl & refl & refl & refl & refl & refl & refl & refl & refl & refl & refl & refl & refl & refl & refl & refl & refl & refl & refl & refl & refl & refl & refl & refl & refl & refl & refl & refl & refl & refl & refl & refl & refl & refl & refl & refl & refl & refl & refl & refl & refl & refl & refl & refl & refl & refl & refl & refl & refl & refl & refl & refl & refl & refl & refl & refl & refl & refl & refl & refl & refl & refl & refl & refl & refl & refl & refl & refl & refl & refl & refl & refl & refl & refl & refl & refl & refl & refl & refl & refl & refl & refl & refl & refl & refl & refl & refl & refl & refl & refl & refl & refl & refl & refl & end
+calls-hold =
+    refl & refl & refl & refl & refl & refl & refl & refl & refl & refl & refl & refl & refl & refl & refl & refl &
+    refl & refl & refl & refl & refl & refl & refl & refl & refl & refl & refl & refl & refl & refl & refl &
+    refl & refl & refl & refl & refl & refl & refl & refl & refl & refl & refl & refl & refl & refl & refl &
+    refl & refl & refl & refl & refl & refl & refl & refl & refl & refl & refl & refl & refl & refl & refl &
+    refl & refl & refl & refl & refl & refl & refl & refl & refl & refl & refl & refl & refl & refl & refl &
+    refl & refl & refl & refl & refl & refl & refl & refl & refl & refl & refl & refl & refl & refl & refl &
+    refl & refl & refl & refl & refl & refl & refl & refl & refl & refl & refl & refl & refl & refl & refl &
+    refl & refl & refl & refl & refl & refl & refl & refl & refl & refl & refl & refl & refl & refl & refl &
+    refl & refl & refl & refl & refl & refl & refl & refl & end
 
 -- ---- 1, which no table shows: "stream longer than 4,194,304 characters or 3,145,728 bytes". One that is longer by one is not whole units,
 -- nor is there room; one of just that length is not refused with it
@@ -237,7 +278,7 @@ pub record LimitsHold : Type 0 where
   pub report-long : (s : List ℕ) → length s ≡ 4194305 → reportAnswer text s 0 ≡ R.Refused 1 0
   pub report-long-binary : (s : List ℕ) → length s ≡ 3145729 → reportAnswer binary s 0 ≡ R.Refused 1 0
   pub read-long : (s : List ℕ) (at : ℕ) → length s ≡ 4194305 → readText s at 0 .found ≡ TF.Refused 1 (textOffset 0)
-  pub read-long-binary : (s : List ℕ) (at : ℕ) → length s ≡ 3145729 → readBinary s at .found ≡ BF.Refused 1 (binaryOffset 0)
+  pub read-long-binary : (s : List ℕ) (at : ℕ) → length s ≡ 3145729 → readBinary s at 0 .found ≡ BF.Refused 1 (binaryOffset 0)
 
 pub limits-hold : LimitsHold
 unfolding textToBinary binaryToText reportAnswer readText readBinary

@@ -13,7 +13,7 @@ use Rattle.format.specs.declared.Verdict.the-variants.{Accepted, Refused
 use Rattle.format.specs.Alphabet.{sextetOf, strangerNumber, charOf}
 use Rattle.format.specs.Units.{Domain, text, binary, bytesOf, sextetsOf, tripletOf, textSextets, binarySextets}
 use Rattle.format.specs.Conversion.{toBinary}
-use Rattle.format.specs.Registry.{codes, isType, isGroup, isOpaque, isOverrideable, fixedAmong, fixed, opening, extent}
+use Rattle.format.specs.Registry.{codes, isType, isText, isGroup, isOpaque, isOverrideable, fixedAmong, fixed, opening, extent}
 use Rattle.format.specs.Framing.{fit, known, second, headed, frameWith, isOurs, ruled, frame, frameRuled, scale}
 use Rattle.format.specs.Cutting.{cutBy, cutF, cut}
 use Rattle.format.specs.Judging.{shift, andThen, unless, isShortest, scan, behind, hasLead, zeroBits, prepadRight, judgeKind, judgeBy}
@@ -21,7 +21,8 @@ use Rattle.format.specs.Judging.{inTurn, frame4, frameRuled4, contents, 
 use Rattle.format.specs.Report.{ItemRow, RemainderRow, rowsOf, remainderOf, refusal, refusalsOf, rows, refusals, remainder}
 use Rattle.format.specs.Report.{placed, frameIn, judgeIn, rowsIn, remainderIn}
 use Rattle.format.specs.Report.{be4, verdictByte, rowBytes, refusalBytes, remainderBytes, concat, section, report}
-use Rattle.format.specs.Values.{bytesIn, rawStart, rawOf, tagOf}
+use Rattle.format.specs.Values.{bytesIn, rawStart, rawOf, textIn, tagOf}
+use Rattle.format.specs.Texts.{fills, fillOf, textRight, valueRight, textOf}
 
 infixr 5 _&_
 -- ---- what 01 says of a stream
@@ -30,6 +31,7 @@ pub data Expected : Type 0 where
   accepted : Expected  -- one item, accepted
   raw : List ℕ → Expected  -- one item, accepted, with this raw value
   tag : List ℕ → Expected  -- one item, accepted, with these tag characters
+  spells : List ℕ → Expected  -- one item, accepted, a text of these characters
   inBinary : List ℕ → Expected  -- one item, accepted, which is this in B
   refused : ℕ → ℕ → Expected  -- one item, refused: number, and place in text
   unframed : ℕ → ℕ → Expected  -- no item, a remainder: number, and offset in text
@@ -80,6 +82,27 @@ deck =
     example (45 ∷ 45 ∷ 65 ∷ 65 ∷ 65 ∷ 65 ∷ 65 ∷ 65 ∷ []) (refused 18 0) ∷  -- `--AAAAAA` 18
     example (45 ∷ 74 ∷ 65 ∷ 68 ∷ 45 ∷ 45 ∷ 65 ∷ 65 ∷ 65 ∷ 65 ∷ 65 ∷ 66 ∷ 77 ∷ 65 ∷ 65 ∷ 66 ∷ []) (refused 18 4) ∷  -- `-JAD--AAAAABMAAB` 18 at 4
     example (55 ∷ 65 ∷ 65 ∷ 66 ∷ 65 ∷ 65 ∷ 65 ∷ 65 ∷ []) (refused 18 0) ∷  -- `7AABAAAA` 18, as any large variable value that the small code holds
+    -- 02 c: "as document 001 shows": the nine paths of its table
+    example (54 ∷ 65 ∷ 65 ∷ 66 ∷ 65 ∷ 65 ∷ 65 ∷ 45 ∷ []) (spells (45 ∷ [])) ∷  -- `6AABAAA-`
+    example (52 ∷ 65 ∷ 65 ∷ 68 ∷ 65 ∷ 45 ∷ 97 ∷ 45 ∷ 112 ∷ 101 ∷ 114 ∷ 115 ∷ 111 ∷ 110 ∷ 97 ∷ 108 ∷ []) (spells (45 ∷ 97 ∷ 45 ∷ 112 ∷ 101 ∷ 114 ∷ 115 ∷ 111 ∷ 110 ∷ 97 ∷ 108 ∷ [])) ∷  -- `4AADA-a-personal`
+    example (52 ∷ 65 ∷ 65 ∷ 66 ∷ 45 ∷ 52 ∷ 45 ∷ 53 ∷ []) (spells (45 ∷ 52 ∷ 45 ∷ 53 ∷ [])) ∷  -- `4AAB-4-5`
+    example (53 ∷ 65 ∷ 65 ∷ 69 ∷ 65 ∷ 65 ∷ 45 ∷ 52 ∷ 45 ∷ 53 ∷ 45 ∷ 108 ∷ 101 ∷ 103 ∷ 97 ∷ 108 ∷ 78 ∷ 97 ∷ 109 ∷ 101 ∷ []) (spells (45 ∷ 52 ∷ 45 ∷ 53 ∷ 45 ∷ 108 ∷ 101 ∷ 103 ∷ 97 ∷ 108 ∷ 78 ∷ 97 ∷ 109 ∷ 101 ∷ [])) ∷  -- `5AAEAA-4-5-legalName`
+    example (54 ∷ 65 ∷ 65 ∷ 69 ∷ 65 ∷ 65 ∷ 65 ∷ 45 ∷ 97 ∷ 45 ∷ 112 ∷ 101 ∷ 114 ∷ 115 ∷ 111 ∷ 110 ∷ 97 ∷ 108 ∷ 45 ∷ 49 ∷ []) (spells (45 ∷ 97 ∷ 45 ∷ 112 ∷ 101 ∷ 114 ∷ 115 ∷ 111 ∷ 110 ∷ 97 ∷ 108 ∷ 45 ∷ 49 ∷ [])) ∷  -- `6AAEAAA-a-personal-1`
+    example (52 ∷ 65 ∷ 65 ∷ 66 ∷ 45 ∷ 112 ∷ 45 ∷ 49 ∷ []) (spells (45 ∷ 112 ∷ 45 ∷ 49 ∷ [])) ∷  -- `4AAB-p-1`
+    example (53 ∷ 65 ∷ 65 ∷ 67 ∷ 65 ∷ 65 ∷ 45 ∷ 97 ∷ 45 ∷ 76 ∷ 69 ∷ 73 ∷ []) (spells (45 ∷ 97 ∷ 45 ∷ 76 ∷ 69 ∷ 73 ∷ [])) ∷  -- `5AACAA-a-LEI`
+    example (52 ∷ 65 ∷ 65 ∷ 67 ∷ 45 ∷ 112 ∷ 45 ∷ 48 ∷ 45 ∷ 48 ∷ 45 ∷ 100 ∷ []) (spells (45 ∷ 112 ∷ 45 ∷ 48 ∷ 45 ∷ 48 ∷ 45 ∷ 100 ∷ [])) ∷  -- `4AAC-p-0-0-d`
+    example (53 ∷ 65 ∷ 65 ∷ 71 ∷ 65 ∷ 65 ∷ 45 ∷ 112 ∷ 45 ∷ 48 ∷ 45 ∷ 99 ∷ 101 ∷ 114 ∷ 116 ∷ 105 ∷ 102 ∷ 105 ∷ 101 ∷ 100 ∷ 76 ∷ 101 ∷ 110 ∷ 100 ∷ 101 ∷ 114 ∷ 45 ∷ 105 ∷ []) (spells (45 ∷ 112 ∷ 45 ∷ 48 ∷ 45 ∷ 99 ∷ 101 ∷ 114 ∷ 116 ∷ 105 ∷ 102 ∷ 105 ∷ 101 ∷ 100 ∷ 76 ∷ 101 ∷ 110 ∷ 100 ∷ 101 ∷ 114 ∷ 45 ∷ 105 ∷ [])) ∷  -- `5AAGAA-p-0-certifiedLender-i`
+    example (52 ∷ 65 ∷ 65 ∷ 65 ∷ []) (spells []) ∷  -- "the empty text is `4AAA`"
+    example (52 ∷ 65 ∷ 65 ∷ 66 ∷ 65 ∷ 65 ∷ 65 ∷ 65 ∷ []) (refused 16 0) ∷  -- "`4AABAAAA` is 16"
+    example (52 ∷ 65 ∷ 65 ∷ 66 ∷ 65 ∷ 66 ∷ 67 ∷ 68 ∷ []) (spells (66 ∷ 67 ∷ 68 ∷ [])) ∷  -- `4AABABCD`: "4 and 7 take off one `A` if there is one"
+    example (52 ∷ 65 ∷ 65 ∷ 66 ∷ 65 ∷ 65 ∷ 67 ∷ 68 ∷ []) (refused 16 0) ∷  -- `4AABAACD`: and then the text starts with `A`
+    example (52 ∷ 65 ∷ 65 ∷ 66 ∷ 66 ∷ 65 ∷ 65 ∷ 65 ∷ []) (spells (66 ∷ 65 ∷ 65 ∷ 65 ∷ [])) ∷  -- `4AABBAAA`: an `A` behind the first character is text
+    example (53 ∷ 65 ∷ 65 ∷ 66 ∷ 65 ∷ 65 ∷ 66 ∷ 67 ∷ []) (spells (66 ∷ 67 ∷ [])) ∷  -- `5AABAABC`: "5 and 8 exactly two"
+    example (53 ∷ 65 ∷ 65 ∷ 66 ∷ 65 ∷ 65 ∷ 65 ∷ 67 ∷ []) (refused 16 0) ∷  -- `5AABAAAC`: the text starts with `A`
+    example (53 ∷ 65 ∷ 65 ∷ 66 ∷ 65 ∷ 66 ∷ 67 ∷ 68 ∷ []) (refused 16 0) ∷  -- `5AABABCD`: "a value without the full fill"
+    example (54 ∷ 65 ∷ 65 ∷ 66 ∷ 65 ∷ 65 ∷ 65 ∷ 66 ∷ []) (spells (66 ∷ [])) ∷  -- `6AABAAAB`: "6 and 9 exactly three"
+    example (54 ∷ 65 ∷ 65 ∷ 66 ∷ 65 ∷ 65 ∷ 65 ∷ 65 ∷ []) (refused 16 0) ∷  -- `6AABAAAA`: the text starts with `A`
+    example (54 ∷ 65 ∷ 65 ∷ 66 ∷ 65 ∷ 65 ∷ 66 ∷ 67 ∷ []) (refused 16 0) ∷  -- `6AABAABC`: without the full fill
     -- `E8wYuBjhslETYaLZcxMkWrhVbMcA8RS1pKYl7nJ77ntA` is refused 8
     example
     (69 ∷ 56 ∷ 119 ∷ 89 ∷ 117 ∷ 66 ∷ 106 ∷ 104 ∷ 115 ∷ 108 ∷ 69 ∷ 84 ∷ 89 ∷ 97 ∷ 76 ∷ 90 ∷ 99 ∷ 120 ∷ 77 ∷ 107 ∷ 87 ∷ 114 ∷
@@ -89,7 +112,7 @@ deck =
 
 -- ---- the order of the numbers: "Framing an item: 4 (first unit), 5 (its first bad character), 6, 4 (second unit), 5, 4 (extent)",
 -- "Judging a framed primitive: 5 behind the header, 9, 8, 10", "Judging a group: 11, then its items one by one"; by 02 h 18 "directly after
--- 11 for groups" and "before 9 for primitives"
+-- 11 for groups" and "before 9 for primitives"; by 02 c 16 after 8
 
 unfoldable pub order : List Example
 order =
@@ -126,6 +149,18 @@ order =
     example (77 ∷ 42 ∷ 65 ∷ 65 ∷ []) (unframed 5 0) ∷  -- `M*AA`
     example (77 ∷ 60 ∷ 65 ∷ 65 ∷ []) (unframed 5 0) ∷  -- `M<AA`
     example (77 ∷ 62 ∷ 65 ∷ 65 ∷ []) (unframed 5 0) ∷  -- `M>AA`
+    -- 02 c: 16 "Judged after 8"
+    example (53 ∷ 65 ∷ 65 ∷ 65 ∷ []) (refused 9 0) ∷  -- `5AAA`: 9, then 16
+    example (54 ∷ 65 ∷ 65 ∷ 65 ∷ []) (refused 9 0) ∷  -- `6AAA`
+    example (53 ∷ 65 ∷ 65 ∷ 66 ∷ 81 ∷ 65 ∷ 66 ∷ 67 ∷ []) (refused 8 0) ∷  -- `5AABQABC`: 8, then 16
+    example (53 ∷ 65 ∷ 65 ∷ 66 ∷ 65 ∷ 81 ∷ 66 ∷ 67 ∷ []) (refused 8 0) ∷  -- `5AABAQBC`: the lead byte ends in the second character
+    example (54 ∷ 65 ∷ 65 ∷ 66 ∷ 65 ∷ 66 ∷ 67 ∷ 68 ∷ []) (refused 8 0) ∷  -- `6AABABCD`: 8, then 16
+    example (54 ∷ 65 ∷ 65 ∷ 66 ∷ 65 ∷ 65 ∷ 81 ∷ 67 ∷ []) (refused 8 0) ∷  -- `6AABAAQC`: the second lead byte ends in the third
+    example (55 ∷ 65 ∷ 65 ∷ 65 ∷ 65 ∷ 65 ∷ 65 ∷ 66 ∷ 65 ∷ 65 ∷ 65 ∷ 65 ∷ []) (refused 18 0) ∷  -- `7AAAAAABAAAA`: 18, then 16
+    example (55 ∷ 65 ∷ 65 ∷ 65 ∷ 65 ∷ 65 ∷ 65 ∷ 65 ∷ []) (refused 18 0) ∷  -- `7AAAAAAA`: the empty text, large
+    example (52 ∷ 65 ∷ 65 ∷ 66 ∷ 65 ∷ 65 ∷ 65 ∷ 33 ∷ []) (refused 5 7) ∷  -- `4AABAAA!`: 5 behind the header, then 16
+    example (52 ∷ 65 ∷ 65 ∷ 66 ∷ 65 ∷ 65 ∷ 61 ∷ 65 ∷ []) (refused 19 6) ∷  -- `4AABAA=A`: 19, then 16
+    example (45 ∷ 65 ∷ 65 ∷ 67 ∷ 52 ∷ 65 ∷ 65 ∷ 66 ∷ 65 ∷ 65 ∷ 65 ∷ 65 ∷ []) (refused 16 4) ∷  -- `-AAC4AABAAAA`: in a group, at the item's start
     -- `-AACMQAA_AAA`: the first refusal stands, with number and place
     example (45 ∷ 65 ∷ 65 ∷ 67 ∷ 77 ∷ 81 ∷ 65 ∷ 65 ∷ 95 ∷ 65 ∷ 65 ∷ 65 ∷ []) (refused 8 4) ∷
     []
@@ -140,6 +175,7 @@ pub record Seen : Type 0 where
 abbrev pub valueBy : Expected → Framed → List ℕ → List ℕ
 valueBy (raw bytes) (Item k h n) s = rawOf k h s
 valueBy (tag chars) (Item k h n) s = tagOf k s
+valueBy (spells cs) (Item k h n) s = textIn k h s
 valueBy (inBinary bytes) (Item k h n) s = bytesIn s
 valueBy accepted (Item k h n) s = []
 valueBy (refused n p) (Item k h m) s = []
@@ -149,9 +185,10 @@ valueBy e (Unframed n p) s = []
 -- what the definitions give of a stream; to compute it is to open all of them
 unfoldable pub given : Domain → List ℕ → Expected → Seen
 unfolding around charOf rows remainder rowsOf remainderOf cut cutF cutBy frameIn judgeIn placed frameRuled frame frameWith ruled
-    isOurs headed second known fit opening extent fixed fixedAmong codes isType isGroup isOpaque isOverrideable scale
+    isOurs headed second known fit opening extent fixed fixedAmong codes isType isText isGroup isOpaque isOverrideable scale
     textSextets sextetOf strangerNumber judge judgeBy judgeKind group ownCheck inTurn contents frame4 frameRuled4 andThen shift unless isShortest scan
-    behind zeroBits hasLead prepadRight binarySextets sextetsOf bytesOf tripletOf toBinary each rawStart rawOf tagOf bytesIn
+    behind zeroBits hasLead prepadRight fills fillOf textRight valueRight textOf textIn binarySextets sextetsOf bytesOf tripletOf toBinary each
+    rawStart rawOf tagOf bytesIn
 given d xs e = record { items = rowsIn d xs; left = remainderIn d xs; value = valueBy e (frame (d .sextets xs)) (d .sextets xs) }
 
 -- one item that is the whole stream
@@ -166,6 +203,7 @@ abbrev pub expected : Domain → List ℕ → Expected → Seen
 expected d xs accepted = only xs Accepted []
 expected d xs (raw bytes) = only xs Accepted bytes
 expected d xs (tag chars) = only xs Accepted chars
+expected d xs (spells cs) = only xs Accepted cs
 expected d xs (inBinary bytes) = only xs Accepted bytes
 expected d xs (refused n p) = only xs (Refused n (inDomain d p)) []
 expected d xs (unframed n o) = record { items = []; left = record { offset = inDomain d o; number = n } ∷ []; value = [] }
@@ -185,16 +223,23 @@ pub data Holds (d : Domain) (form : List ℕ → List ℕ) : List Example → Ty
 pub deck-holds : Holds text (λ s. s) deck × Holds binary toBinary deck
 unfolding given deck
 deck-holds = (
-  refl & refl & refl & refl & refl & refl & refl & refl & refl & refl & refl & refl & refl & refl & refl & refl & refl &
-      refl & refl & refl & refl & refl & refl & refl & refl & refl & refl & refl & refl & refl & end,
-  refl & refl & refl & refl & refl & refl & refl & refl & refl & refl & refl & refl & refl & refl & refl & refl & refl &
-      refl & refl & refl & refl & refl & refl & refl & refl & refl & refl & refl & refl & refl & end,
+  refl & refl & refl & refl & refl & refl & refl & refl & refl & refl & refl & refl & refl & refl & refl & refl &
+      refl & refl & refl & refl & refl & refl & refl & refl & refl & refl & refl & refl & refl & refl & refl &
+      refl & refl & refl & refl & refl & refl & refl & refl & refl & refl & refl & refl & refl & refl & refl &
+      refl & refl & refl & refl & end,
+  refl & refl & refl & refl & refl & refl & refl & refl & refl & refl & refl & refl & refl & refl & refl & refl &
+      refl & refl & refl & refl & refl & refl & refl & refl & refl & refl & refl & refl & refl & refl & refl &
+      refl & refl & refl & refl & refl & refl & refl & refl & refl & refl & refl & refl & refl & refl & refl &
+      refl & refl & refl & refl & end,
 )
 
 -- the order, in text: some of its characters are outside the alphabet
 pub order-holds : Holds text (λ s. s) order
 unfolding given order
-order-holds = refl & refl & refl & refl & refl & refl & refl & refl & refl & refl & refl & refl & refl & refl & refl & refl & refl & refl & refl & refl & refl & refl & refl & refl & refl & refl & refl & refl & refl & refl & refl & refl & end
+order-holds =
+    refl & refl & refl & refl & refl & refl & refl & refl & refl & refl & refl & refl & refl & refl & refl & refl &
+    refl & refl & refl & refl & refl & refl & refl & refl & refl & refl & refl & refl & refl & refl & refl &
+    refl & refl & refl & refl & refl & refl & refl & refl & refl & refl & refl & refl & end
 
 -- 02 h: "A large group below 4,096 units is thus 18, and `--AAABAA` with its 4,096 units still passes": the number itself
 pub least-large : (isShortest 2 4095 ≡ false) × (isShortest 2 4096 ≡ true)

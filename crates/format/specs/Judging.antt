@@ -1,6 +1,6 @@
 -- 01, "Judging a framed primitive: 5 behind the header, 9, 8, 10. Judging a group: 11, then its items one by one, each framed
 -- (an inner 7 next), then judged; the first refusal stands, with number and place. An opaque group: 11, then 5." 02 h: 18 "judged directly
--- after 11 for groups, in the walk too, and before 9 for primitives". 02 j: 19 where 5 stands. Over an item's own sextets; places in
+-- after 11 for groups, in the walk too, and before 9 for primitives". 02 j: 19 where 5 stands. 02 c: 16 "Judged after 8". Over an item's own sextets; places in
 -- sextets from its start. Assumes nothing.
 use Prim.Native.Nat.{ℕ, zero, suc, _+_, _-_, _*_, _/_, _^_}
 use mathlib.Core.List.{List, [], _∷_}
@@ -18,6 +18,7 @@ use Rattle.format.specs.declared.Verdict.the-variants.{Accepted, Refused
 use Rattle.format.specs.Alphabet.{strangerNumber}
 use Rattle.format.specs.Registry.{isOpaque, isOverrideable, zeroBitsOf, prepadOf}
 use Rattle.format.specs.Framing.{frame, frameRuled, scale, sextet}
+use Rattle.format.specs.Texts.{valueRight}
 use Rattle.format.specs.Cutting.{Cut, cutBy, cut}
 use Rattle.format.specs.Cutting.Cut.{done, stopped, item}
 
@@ -76,7 +77,8 @@ judgeKind (Fixed c) h s inner =
 judgeKind (Variable t lead count) h s inner =
     andThen (behind h s)
     (andThen (unless 18 (isShortest h count))
-    (andThen (unless 9 (hasLead lead count)) (unless 8 (zeroBits s (4 * h) (8 * lead)))))
+    (andThen (unless 9 (hasLead lead count))
+    (andThen (unless 8 (zeroBits s (4 * h) (8 * lead))) (unless 16 (valueRight t lead (drop (4 * h) s))))))
 judgeKind (Group letter) h s inner = inner letter h (drop (4 * h) s)
 judgeKind Genus h s inner = Accepted
 

@@ -5,6 +5,7 @@ pub mod Registry
 pub mod Conversion
 pub mod Framing
 pub mod Cutting
+pub mod Texts
 pub mod Judging
 pub mod Report
 pub mod Numbers

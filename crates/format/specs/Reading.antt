@@ -1,6 +1,7 @@
 -- 01, "Reading a primitive at an offset: 1, 4 at or past the end, framing (never 7), 14, judging, then 3 for T, where raw is
 -- copied out. In B the raw value is handed back as the part of the binary stream where it lies. Up to eleven tag characters come
--- by value with their number, unused places 0." Assumes nothing.
+-- by value with their number, unused places 0." 02 c, of type `A`: "Characters are copied out in both forms, with 3 when room is
+-- short". Assumes nothing.
 use Prim.Native.Nat.{ℕ, _+_, _-_, _*_, _/_, _%_}
 use mathlib.Core.List.{List, [], _++_}
 use mathlib.Core.Bool.{Bool, true, false}
@@ -28,7 +29,7 @@ use Rattle.format.specs.Units.{Domain, text, binary}
 use Rattle.format.specs.Offsets.{textOffset, binaryOffset}
 use Rattle.format.specs.Framing.{frame}
 use Rattle.format.specs.Judging.{judgeKind, ownCheck}
-use Rattle.format.specs.Values.{rawStart, rawOf, tagOf}
+use Rattle.format.specs.Values.{rawStart, textIn, valueOf, tagOf}
 
 -- ---- what a framed item is, in a caller's words
 
@@ -51,9 +52,10 @@ tagsOf (Variable t lead count) = 0
 tagsOf (Group letter) = 0
 tagsOf Genus = 0
 
--- a framed primitive of n units
-unfoldable pub primitiveOf : Kind → ℕ → ℕ → Primitive
-primitiveOf k h n = record { code = codeOf k h; size = n; start = binaryOffset (rawStart k h); raw = 3 * n - rawStart k h; tags = tagsOf k }
+-- a framed primitive of n units; text: how many characters a text has
+unfoldable pub primitiveOf : Kind → ℕ → ℕ → ℕ → Primitive
+primitiveOf k h n text =
+    record { code = codeOf k h; size = n; start = binaryOffset (rawStart k h); raw = 3 * n - rawStart k h; text = text; tags = tagsOf k }
 
 -- ---- one order for both forms, on the sextets from the item's start to the stream's end; places in sextets
 
@@ -89,38 +91,51 @@ padded cs = cs ++ replicate (11 - length cs) 0
 unfoldable pub noTag : List ℕ
 noTag = replicate 11 0
 
--- ---- text: raw is copied out, 3 where there is no room
+-- ---- what is copied out, of the stream's sextets from the offset on: in T raw value and text, in B the text alone
+
+unfoldable pub valueAt : Reading → List ℕ → List ℕ
+valueAt (refused m p) s = []
+valueAt (found k h n) s = valueOf k h (take (4 * n) s)
+
+unfoldable pub textAt : Reading → List ℕ → List ℕ
+textAt (refused m p) s = []
+textAt (found k h n) s = textIn k h (take (4 * n) s)
+
+-- ---- text: 3 where there is no room
 
 unfoldable pub textAnswer : ℕ → Reading → List ℕ → ℕ → TextRead
 textAnswer at (refused m p) s room = record { found = T.Refused m (textOffset (placeFrom 4 at p)); tag = noTag }
 textAnswer at (found k h n) s room =
-    pick (ltb room (3 * n - rawStart k h)) (record { found = T.Refused 3 (textOffset 0); tag = noTag })
-    (record { found = T.Found (primitiveOf k h n); tag = padded (tagOf k (take (4 * n) s)) })
+    pick (ltb room (length (valueAt (found k h n) s))) (record { found = T.Refused 3 (textOffset 0); tag = noTag })
+    (record { found = T.Found (primitiveOf k h n (length (textAt (found k h n) s))); tag = padded (tagOf k (take (4 * n) s)) })
 
 unfoldable pub readText : List ℕ → ℕ → ℕ → TextRead
 readText xs at room =
     pick (ltb (text .limit) (length xs)) (record { found = T.Refused 1 (textOffset 0); tag = noTag })
     (textAnswer at (reading (text .sextets (from at xs))) (text .sextets (from at xs)) room)
 
--- what a buffer that held d holds afterwards: the raw value from its start
-unfoldable pub textRaw : Reading → List ℕ → List ℕ
-textRaw (refused m p) s = []
-textRaw (found k h n) s = rawOf k h (take (4 * n) s)
+-- what a buffer that held d holds afterwards: the raw value or the text from its start
+unfoldable pub valueLeft : TextFound → List ℕ → ℕ → List ℕ → List ℕ
+valueLeft (T.Found p) xs at d = valueAt (reading (text .sextets (from at xs))) (text .sextets (from at xs)) ++ drop (p .raw + p .text) d
+valueLeft (T.Refused m p) xs at d = d
 
-unfoldable pub rawLeft : TextFound → List ℕ → ℕ → List ℕ → List ℕ
-rawLeft (T.Found p) xs at d = textRaw (reading (text .sextets (from at xs))) (text .sextets (from at xs)) ++ drop (p .raw) d
-rawLeft (T.Refused m p) xs at d = d
+-- ---- binary: raw is handed back as a part; 3 where there is no room for a text
 
--- ---- binary: raw is handed back as a part
+unfoldable pub binaryAnswer : ℕ → Reading → List ℕ → ℕ → BinaryRead
+binaryAnswer at (refused m p) s room = record { found = B.Refused m (binaryOffset (placeFrom 3 at p)); tag = noTag }
+binaryAnswer at (found k h n) s room =
+    pick (ltb room (length (textAt (found k h n) s))) (record { found = B.Refused 3 (binaryOffset 0); tag = noTag })
+    (record { found = B.Found (primitiveOf k h n (length (textAt (found k h n) s))); tag = padded (tagOf k (take (4 * n) s)) })
 
-unfoldable pub binaryAnswer : ℕ → Reading → List ℕ → BinaryRead
-binaryAnswer at (refused m p) s = record { found = B.Refused m (binaryOffset (placeFrom 3 at p)); tag = noTag }
-binaryAnswer at (found k h n) s = record { found = B.Found (primitiveOf k h n); tag = padded (tagOf k (take (4 * n) s)) }
-
-unfoldable pub readBinary : List ℕ → ℕ → BinaryRead
-readBinary xs at =
+unfoldable pub readBinary : List ℕ → ℕ → ℕ → BinaryRead
+readBinary xs at room =
     pick (ltb (binary .limit) (length xs)) (record { found = B.Refused 1 (binaryOffset 0); tag = noTag })
-    (binaryAnswer at (reading (binary .sextets (from at xs))) (binary .sextets (from at xs)))
+    (binaryAnswer at (reading (binary .sextets (from at xs))) (binary .sextets (from at xs)) room)
+
+-- what a buffer that held d holds afterwards: the text from its start
+unfoldable pub charsLeft : BinaryFound → List ℕ → ℕ → List ℕ → List ℕ
+charsLeft (B.Found p) xs at d = textAt (reading (binary .sextets (from at xs))) (binary .sextets (from at xs)) ++ drop (p .text) d
+charsLeft (B.Refused m p) xs at d = d
 
 -- the part where the raw value lies, and an empty one where the read is refused
 unfoldable pub partAt : List ℕ → ℕ → BinaryFound → List ℕ

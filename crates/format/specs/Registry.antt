@@ -104,6 +104,10 @@ prepadOf c = pick (eqb (c .tag) 0) 0 (c .size - (c .chars + c .tag))
 unfoldable pub isType : ℕ → Bool
 isType t = pick (ltb t 6) true (eqb t 7)
 
+-- variable type `A`, Base64 strings: 02 c: "text, not bytes"
+unfoldable pub isText : ℕ → Bool
+isText t = eqb t 0
+
 -- group letters: `A`-`Z`, `a`, `b`, `c`
 unfoldable pub isGroup : ℕ → Bool
 isGroup l = ltb l 29

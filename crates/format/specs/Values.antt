@@ -1,6 +1,7 @@
--- 01, "Values": "in B the raw value is always whole bytes at the item's end". Of a primitive's own sextets. Assumes nothing.
+-- 01, "Values": "in B the raw value is always whole bytes at the item's end"; by 02 c type `A` has characters instead. Of a primitive's
+-- own sextets. Assumes nothing.
 use Prim.Native.Nat.{ℕ, _+_, _*_, _/_}
-use mathlib.Core.List.{List, [], map}
+use mathlib.Core.List.{List, [], _++_, map}
 use lib.ListN.{length, take, drop}
 use lib.Dec.{eqb}
 use Rattle.base.specs.Pick.{pick}
@@ -10,7 +11,8 @@ use Rattle.format.specs.declared.Kind.{Kind}
 use Rattle.format.specs.declared.Kind.the-variants.{Fixed, Variable, Group, Genus}
 use Rattle.format.specs.Alphabet.{charOf}
 use Rattle.format.specs.Units.{bytesOf}
-use Rattle.format.specs.Registry.{zeroBitsOf, prepadOf}
+use Rattle.format.specs.Registry.{zeroBitsOf, prepadOf, isText}
+use Rattle.format.specs.Texts.{textOf}
 
 -- an item's bytes in B
 unfoldable pub bytesIn : List ℕ → List ℕ
@@ -18,15 +20,27 @@ bytesIn s = each 4 bytesOf (length s / 4) s
 
 -- where the raw value starts, in bytes from the item's start, h being the header's units: "A pad 1 code is followed by 2 zero
 -- bits, a pad 2 code by 4, then the raw bytes; a pad 0 code by the raw bytes. `V` has one zero lead byte more. A variable value
--- opens with its 0, 1 or 2 zero lead bytes; the rest is raw." A tag has no raw: it is empty at the item's end
+-- opens with its 0, 1 or 2 zero lead bytes; the rest is raw." A tag has no raw, and by 02 c type `A` has none: it is empty at the
+-- item's end
 unfoldable pub rawStart : Kind → ℕ → ℕ
 rawStart (Fixed c) h = pick (eqb (c .tag) 0) ((6 * c .chars + zeroBitsOf c) / 8) (c .size / 4 * 3)
-rawStart (Variable t lead count) h = 3 * h + lead
+rawStart (Variable t lead count) h = pick (isText t) (3 * (h + count)) (3 * h + lead)
 rawStart (Group letter) h = 3 * h
 rawStart Genus h = 3 * h
 
 unfoldable pub rawOf : Kind → ℕ → List ℕ → List ℕ
 rawOf k h s = drop (rawStart k h) (bytesIn s)
+
+-- 02 c: a text's characters
+unfoldable pub textIn : Kind → ℕ → List ℕ → List ℕ
+textIn (Fixed c) h s = []
+textIn (Variable t lead count) h s = pick (isText t) (textOf lead (drop (4 * h) s)) []
+textIn (Group letter) h s = []
+textIn Genus h s = []
+
+-- what a writer is given for it: raw bytes, or a text's characters; one of the two is empty
+unfoldable pub valueOf : Kind → ℕ → List ℕ → List ℕ
+valueOf k h s = rawOf k h s ++ textIn k h s
 
 -- tag characters: "in `0J` `0L` `0N` a `_` stands before them"
 unfoldable pub tagOf : Kind → List ℕ → List ℕ

@@ -1,10 +1,11 @@
 -- 01, "Writing, to T or B: 6 (any code that isn't a primitive's), 12, 5 (tags), 3. Codes other than tags take no tag characters
 -- and tags no raw, else 12. For a variable type the caller names small or large, and the lead follows from the raw length; small
--- holds at most 12,285 raw bytes, large 3,145,722." 02 h: 18 "directly after 12". 02 j: 19 where 5 stands. The text written is the
--- binary's text. Assumes nothing.
+-- holds at most 12,285 raw bytes, large 3,145,722." 02 h: 18 "directly after 12". 02 j: 19 where 5 stands. 02 c, of type
+-- `A`, whose characters stand where the raw value does: "The writer's order is 6, 12, 5 (place its index in the text), 16 (place 0), 3".
+-- The text written is the binary's text. Assumes nothing.
 use Prim.Native.Nat.{ℕ, _+_, _-_, _*_, _/_, _%_, _^_}
 use mathlib.Core.List.{List, [], _∷_, _++_, map}
-use mathlib.Core.Bool.{Bool, true, false}
+use mathlib.Core.Bool.{Bool, true, false, not}
 use lib.Dec.{ltb, leb, eqb}
 use lib.ListN.{length, take, drop, replicate}
 use Rattle.base.specs.Pick.{pick}
@@ -24,9 +25,10 @@ use Rattle.format.specs.declared.BinaryWritten.the-variants as B
 use Rattle.format.specs.Alphabet.{sextetOf}
 use Rattle.format.specs.Units.{bytesOf}
 use Rattle.format.specs.Offsets.{textOffset, binaryOffset}
-use Rattle.format.specs.Registry.{fixed, isType, zeroBitsOf, prepadOf}
+use Rattle.format.specs.Registry.{fixed, isType, isText, zeroBitsOf, prepadOf}
+use Rattle.format.specs.Texts.{fills, fillFor, textLead, textCount}
 use Rattle.format.specs.Judging.{isShortest}
-use Rattle.format.specs.Values.{rawStart}
+use Rattle.format.specs.Values.{bytesIn, rawStart}
 use Rattle.format.specs.Conversion.{toText, firstStranger, firstNumber}
 
 -- ---- what is to be written
@@ -35,7 +37,8 @@ use Rattle.format.specs.Conversion.{toText, firstStranger, firstNumber}
 pub data Named : Type 0 where
   unknown : Named
   row : CodeRow → Named
-  variable : ℕ → ℕ → Named  -- the type's letter as a sextet; header units
+  variable : ℕ → ℕ → Named  -- the type's letter as a sextet, another than `A`; header units
+  textual : ℕ → Named  -- type `A`; header units
 
 unfoldable pub namedFixed : Opening → Named
 namedFixed Unknown = unknown
@@ -47,10 +50,13 @@ namedFixed (LargeVariable t l) = unknown
 namedFixed (LargeGroup l d) = unknown
 namedFixed Version = unknown
 
+unfoldable pub namedVariable : ℕ → ℕ → Named
+namedVariable t h = pick (isType t) (pick (isText t) (textual h) (variable t h)) unknown
+
 unfoldable pub named : Code → Named
 named (C.Fixed chars letter) = namedFixed (fixed chars (sextetOf letter))
-named (C.Small letter) = pick (isType (sextetOf letter)) (variable (sextetOf letter) 1) unknown
-named (C.Large letter) = pick (isType (sextetOf letter)) (variable (sextetOf letter) 2) unknown
+named (C.Small letter) = namedVariable (sextetOf letter) 1
+named (C.Large letter) = namedVariable (sextetOf letter) 2
 
 -- the raw bytes that a fixed code holds: what its size leaves behind the code, the pad bits and the lead bytes
 unfoldable pub rawSize : CodeRow → ℕ
@@ -66,6 +72,13 @@ rawLimit h = pick (eqb h 1) 12285 3145722
 
 unfoldable pub fitsVariable : ℕ → ℕ → ℕ → Bool
 fitsVariable h tags raw = pick (eqb tags 0) (leb raw (rawLimit h)) false
+
+-- "text with its fill is at most 16,380 characters small and 4,194,296 large"
+unfoldable pub textLimit : ℕ → ℕ
+textLimit h = pick (eqb h 1) 16380 4194296
+
+unfoldable pub fitsText : ℕ → ℕ → ℕ → Bool
+fitsText h tags chars = pick (eqb tags 0) (leb (chars + fillFor chars) (textLimit h)) false
 
 -- "the lead follows from the raw length": value and lead are whole triplets
 unfoldable pub leadFor : ℕ → ℕ
@@ -100,18 +113,27 @@ variableHeader t h lead n =
 unfoldable pub variablePrefix : ℕ → ℕ → ℕ → List ℕ
 variablePrefix t h raw = variableHeader t h (leadFor raw) (countFor raw) ++ replicate (leadFor raw) 0
 
+-- 02 c: "text filled in front with `A` to whole quadlets", as sextets
+unfoldable pub filled : List ℕ → List ℕ
+filled chars = replicate (fillFor (length chars)) 0 ++ map sextetOf chars
+
+unfoldable pub textBytes : ℕ → List ℕ → List ℕ
+textBytes h chars = variableHeader 0 h (textLead (length chars)) (textCount (length chars)) ++ bytesIn (filled chars)
+
 unfoldable pub itemBytes : Named → List ℕ → List ℕ → List ℕ
 itemBytes unknown tag raw = []
 itemBytes (row c) tag raw = rowPrefix c tag ++ raw
 itemBytes (variable t h) tag raw = variablePrefix t h (length raw) ++ raw
+itemBytes (textual h) tag raw = textBytes h raw
 
 -- full size in units
 unfoldable pub unitsOf : Named → ℕ → ℕ
 unitsOf unknown raw = 0
 unitsOf (row c) raw = c .size / 4
 unitsOf (variable t h) raw = h + countFor raw
+unitsOf (textual h) raw = h + textCount raw
 
--- ---- the call: 6, 12, 18, 5 or 19, 3
+-- ---- the call: 6, 12, 18, 5 or 19, 16, 3
 
 pub data Writing : Type 0 where
   refused : ℕ → ℕ → Writing
@@ -121,27 +143,54 @@ unfoldable pub isFit : Named → ℕ → ℕ → Bool
 isFit unknown tags raw = false
 isFit (row c) tags raw = fitsRow c tags raw
 isFit (variable t h) tags raw = fitsVariable h tags raw
+isFit (textual h) tags raw = fitsText h tags raw
 
 unfoldable pub isNamed : Named → Bool
 isNamed unknown = false
 isNamed (row c) = true
 isNamed (variable t h) = true
+isNamed (textual h) = true
 
 -- 18: a large code for a value that the small one holds
 unfoldable pub isShort : Named → ℕ → Bool
 isShort unknown raw = true
 isShort (row c) raw = true
 isShort (variable t h) raw = isShortest h (countFor raw)
+isShort (textual h) raw = isShortest h (textCount raw)
+
+-- 5 or 19: the characters that are asked: a text's own, for every other code the tag's
+unfoldable pub charsOf : Named → List ℕ → List ℕ → List ℕ
+charsOf unknown tag raw = tag
+charsOf (row c) tag raw = tag
+charsOf (variable t h) tag raw = tag
+charsOf (textual h) tag raw = raw
+
+-- and how many they are: "a number above 11 is 12", so no place behind the eleven is one of them
+unfoldable pub charsFor : Named → ℕ → ℕ → ℕ
+charsFor unknown tags raw = tags
+charsFor (row c) tags raw = tags
+charsFor (variable t h) tags raw = tags
+charsFor (textual h) tags raw = raw
+
+-- 16: "A text that itself starts with `A`"
+unfoldable pub beginsRight : Named → List ℕ → Bool
+beginsRight unknown raw = true
+beginsRight (row c) raw = true
+beginsRight (variable t h) raw = true
+beginsRight (textual h) raw = not (fills 1 (map sextetOf raw))
 
 -- u elements to the unit; "a writer ignores the places behind that number"
-unfoldable pub writing : ℕ → Named → List ℕ → ℕ → ℕ → ℕ → Writing
+unfoldable pub writing : ℕ → Named → List ℕ → ℕ → List ℕ → ℕ → Writing
 writing u n tag tags raw room =
+    let chars : List ℕ = charsOf n (take tags tag) raw in
     pick (isNamed n)
-    (pick (isFit n tags raw)
-    (pick (isShort n raw)
-    (pick (ltb (firstStranger (take tags tag)) tags) (refused (firstNumber (take tags tag)) (firstStranger (take tags tag)))
-    (pick (ltb room (unitsOf n raw * u)) (refused 3 0)
-    (written (unitsOf n raw))))
+    (pick (isFit n tags (length raw))
+    (pick (isShort n (length raw))
+    (pick (ltb (firstStranger chars) (charsFor n tags (length raw))) (refused (firstNumber chars) (firstStranger chars))
+    (pick (beginsRight n raw)
+    (pick (ltb room (unitsOf n (length raw) * u)) (refused 3 0)
+    (written (unitsOf n (length raw))))
+    (refused 16 0)))
     (refused 18 0))
     (refused 12 0))
     (refused 6 0)
@@ -158,10 +207,10 @@ binaryOutcome (refused m p) = B.Refused m p
 binaryOutcome (written n) = B.Written (binaryOffset (n * 3))
 
 unfoldable pub writeText : Code → List ℕ → ℕ → List ℕ → ℕ → TextWritten
-writeText code tag tags raw room = textOutcome (writing 4 (named code) tag tags (length raw) room)
+writeText code tag tags raw room = textOutcome (writing 4 (named code) tag tags raw room)
 
 unfoldable pub writeBinary : Code → List ℕ → ℕ → List ℕ → ℕ → BinaryWritten
-writeBinary code tag tags raw room = binaryOutcome (writing 3 (named code) tag tags (length raw) room)
+writeBinary code tag tags raw room = binaryOutcome (writing 3 (named code) tag tags raw room)
 
 -- what a buffer that held d holds afterwards
 unfoldable pub textItemLeft : TextWritten → Code → List ℕ → ℕ → List ℕ → List ℕ → List ℕ

@@ -92,12 +92,13 @@ pub enum Code {
 }
 
 // A primitive that was read, in either form: its code, its full size in units, where its raw value starts in the item's binary form,
-// how many bytes the raw value has and how many tag characters there are.
+// how many bytes the raw value has, how many characters a text (type `A`, which has no raw value) and how many tag characters there are.
 pub struct Primitive {
     pub code: Code,
     pub size: usize,
     pub start: BinaryOffset,
     pub raw: usize,
+    pub text: usize,
     pub tags: usize,
 }
 
@@ -125,7 +126,7 @@ pub struct BinaryRead {
     pub tag: [u8; 11],
 }
 
-// What writing a primitive answers: the length written, or a number and, for 5 and 19, the index of the tag character.
+// What writing a primitive answers: the length written, or a number and, for 5 and 19, the index of the tag character or of the text's.
 pub enum TextWritten {
     Written(TextOffset),
     Refused(u8, usize),

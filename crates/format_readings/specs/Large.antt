@@ -1,6 +1,6 @@
 -- 02 h, "Only the short form": what a large code holds at least. Streams that count 4,096 units and one less, in the deck's own form and in
--- text (in binary it is the same: demand 2), and the numbers of a reader and a writer there. What is expected is 02's word, and 01's on
--- large codes. Text is written by its characters' numbers. Assumes nothing.
+-- text (in binary it is the same: demand 2), and the numbers of a reader and a writer there; 02 c's texts under a large code. What is
+-- expected is 02's word, and 01's on large codes. Text is written by its characters' numbers. Assumes nothing.
 use Prim.Native.Nat.{ℕ, _+_, _-_, _*_}
 use mathlib.Core.Path.{_≡_, refl}
 use mathlib.Core.List.{List, [], _∷_}
@@ -31,6 +31,14 @@ pub record LargeHolds : Type 0 where
   pub variable-passes : Gives text (λ s. s) (example (57 ∷ 65 ∷ 65 ∷ 66 ∷ 65 ∷ 66 ∷ 65 ∷ 65 ∷ zeros 4096) accepted)
   -- `9AABABAAAAEA`: the second lead byte, of a large one
   pub lead-byte : Gives text (λ s. s) (example (57 ∷ 65 ∷ 65 ∷ 66 ∷ 65 ∷ 66 ∷ 65 ∷ 65 ∷ 65 ∷ 65 ∷ 69 ∷ 65 ∷ zeros 4095) (refused 8 0))
+  -- 02 c: `7AAAABAAB`: "7 .. take off one `A` if there is one", and here is none
+  pub text-passes : Gives text (λ s. s) (example (55 ∷ 65 ∷ 65 ∷ 65 ∷ 65 ∷ 66 ∷ 65 ∷ 65 ∷ 66 ∷ 65 ∷ 65 ∷ 65 ∷ zeros 4095) accepted)
+  -- `7AAAABAAAA`: the text starts with `A`
+  pub text-from-a : Gives text (λ s. s) (example (55 ∷ 65 ∷ 65 ∷ 65 ∷ 65 ∷ 66 ∷ 65 ∷ 65 ∷ zeros 4096) (refused 16 0))
+  -- `9AAAABAAAAAB`: "6 and 9 exactly three"
+  pub text-filled : Gives text (λ s. s) (example (57 ∷ 65 ∷ 65 ∷ 65 ∷ 65 ∷ 66 ∷ 65 ∷ 65 ∷ 65 ∷ 65 ∷ 65 ∷ 66 ∷ zeros 4095) accepted)
+  -- `8AAAABAAAAAB`: and not two
+  pub text-not-filled : Gives text (λ s. s) (example (56 ∷ 65 ∷ 65 ∷ 65 ∷ 65 ∷ 66 ∷ 65 ∷ 65 ∷ 65 ∷ 65 ∷ 65 ∷ 66 ∷ zeros 4095) (refused 16 0))
   -- `--AAABAA-_AAABAA`: the first item of an `-A` group, "large too"
   pub first-item : Gives text (λ s. s) (example (45 ∷ 45 ∷ 65 ∷ 65 ∷ 65 ∷ 66 ∷ 65 ∷ 65 ∷ 45 ∷ 95 ∷ 65 ∷ 65 ∷ 65 ∷ 66 ∷ 65 ∷ 65 ∷ 52 ∷ 66 ∷ 95 ∷ 57 ∷ zeros 4093) (refused 7 8))
   -- `--LAABAA`: a large group is opaque as a small one
@@ -48,6 +56,10 @@ large-holds = record {
   variable-below = refl;
   variable-passes = refl;
   lead-byte = refl;
+  text-passes = refl;
+  text-from-a = refl;
+  text-filled = refl;
+  text-not-filled = refl;
   first-item = refl;
   opaque = refl;
   starts = (refl, refl, refl);

@@ -124,7 +124,8 @@ unfolding judgeKind
 own-near (Fixed c) h l s few = then-near _ _ _ (behind-near h s few) (then-near _ _ _ (unless-near _ 8 _) (unless-near _ 10 _))
 own-near (Variable t a b) h l s few =
     then-near _ _ _ (behind-near h s few)
-    (then-near _ _ _ (unless-near _ 18 _) (then-near _ _ _ (unless-near _ 9 _) (unless-near _ 8 _)))
+    (then-near _ _ _ (unless-near _ 18 _)
+    (then-near _ _ _ (unless-near _ 9 _) (then-near _ _ _ (unless-near _ 8 _) (unless-near _ 16 _))))
 own-near (Group letter) h l s few = own-check-near l letter h s few
 own-near Genus h l s few = tt
 

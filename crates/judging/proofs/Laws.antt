@@ -1,6 +1,6 @@
--- The code's checks are format's: the search for a stranger is the scan, and the first sextets are all that 8, 9 and 10 look at.
+-- The code's checks are format's: the search for a stranger is the scan, and the first sextets are all that 8, 9, 10 and 16 look at.
 -- Assumes nothing.
-use mathlib.Core.Path.{_≡_, refl, sym, _∙_}
+use mathlib.Core.Path.{_≡_, refl, ap, sym, _∙_}
 use mathlib.Core.Bool.{true}
 use mathlib.Core.List.{List, [], _∷_}
 use mathlib.Core.Logic.{⊎-elim}
@@ -21,7 +21,7 @@ use Rattle.format.specs.Alphabet.{sextetOf, strangerNumber}
 use Rattle.format.specs.Units.{textSextets, binarySextets}
 use Rattle.format.specs.Conversion.{firstStranger, firstNumber}
 use Rattle.format.specs.Registry.{isOpaque, zeroBitsOf, prepadOf}
-use Rattle.format.specs.Judging.{shift, andThen, scan, behind, zeroBits, prepadRight, judgeKind, ownCheck}
+use Rattle.format.specs.Judging.{shift, andThen, unless, isShortest, hasLead, scan, behind, zeroBits, prepadRight, judgeKind, ownCheck}
 use Rattle.laws.specs.Framing.{Shaped}
 use Rattle.laws.specs.Domains.{binary-reader}
 use Rattle.laws.specs.Levels.{then-accepts}
@@ -31,6 +31,7 @@ use Rattle.framing_head.specs.Heads.{headOf}
 use Rattle.framing_head.proofs.Laws.{head-at, within-head}
 use Rattle.judging_header.specs.Checks.{fixedChecks, variableChecks, groupChecks}
 use Rattle.judging.specs.Own.{ownBy}
+use Rattle.judging.proofs.Texts.{nine-first, value-tells}
 
 -- ---- 5 or 19
 
@@ -115,7 +116,11 @@ unfolding ownBy judgeKind fixedChecks variableChecks
 own-judged (Fixed c) h n l s few long shape =
     let m : c .chars ≤ 4 = shape .0 .chars .1 in
     rw (zero-head s (c .chars) (zeroBitsOf c) (omega arith), prepad-head s (c .chars) (prepadOf c) (omega arith))
-own-judged (Variable t lead count) h n l s few long shape = rw (zero-head s (4 * h) (8 * lead) (omega arith))
+own-judged (Variable t lead count) h n l s few long shape =
+    let e : length (drop (4 * h) s) ≡ 4 * count = omega (arith, length-drop (4 * h) s, shape .1) in
+    rw (zero-head s (4 * h) (8 * lead) (omega arith))
+    (ap (λ (v : Verdict). andThen (behind h s) (andThen (unless 18 (isShortest h count)) v))
+    (nine-first lead count _ _ _ (value-tells t lead count h s few (shape .0) e)))
 own-judged (Group letter) h n l s few long shape = own-group letter h n l s long
 own-judged Genus h n l s few long shape = refl
 

@@ -16,7 +16,7 @@ use Rattle.judging_header.specs.Checks.{fixedChecks, variableChecks, groupCheck
 -- an item of n units, h of them its header
 unfoldable pub ownBy : Kind → ℕ → ℕ → List ℕ → Verdict → ℕ → Verdict
 ownBy (Fixed c) h n cs b l = andThen b (fixedChecks c cs)
-ownBy (Variable t lead count) h n cs b l = andThen b (variableChecks lead count h cs)
+ownBy (Variable t lead count) h n cs b l = andThen b (variableChecks t lead count h cs)
 ownBy (Group letter) h n cs b l = andThen (groupChecks h (n - h) l) (pick (isOpaque letter) b Accepted)
 ownBy Genus h n cs b l = Accepted
 

@@ -1,4 +1,4 @@
-// An item's own checks, which the walk and the single reader make: of a primitive 5 behind the header, 18, 9, 8, 10; of a group 11, 18
+// An item's own checks, which the walk and the single reader make: of a primitive 5 behind the header, 18, 9, 8, 16, 10; of a group 11, 18
 // and, if opaque, 5. A header's checks look at the item's first sextets, 0 past its end.
 use format::Framed;
 use format::Kind;
@@ -52,12 +52,13 @@ pub fn own_text(kind: Kind, h: usize, n: usize, cs: [u8; 12], item: &[u8], level
             after(b, judging_header::fixed_checks(c, cs))
         }
         Kind::Variable {
-            letter: _,
+            letter,
             lead,
             count,
         } => {
             let b = behind_text(item, h);
-            after(b, judging_header::variable_checks(lead, count, h, cs))
+            let v = judging_header::variable_checks(letter, lead, count, h, cs);
+            after(b, v)
         }
         Kind::Group { letter } => {
             let v = judging_header::group_checks(h, judging_header::units_behind(n, h), levels);
@@ -78,10 +79,10 @@ pub fn own_binary(kind: Kind, h: usize, n: usize, cs: [u8; 12], levels: usize) -
     match kind {
         Kind::Fixed(c) => judging_header::fixed_checks(c, cs),
         Kind::Variable {
-            letter: _,
+            letter,
             lead,
             count,
-        } => judging_header::variable_checks(lead, count, h, cs),
+        } => judging_header::variable_checks(letter, lead, count, h, cs),
         Kind::Group { letter: _ } => judging_header::group_checks(
             h,
             judging_header::units_behind(n, h),

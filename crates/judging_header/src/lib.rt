@@ -1,4 +1,4 @@
-// What an item's header and first sextets decide: of a fixed code 8 and 10, of a variable one 18, 9 and 8, of a group 11 and 18. The
+// What an item's header and first sextets decide: of a fixed code 8 and 10, of a variable one 18, 9, 8 and 16, of a group 11 and 18. The
 // sextets are the item's own, 0 past its end.
 use format::CodeRow;
 use format::Verdict;
@@ -7,7 +7,7 @@ ghost use Prim.Native.Nat.{_-_, _*_, _<_, _≤_};
 ghost use lib.ListN.{getD};
 ghost use Rattle.format.specs.Registry.{zeroBitsOf, prepadOf};
 ghost use Rattle.format.specs.Judging.{isShortest, hasLead, zeroBits, prepadRight};
-ghost use Rattle.judging_header.specs.Checks.{fixedChecks, variableChecks, groupChecks};
+ghost use Rattle.judging_header.specs.Checks.{fixedChecks, variableChecks, filledRight, textFilled, groupChecks};
 
 fn wide(x: u8) -> u32
     ensures { λ r. ⌜ (r ≡ x) × (r < 256) ⌝ }
@@ -106,7 +106,7 @@ pub fn is_shortest(h: usize, count: usize) -> bool
     if h == 1 { true } else { 4096 <= count }
 }
 
-// ---- 18, 9 and 8 of a variable one
+// ---- 9 and 8 of a variable one
 
 fn has_lead(lead: u8, count: usize) -> bool
     ensures { λ r. ⌜ r ≡ hasLead lead count ⌝ }
@@ -124,8 +124,45 @@ fn lead_zero(cs: [u8; 12], h: usize, lead: u8) -> bool
     }
 }
 
-pub fn variable_checks(lead: u8, count: usize, h: usize, cs: [u8; 12]) -> Verdict
-    ensures { λ r. ⌜ r ≡ variableChecks lead count h cs ⌝ }
+// ---- 16 of a text
+
+// Its first unit: none or one `A` in front under lead 0, two under 1, three under 2.
+fn filled_right(lead: u8, a: u8, b: u8, c: u8, d: u8) -> bool
+    ensures { λ r. ⌜ r ≡ filledRight lead a b c d ⌝ }
+{
+    if a != 0 {
+        return lead == 0;
+    }
+    if b != 0 {
+        return lead == 0;
+    }
+    if c != 0 {
+        return lead == 1;
+    }
+    if d != 0 { lead == 2 } else { false }
+}
+
+// Type `A` is 0, and the empty text has no unit. Sextets past those that are held read 0.
+fn text_filled(letter: u8, lead: u8, count: usize, h: usize, cs: [u8; 12]) -> bool
+    ensures { λ r. ⌜ r ≡ textFilled letter lead count h cs ⌝ }
+{
+    if letter != 0 {
+        return true;
+    }
+    if count == 0 {
+        return true;
+    }
+    if 2 < h {
+        return false;
+    }
+    let i = 4 * h;
+    filled_right(lead, cs[i], cs[i + 1], cs[i + 2], cs[i + 3])
+}
+
+// ---- 18, 9, 8 and 16 of a variable one
+
+pub fn variable_checks(letter: u8, lead: u8, count: usize, h: usize, cs: [u8; 12]) -> Verdict
+    ensures { λ r. ⌜ r ≡ variableChecks letter lead count h cs ⌝ }
 {
     if !is_shortest(h, count) {
         return Verdict::Refused {
@@ -142,6 +179,12 @@ pub fn variable_checks(lead: u8, count: usize, h: usize, cs: [u8; 12]) -> Verdic
     if !lead_zero(cs, h, lead) {
         return Verdict::Refused {
             number: 8,
+            place: 0,
+        };
+    }
+    if !text_filled(letter, lead, count, h, cs) {
+        return Verdict::Refused {
+            number: 16,
             place: 0,
         };
     }

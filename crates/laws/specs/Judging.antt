@@ -126,7 +126,8 @@ module _ (Q : List ℕ → Type 0) (P : Verdict → Type 0) (R : Reaches Q P) wh
       and-then _ _ (behind-by h s q) (and-then _ _ (unless-by 8 _ (omega arith)) (unless-by 10 _ (omega arith)))
   kind-by (Variable t l m) h s go q g =
       and-then _ _ (behind-by h s q)
-      (and-then _ _ (unless-by 18 _ (omega arith)) (and-then _ _ (unless-by 9 _ (omega arith)) (unless-by 8 _ (omega arith))))
+      (and-then _ _ (unless-by 18 _ (omega arith)) (and-then _ _ (unless-by 9 _ (omega arith))
+      (and-then _ _ (unless-by 8 _ (omega arith)) (unless-by 16 _ (omega arith)))))
   kind-by (Group l) h s go q g = g l h (drop (4 * h) s) (R .drops (4 * h) s q)
   kind-by Genus h s go q g = R .accepts
 

@@ -14,6 +14,7 @@ use Rattle.base.specs.Each.{each, each-back, length-each}
 use Rattle.format.specs.declared.Kind.{Kind}
 use Rattle.format.specs.declared.Kind.the-variants.{Fixed, Variable, Group, Genus}
 use Rattle.format.specs.Alphabet.{sextetOf}
+use Rattle.format.specs.Registry.{isText}
 use Rattle.format.specs.Units.{bytesOf, sextetsOf, tripletOf, textSextets, binarySextets}
 use Rattle.format.specs.Conversion.{toBinary}
 use Rattle.format.specs.Values.{bytesIn, rawStart, rawOf}
@@ -65,7 +66,9 @@ raw-inside (Fixed c) h n le s led =
     pick-by (λ (m : ℕ). m ≤ 3 * n) (eqb (c .tag) 0) _ _
     (λ e. let r = s .0 .raw (eqb-true (c .tag) 0 e) in omega (arith, r .inside, s .2))
     (λ e. omega (arith, s .2))
-raw-inside (Variable t zero m) h n le s led = omega (arith, s .1)
-raw-inside (Variable t (suc l) m) h n le s led = omega (arith, s .0, s .1, led (omega arith))
+raw-inside (Variable t zero m) h n le s led =
+    pick-by (λ (i : ℕ). i ≤ 3 * n) (isText t) _ _ (λ _. omega (arith, s .1)) (λ _. omega (arith, s .1))
+raw-inside (Variable t (suc l) m) h n le s led =
+    pick-by (λ (i : ℕ). i ≤ 3 * n) (isText t) _ _ (λ _. omega (arith, s .1)) (λ _. omega (arith, s .0, s .1, led (omega arith)))
 raw-inside (Group l) h n le s led = omega arith
 raw-inside Genus h n le s led = omega arith

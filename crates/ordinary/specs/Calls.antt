@@ -29,18 +29,19 @@ use Rattle.format.specs.Alphabet.{sextetOf, strangerNumber}
 use Rattle.format.specs.Units.{text, textSextets}
 use Rattle.format.specs.Framing.{sextet, frame}
 use Rattle.format.specs.Judging.{judgeKind, ownCheck}
-use Rattle.format.specs.Values.{rawStart}
+use Rattle.format.specs.Texts.{fills}
+use Rattle.format.specs.Values.{valueOf}
 use Rattle.format.specs.Conversion.{firstStranger, firstNumber, textToBinary, binaryLeft}
-use Rattle.format.specs.Reading.{Reading, isPrimitive, judged, readFramed, reading, from, textAnswer, readText, textRaw, rawLeft}
+use Rattle.format.specs.Reading.{Reading, isPrimitive, judged, readFramed, reading, from, valueAt, textAt, textAnswer, readText, valueLeft}
 use Rattle.format.specs.Reading.Reading.{refused, found}
 use Rattle.format.specs.Writing as W
 use Rattle.laws.specs.Conversion.{all-known}
 use Rattle.laws.specs.Levels.{item-sizes, frame-own}
 use Rattle.roundtrip.specs.Reads.{read-own}
 use Rattle.roundtrip.specs.Sextets.{accepted}
-use Rattle.ordinary.specs.Words.{mask, masked, asFive, verdictFive, framedFive, toBinaryFive, textFoundFive, textReadFive}
+use Rattle.ordinary.specs.Words.{mask, masked, maskedText, asFive, verdictFive, framedFive, toBinaryFive, textFoundFive, textReadFive}
 use Rattle.ordinary.specs.Words.{textWrittenFive, binaryWrittenFive}
-use Rattle.ordinary.specs.Marks.{pick-to, plain, plain-test, plain-number, plain-all, sextet-masked, sextets-masked, masked-known}
+use Rattle.ordinary.specs.Marks.{pick-to, plain, plain-test, plain-zero, plain-number, plain-all, sextet-masked, sextets-masked, masked-known}
 use Rattle.ordinary.specs.Framed.{header-known, frame-five}
 use Rattle.ordinary.specs.Judged.{kind-five, check-five}
 
@@ -125,10 +126,10 @@ read-known s k h n e = rw (← map-take plain (4 * n) s) (plain-all (take (4 * n
 
 answer-five : (at : ℕ) (s : List ℕ) (room : ℕ) (r : Reading) → reading s ≡ r
     → textAnswer at (readingFive r) (map plain s) room ≡ textReadFive (textAnswer at r s room)
-unfolding textAnswer readingFive textReadFive textFoundFive asFive
+unfolding textAnswer valueAt textAt readingFive textReadFive textFoundFive asFive
 answer-five at s room (refused m p) e = refl
 answer-five at s room (found k h n) e =
-    rw (read-known s k h n e) (pick-to textReadFive (ltb room (3 * n - rawStart k h)) _ _ _ _ (λ _. refl) (λ _. refl))
+    rw (read-known s k h n e) (pick-to textReadFive (ltb room (length (valueOf k h (take (4 * n) s)))) _ _ _ _ (λ _. refl) (λ _. refl))
 
 -- a masked text from an offset on
 from-masked : (s : List ℕ) (at : ℕ) → text .sextets (from at (masked s)) ≡ map plain (text .sextets (from at s))
@@ -142,21 +143,21 @@ reads s at room =
     rw (length-map s mask, from-masked s at, reading-five t)
     (pick-to textReadFive (ltb (text .limit) (length s)) _ _ _ _ (λ _. refl) (λ _. answer-five at t room (reading t) refl))
 
-raw-five : (s : List ℕ) (r : Reading) → reading s ≡ r → textRaw (readingFive r) (map plain s) ≡ textRaw r s
-unfolding textRaw readingFive
-raw-five s (refused m p) e = refl
-raw-five s (found k h n) e = rw (read-known s k h n e)
+value-five : (s : List ℕ) (r : Reading) → reading s ≡ r → valueAt (readingFive r) (map plain s) ≡ valueAt r s
+unfolding valueAt readingFive
+value-five s (refused m p) e = refl
+value-five s (found k h n) e = rw (read-known s k h n e)
 
 pub reads-left : (s : List ℕ) (at : ℕ) (d : List ℕ)
-    → rawLeft (readText (masked s) at (length d) .found) (masked s) at d ≡ rawLeft (readText s at (length d) .found) s at d
-unfolding rawLeft textReadFive textFoundFive
+    → valueLeft (readText (masked s) at (length d) .found) (masked s) at d ≡ valueLeft (readText s at (length d) .found) s at d
+unfolding valueLeft textReadFive textFoundFive
 reads-left s at d = rw (reads s at (length d)) (go (readText s at (length d) .found))
   where
-    go : (f : TextFound) → rawLeft (textFoundFive f) (masked s) at d ≡ rawLeft f s at d
+    go : (f : TextFound) → valueLeft (textFoundFive f) (masked s) at d ≡ valueLeft f s at d
     go (TF.Refused m p) = refl
     go (TF.Found q) =
         let t : List ℕ = text .sextets (from at s) in
-        rw (from-masked s at, reading-five t, raw-five t (reading t) refl)
+        rw (from-masked s at, reading-five t, value-five t (reading t) refl)
 
 -- ---- writing
 
@@ -164,19 +165,56 @@ unfoldable pub writingFive : W.Writing → W.Writing
 writingFive (W.refused m p) = W.refused (asFive m) p
 writingFive (W.written n) = W.written n
 
-pub writing-masked : (u : ℕ) (n : W.Named) (tag : List ℕ) (tags raw room : ℕ)
-    → W.writing u n (masked tag) tags raw room ≡ writingFive (W.writing u n tag tags raw room)
+-- a mask does not change how long a value is, which characters are asked, and whether they start with `A`
+length-masked : (n : W.Named) (raw : List ℕ) → length (maskedText n raw) ≡ length raw
+length-masked W.unknown raw = refl
+length-masked (W.row c) raw = refl
+length-masked (W.variable t h) raw = refl
+length-masked (W.textual h) raw = length-map raw mask
+
+chars-masked : (n : W.Named) (tag : List ℕ) (tags : ℕ) (raw : List ℕ)
+    → W.charsOf n (take tags (masked tag)) (maskedText n raw) ≡ masked (W.charsOf n (take tags tag) raw)
+unfolding W.charsOf
+chars-masked W.unknown tag tags raw = rw (← map-take mask tags tag)
+chars-masked (W.row c) tag tags raw = rw (← map-take mask tags tag)
+chars-masked (W.variable t h) tag tags raw = rw (← map-take mask tags tag)
+chars-masked (W.textual h) tag tags raw = refl
+
+begins-masked : (n : W.Named) (raw : List ℕ) → W.beginsRight n (maskedText n raw) ≡ W.beginsRight n raw
+unfolding W.beginsRight fills
+begins-masked W.unknown raw = refl
+begins-masked (W.row c) raw = refl
+begins-masked (W.variable t h) raw = refl
+begins-masked (W.textual h) [] = refl
+begins-masked (W.textual h) (c ∷ raw) = rw (sextet-masked c, plain-zero (sextetOf c))
+
+pub writing-masked : (u : ℕ) (n : W.Named) (tag : List ℕ) (tags : ℕ) (raw : List ℕ) (room : ℕ)
+    → W.writing u n (masked tag) tags (maskedText n raw) room ≡ writingFive (W.writing u n tag tags raw room)
 unfolding W.writing writingFive asFive
 writing-masked u n tag tags raw room =
-    rw (← map-take mask tags tag, stranger-masked (take tags tag), number-masked (take tags tag))
+    let chars = W.charsOf n (take tags tag) raw in
+    rw (length-masked n raw, chars-masked n tag tags raw, begins-masked n raw, stranger-masked chars, number-masked chars)
     (pick-to writingFive (W.isNamed n) _ _ _ _
-    (λ _. pick-to writingFive (W.isFit n tags raw) _ _ _ _
-    (λ _. pick-to writingFive (W.isShort n raw) _ _ _ _
-    (λ _. pick-to writingFive (ltb (firstStranger (take tags tag)) tags) _ _ _ _ (λ _. refl)
-    (λ _. pick-to writingFive (ltb room (W.unitsOf n raw * u)) _ _ _ _ (λ _. refl) (λ _. refl)))
+    (λ _. pick-to writingFive (W.isFit n tags (length raw)) _ _ _ _
+    (λ _. pick-to writingFive (W.isShort n (length raw)) _ _ _ _
+    (λ _. pick-to writingFive (ltb (firstStranger chars) (W.charsFor n tags (length raw))) _ _ _ _ (λ _. refl)
+    (λ _. pick-to writingFive (W.beginsRight n raw) _ _ _ _
+    (λ _. pick-to writingFive (ltb room (W.unitsOf n (length raw) * u)) _ _ _ _ (λ _. refl) (λ _. refl))
+    (λ _. refl)))
     (λ _. refl))
     (λ _. refl))
     (λ _. refl))
+
+-- what is written has its characters in the alphabet
+bytes-masked : (n : W.Named) (tag : List ℕ) (tags : ℕ) (raw : List ℕ)
+    → W.charsFor n tags (length raw) ≤ firstStranger (W.charsOf n (take tags tag) raw)
+    → W.itemBytes n (take tags (masked tag)) (maskedText n raw) ≡ W.itemBytes n (take tags tag) raw
+unfolding W.charsOf W.charsFor W.itemBytes
+bytes-masked W.unknown tag tags raw l = refl
+bytes-masked (W.row c) tag tags raw l =
+    rw (← map-take mask tags tag, masked-known (take tags tag) (all-known (take tags tag) (omega (arith, length-take tags tag))))
+bytes-masked (W.variable t h) tag tags raw l = refl
+bytes-masked (W.textual h) tag tags raw l = rw (masked-known raw (all-known raw l))
 
 text-outcome : (w : W.Writing) → W.textOutcome (writingFive w) ≡ textWrittenFive (W.textOutcome w)
 unfolding W.textOutcome writingFive textWrittenFive
@@ -189,38 +227,38 @@ binary-outcome (W.refused m p) = refl
 binary-outcome (W.written n) = refl
 
 module _ (code : Code) (tag : List ℕ) (tags : ℕ) (raw : List ℕ) where
-  pub writes-text : (room : ℕ) → W.writeText code (masked tag) tags raw room ≡ textWrittenFive (W.writeText code tag tags raw room)
+  abbrev chars : List ℕ
+  chars = maskedText (W.named code) raw
+
+  pub writes-text : (room : ℕ) → W.writeText code (masked tag) tags chars room ≡ textWrittenFive (W.writeText code tag tags raw room)
   unfolding W.writeText
-  writes-text room = rw (writing-masked 4 (W.named code) tag tags (length raw) room) (text-outcome _)
+  writes-text room = rw (writing-masked 4 (W.named code) tag tags raw room) (text-outcome _)
 
-  pub writes-binary : (room : ℕ) → W.writeBinary code (masked tag) tags raw room ≡ binaryWrittenFive (W.writeBinary code tag tags raw room)
+  pub writes-binary : (room : ℕ) → W.writeBinary code (masked tag) tags chars room ≡ binaryWrittenFive (W.writeBinary code tag tags raw room)
   unfolding W.writeBinary
-  writes-binary room = rw (writing-masked 3 (W.named code) tag tags (length raw) room) (binary-outcome _)
+  writes-binary room = rw (writing-masked 3 (W.named code) tag tags raw room) (binary-outcome _)
 
-  -- what is written has its tag characters in the alphabet
-  written-known : (u room n : ℕ) → W.writing u (W.named code) tag tags (length raw) room ≡ W.written n
-      → W.writtenBytes code (masked tag) tags raw ≡ W.writtenBytes code tag tags raw
+  written-known : (u room n : ℕ) → W.writing u (W.named code) tag tags raw room ≡ W.written n
+      → W.writtenBytes code (masked tag) tags chars ≡ W.writtenBytes code tag tags raw
   unfolding W.writtenBytes
-  written-known u room n e =
-      let a = accepted u (W.named code) tag tags (length raw) room n e in
-      rw (← map-take mask tags tag, masked-known (take tags tag) (all-known (take tags tag) (omega (arith, a .strangers, length-take tags tag))))
+  written-known u room n e = bytes-masked (W.named code) tag tags raw (accepted u (W.named code) tag tags raw room n e .strangers)
 
-  pub text-left : (d : List ℕ) → W.textItemLeft (W.writeText code (masked tag) tags raw (length d)) code (masked tag) tags raw d
+  pub text-left : (d : List ℕ) → W.textItemLeft (W.writeText code (masked tag) tags chars (length d)) code (masked tag) tags chars d
       ≡ W.textItemLeft (W.writeText code tag tags raw (length d)) code tag tags raw d
   unfolding W.textItemLeft W.writeText W.textOutcome writingFive
-  text-left d = rw (writing-masked 4 (W.named code) tag tags (length raw) (length d)) (go (W.writing 4 (W.named code) tag tags (length raw) (length d)) refl)
+  text-left d = rw (writing-masked 4 (W.named code) tag tags raw (length d)) (go (W.writing 4 (W.named code) tag tags raw (length d)) refl)
     where
-      go : (w : W.Writing) → W.writing 4 (W.named code) tag tags (length raw) (length d) ≡ w
-          → W.textItemLeft (W.textOutcome (writingFive w)) code (masked tag) tags raw d ≡ W.textItemLeft (W.textOutcome w) code tag tags raw d
+      go : (w : W.Writing) → W.writing 4 (W.named code) tag tags raw (length d) ≡ w
+          → W.textItemLeft (W.textOutcome (writingFive w)) code (masked tag) tags chars d ≡ W.textItemLeft (W.textOutcome w) code tag tags raw d
       go (W.refused m p) e = refl
       go (W.written n) e = rw (written-known 4 (length d) n e)
 
-  pub binary-left : (d : List ℕ) → W.binaryItemLeft (W.writeBinary code (masked tag) tags raw (length d)) code (masked tag) tags raw d
+  pub binary-left : (d : List ℕ) → W.binaryItemLeft (W.writeBinary code (masked tag) tags chars (length d)) code (masked tag) tags chars d
       ≡ W.binaryItemLeft (W.writeBinary code tag tags raw (length d)) code tag tags raw d
   unfolding W.binaryItemLeft W.writeBinary W.binaryOutcome writingFive
-  binary-left d = rw (writing-masked 3 (W.named code) tag tags (length raw) (length d)) (go (W.writing 3 (W.named code) tag tags (length raw) (length d)) refl)
+  binary-left d = rw (writing-masked 3 (W.named code) tag tags raw (length d)) (go (W.writing 3 (W.named code) tag tags raw (length d)) refl)
     where
-      go : (w : W.Writing) → W.writing 3 (W.named code) tag tags (length raw) (length d) ≡ w
-          → W.binaryItemLeft (W.binaryOutcome (writingFive w)) code (masked tag) tags raw d ≡ W.binaryItemLeft (W.binaryOutcome w) code tag tags raw d
+      go : (w : W.Writing) → W.writing 3 (W.named code) tag tags raw (length d) ≡ w
+          → W.binaryItemLeft (W.binaryOutcome (writingFive w)) code (masked tag) tags chars d ≡ W.binaryItemLeft (W.binaryOutcome w) code tag tags raw d
       go (W.refused m p) e = refl
       go (W.written n) e = rw (written-known 3 (length d) n e)

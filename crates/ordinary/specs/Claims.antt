@@ -16,13 +16,13 @@ use Rattle.format.specs.declared.BinaryWritten.the-variants as BW
 use Rattle.format.specs.Units.{text}
 use Rattle.format.specs.Conversion.{textToBinary, binaryLeft}
 use Rattle.format.specs.Report.{RefusalRow, rowsIn, refusalsIn, remainderIn, frameIn, judgeIn, report, reportAnswer}
-use Rattle.format.specs.Reading.{readText, rawLeft}
-use Rattle.format.specs.Writing.{writeText, textItemLeft, writeBinary, binaryItemLeft}
+use Rattle.format.specs.Reading.{readText, valueLeft}
+use Rattle.format.specs.Writing.{named, charsOf, writeText, textItemLeft, writeBinary, binaryItemLeft}
 use Rattle.walk_state.specs.declared.Walk.{Walk}
 use Rattle.walk_state.specs.declared.Found.the-variants as F
 use Rattle.walk_state.specs.Walking.{stepIn}
 use Rattle.walk_claims.specs.Words.{after}
-use Rattle.ordinary.specs.Words.{masked, OrdinaryAt, asFive, verdictFive, framedFive, rowFive, refusalFive, remainderFive, reportFive}
+use Rattle.ordinary.specs.Words.{masked, maskedText, OrdinaryAt, asFive, verdictFive, framedFive, rowFive, refusalFive, remainderFive, reportFive}
 use Rattle.ordinary.specs.Words.{toBinaryFive, textReadFive, textWrittenFive, binaryWrittenFive, steppedFive, Exactly, Each}
 
 -- ---- "every caller should report them as number 19 where they would have given 5, at the same place in the same order." If `!` stands for
@@ -42,17 +42,17 @@ pub record MaskedClaims : Type 0 where
   -- reading a primitive
   pub reads : (s : List ℕ) (at room : ℕ) → readText (masked s) at room ≡ textReadFive (readText s at room)
   pub reads-left : (s : List ℕ) (at : ℕ) (d : List ℕ)
-      → rawLeft (readText (masked s) at (length d) .found) (masked s) at d ≡ rawLeft (readText s at (length d) .found) s at d
-  -- writing one, of its tag characters
+      → valueLeft (readText (masked s) at (length d) .found) (masked s) at d ≡ valueLeft (readText s at (length d) .found) s at d
+  -- writing one, of its tag characters, and of a text's own (02 c)
   pub writes-text : (code : Code) (tag : List ℕ) (tags : ℕ) (raw : List ℕ) (room : ℕ)
-      → writeText code (masked tag) tags raw room ≡ textWrittenFive (writeText code tag tags raw room)
-  pub text-left : (code : Code) (tag : List ℕ) (tags : ℕ) (raw d : List ℕ)
-      → textItemLeft (writeText code (masked tag) tags raw (length d)) code (masked tag) tags raw d
+      → writeText code (masked tag) tags (maskedText (named code) raw) room ≡ textWrittenFive (writeText code tag tags raw room)
+  pub text-left : (code : Code) (tag : List ℕ) (tags : ℕ) (raw d : List ℕ) → let chars = maskedText (named code) raw in
+      textItemLeft (writeText code (masked tag) tags chars (length d)) code (masked tag) tags chars d
       ≡ textItemLeft (writeText code tag tags raw (length d)) code tag tags raw d
   pub writes-binary : (code : Code) (tag : List ℕ) (tags : ℕ) (raw : List ℕ) (room : ℕ)
-      → writeBinary code (masked tag) tags raw room ≡ binaryWrittenFive (writeBinary code tag tags raw room)
-  pub binary-left : (code : Code) (tag : List ℕ) (tags : ℕ) (raw d : List ℕ)
-      → binaryItemLeft (writeBinary code (masked tag) tags raw (length d)) code (masked tag) tags raw d
+      → writeBinary code (masked tag) tags (maskedText (named code) raw) room ≡ binaryWrittenFive (writeBinary code tag tags raw room)
+  pub binary-left : (code : Code) (tag : List ℕ) (tags : ℕ) (raw d : List ℕ) → let chars = maskedText (named code) raw in
+      binaryItemLeft (writeBinary code (masked tag) tags chars (length d)) code (masked tag) tags chars d
       ≡ binaryItemLeft (writeBinary code tag tags raw (length d)) code tag tags raw d
   -- a step of the walk from any state, and so the states all along
   pub steps : (s : List ℕ) (w : Walk) → stepIn text (masked s) w ≡ steppedFive (stepIn text s w)
@@ -69,11 +69,13 @@ pub record NineteenClaims : Type 0 where
       → Exactly (textToBinary s room ≡ B.Refused 19 p) ((textToBinary (masked s) room ≡ B.Refused 5 p) × OrdinaryAt s (p .0))
   pub read : (s : List ℕ) (at room : ℕ) (p : TextOffset)
       → Exactly (readText s at room .found ≡ TF.Refused 19 p) ((readText (masked s) at room .found ≡ TF.Refused 5 p) × OrdinaryAt s (p .0))
+  -- a writer's place is that among the characters asked: a text's own, for every other code the tag's
   pub written-text : (code : Code) (tag : List ℕ) (tags : ℕ) (raw : List ℕ) (room p : ℕ)
-      → Exactly (writeText code tag tags raw room ≡ TW.Refused 19 p) ((writeText code (masked tag) tags raw room ≡ TW.Refused 5 p) × OrdinaryAt tag p)
+      → Exactly (writeText code tag tags raw room ≡ TW.Refused 19 p)
+      ((writeText code (masked tag) tags (maskedText (named code) raw) room ≡ TW.Refused 5 p) × OrdinaryAt (charsOf (named code) tag raw) p)
   pub written-binary : (code : Code) (tag : List ℕ) (tags : ℕ) (raw : List ℕ) (room p : ℕ)
       → Exactly (writeBinary code tag tags raw room ≡ BW.Refused 19 p)
-      ((writeBinary code (masked tag) tags raw room ≡ BW.Refused 5 p) × OrdinaryAt tag p)
+      ((writeBinary code (masked tag) tags (maskedText (named code) raw) room ≡ BW.Refused 5 p) × OrdinaryAt (charsOf (named code) tag raw) p)
   pub stepped : (s : List ℕ) (w : Walk) (p : ℕ)
       → Exactly (stepIn text s w .found ≡ F.Refused 19 p) ((stepIn text (masked s) w .found ≡ F.Refused 5 p) × OrdinaryAt s p)
 

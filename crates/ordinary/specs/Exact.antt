@@ -42,9 +42,10 @@ use Rattle.walk_state.specs.declared.Found.the-variants as F
 use Rattle.walk_state.specs.declared.Stepped.{Stepped}
 use Rattle.walk_state.specs.Walking.{stopOf, foundIn, stepIn}
 use Rattle.laws.specs.Levels.{part, frameNext}
+use Rattle.claims.specs.Demand1.{asked as asks}
 use Rattle.walk_claims.specs.Words.{unitsIn, tailOf}
 use Rattle.walk_claims.specs.Steps.{asked, step-by, in-by}
-use Rattle.ordinary.specs.Words.{masked, OrdinaryAt, asFive, verdictFive, framedFive, refusalFive, toBinaryFive, textFoundFive}
+use Rattle.ordinary.specs.Words.{masked, maskedText, OrdinaryAt, asFive, verdictFive, framedFive, refusalFive, toBinaryFive, textFoundFive}
 use Rattle.ordinary.specs.Words.{textReadFive, textWrittenFive, binaryWrittenFive, foundFive, steppedFive, Exactly, Each}
 use Rattle.ordinary.specs.Marks.{number-ordinary}
 use Rattle.ordinary.specs.Reports.{framed-masked, judged-masked}
@@ -224,29 +225,39 @@ read s at room p =
 -- ---- writing
 
 module _ (code : Code) (tag : List ℕ) (tags : ℕ) (raw : List ℕ) (room : ℕ) where
+  -- the characters asked
+  abbrev chars : List ℕ
+  chars = W.charsOf (W.named code) tag raw
+
+  abbrev many : ℕ
+  many = W.charsFor (W.named code) tags (length raw)
+
   abbrev WritingOn : W.Writing → Type 0
-  WritingOn (W.refused n p) = Numbered tag n p
+  WritingOn (W.refused n p) = Numbered chars n p
   WritingOn (W.written n) = Unit {0}
 
-  writing-on : (u : ℕ) → WritingOn (W.writing u (W.named code) tag tags (length raw) room)
+  writing-on : (u : ℕ) → WritingOn (W.writing u (W.named code) tag tags raw room)
   unfolding W.writing firstNumber asFive
   writing-on u =
-      pick-by WritingOn (W.isNamed (W.named code)) _ _
+      rw (asks (W.named code) tag tags raw)
+      (pick-by WritingOn (W.isNamed (W.named code)) _ _
       (λ _. pick-by WritingOn (W.isFit (W.named code) tags (length raw)) _ _
       (λ _. pick-by WritingOn (W.isShort (W.named code) (length raw)) _ _
-      (λ _. pick-by WritingOn (ltb (firstStranger (take tags tag)) tags) _ _
-      (λ b e. ap (λ (c : ℕ). strangerNumber (sextetOf c)) (getD-take tags tag (firstStranger (take tags tag)) 0 (ltb-true _ tags b)))
-      (λ _. pick-by WritingOn (ltb room (W.unitsOf (W.named code) (length raw) * u)) _ _ (λ _ e. absurd (omega arith)) (λ _. tt)))
+      (λ _. pick-by WritingOn (ltb (firstStranger (take many chars)) many) _ _
+      (λ b e. ap (λ (c : ℕ). strangerNumber (sextetOf c)) (getD-take many chars (firstStranger (take many chars)) 0 (ltb-true _ many b)))
+      (λ _. pick-by WritingOn (W.beginsRight (W.named code) raw) _ _
+      (λ _. pick-by WritingOn (ltb room (W.unitsOf (W.named code) (length raw) * u)) _ _ (λ _ e. absurd (omega arith)) (λ _. tt))
+      (λ _ e. absurd (omega arith))))
       (λ _ e. absurd (omega arith)))
       (λ _ e. absurd (omega arith)))
-      (λ _ e. absurd (omega arith))
+      (λ _ e. absurd (omega arith)))
 
-  text-numbered : (w : W.Writing) → WritingOn w → (n p : ℕ) → W.textOutcome w ≡ TW.Refused n p → Numbered tag n p
+  text-numbered : (w : W.Writing) → WritingOn w → (n p : ℕ) → W.textOutcome w ≡ TW.Refused n p → Numbered chars n p
   unfolding W.textOutcome
   text-numbered (W.refused m q) o n p e = let a : m ≡ n = cc in let b : q ≡ p = cc in rw (← a, ← b) o
   text-numbered (W.written m) o n p e = let z : _≡_ {A = ℕ} 0 1 = cc in absurd (omega arith)
 
-  binary-numbered : (w : W.Writing) → WritingOn w → (n p : ℕ) → W.binaryOutcome w ≡ BW.Refused n p → Numbered tag n p
+  binary-numbered : (w : W.Writing) → WritingOn w → (n p : ℕ) → W.binaryOutcome w ≡ BW.Refused n p → Numbered chars n p
   unfolding W.binaryOutcome
   binary-numbered (W.refused m q) o n p e = let a : m ≡ n = cc in let b : q ≡ p = cc in rw (← a, ← b) o
   binary-numbered (W.written m) o n p e = let z : _≡_ {A = ℕ} 0 1 = cc in absurd (omega arith)
@@ -262,20 +273,20 @@ module _ (code : Code) (tag : List ℕ) (tags : ℕ) (raw : List ℕ) (room : �
   binary-seen (BW.Written n) = inr (λ m q e. let z : _≡_ {A = ℕ} 0 1 = cc in omega arith)
 
   pub written-text : (p : ℕ) → Exactly (W.writeText code tag tags raw room ≡ TW.Refused 19 p)
-      ((W.writeText code (masked tag) tags raw room ≡ TW.Refused 5 p) × OrdinaryAt tag p)
+      ((W.writeText code (masked tag) tags (maskedText (W.named code) raw) room ≡ TW.Refused 5 p) × OrdinaryAt chars p)
   unfolding W.writeText textWrittenFive
   written-text p =
-      exactly TW.Refused textWrittenFive (λ q. q) (λ n q. refl) (λ m n q r e. (cc, cc)) tag (W.writeText code tag tags raw room)
-      (W.writeText code (masked tag) tags raw room) (writes-text code tag tags raw room) (text-seen (W.writeText code tag tags raw room))
-      (text-numbered (W.writing 4 (W.named code) tag tags (length raw) room) (writing-on 4)) p
+      exactly TW.Refused textWrittenFive (λ q. q) (λ n q. refl) (λ m n q r e. (cc, cc)) chars (W.writeText code tag tags raw room)
+      (W.writeText code (masked tag) tags (maskedText (W.named code) raw) room) (writes-text code tag tags raw room) (text-seen (W.writeText code tag tags raw room))
+      (text-numbered (W.writing 4 (W.named code) tag tags raw room) (writing-on 4)) p
 
   pub written-binary : (p : ℕ) → Exactly (W.writeBinary code tag tags raw room ≡ BW.Refused 19 p)
-      ((W.writeBinary code (masked tag) tags raw room ≡ BW.Refused 5 p) × OrdinaryAt tag p)
+      ((W.writeBinary code (masked tag) tags (maskedText (W.named code) raw) room ≡ BW.Refused 5 p) × OrdinaryAt chars p)
   unfolding W.writeBinary binaryWrittenFive
   written-binary p =
-      exactly BW.Refused binaryWrittenFive (λ q. q) (λ n q. refl) (λ m n q r e. (cc, cc)) tag (W.writeBinary code tag tags raw room)
-      (W.writeBinary code (masked tag) tags raw room) (writes-binary code tag tags raw room) (binary-seen (W.writeBinary code tag tags raw room))
-      (binary-numbered (W.writing 3 (W.named code) tag tags (length raw) room) (writing-on 3)) p
+      exactly BW.Refused binaryWrittenFive (λ q. q) (λ n q. refl) (λ m n q r e. (cc, cc)) chars (W.writeBinary code tag tags raw room)
+      (W.writeBinary code (masked tag) tags (maskedText (W.named code) raw) room) (writes-binary code tag tags raw room) (binary-seen (W.writeBinary code tag tags raw room))
+      (binary-numbered (W.writing 3 (W.named code) tag tags raw room) (writing-on 3)) p
 
 -- ---- a step of the walk
 

@@ -90,7 +90,8 @@ kind-five (Variable t l m) h s go low g =
     then-five _ _ _ _ (behind-five h s)
     (λ a. rw (whole h s low a)
     (then-five _ _ _ _ (unless-five 18 _ (λ e. omega arith))
-    (λ _. then-five _ _ _ _ (unless-five 9 _ (λ e. omega arith)) (λ _. unless-five 8 _ (λ e. omega arith)))))
+    (λ _. then-five _ _ _ _ (unless-five 9 _ (λ e. omega arith))
+    (λ _. then-five _ _ _ _ (unless-five 8 _ (λ e. omega arith)) (λ _. unless-five 16 _ (λ e. omega arith))))))
 kind-five (Group l) h s go low g = rw (← map-drop plain (4 * h) s) (g l h (drop (4 * h) s))
 kind-five Genus h s go low g = refl
 

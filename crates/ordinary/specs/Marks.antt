@@ -39,6 +39,15 @@ plain-test v = go (eqb v ordinary) refl
     go true e = rw (eqb-true v ordinary e)
     go false e = refl
 
+-- and `A` or not
+pub plain-zero : (v : ℕ) → eqb (plain v) 0 ≡ eqb v 0
+unfolding plain
+plain-zero v = go (eqb v ordinary) refl
+  where
+    go : (b : Bool) → eqb v ordinary ≡ b → eqb (pick b stranger v) 0 ≡ eqb v 0
+    go true e = rw (eqb-true v ordinary e)
+    go false e = refl
+
 pub plain-value : (v : ℕ) → v < 64 → plain v ≡ v
 unfolding plain
 plain-value v l = rw (ne-eqb v ordinary (λ e. omega arith))

@@ -213,7 +213,8 @@ kind-on (Fixed c) h s go g =
 kind-on (Variable t l m) h s go g =
     then-on own s _ _ (behind-on h s)
     (then-on own s _ _ (unless-on own s 18 _ (λ e. omega arith))
-    (then-on own s _ _ (unless-on own s 9 _ (λ e. omega arith)) (unless-on own s 8 _ (λ e. omega arith))))
+    (then-on own s _ _ (unless-on own s 9 _ (λ e. omega arith))
+    (then-on own s _ _ (unless-on own s 8 _ (λ e. omega arith)) (unless-on own s 16 _ (λ e. omega arith)))))
 kind-on (Group l) h s go g = g l h s
 kind-on Genus h s go g = tt
 

@@ -24,6 +24,8 @@ use Rattle.format.specs.Alphabet.{isOrdinary}
 use Rattle.format.specs.Units.{text}
 use Rattle.format.specs.Report.{ItemRow, RefusalRow, RemainderRow, rowsIn, refusalsIn, remainderIn}
 use Rattle.format.specs.Report.{rowBytes, refusalBytes, remainderBytes, section}
+use Rattle.format.specs.Writing.{Named}
+use Rattle.format.specs.Writing.Named.{unknown, row, variable, textual}
 use Rattle.walk_state.specs.declared.Found.{Found}
 use Rattle.walk_state.specs.declared.Found.the-variants as F
 use Rattle.walk_state.specs.declared.Stepped.{Stepped}
@@ -35,6 +37,13 @@ mask c = pick (isOrdinary c) 33 c
 
 abbrev pub masked : List ℕ → List ℕ
 masked s = map mask s
+
+-- what is given to a writer as a value: of type `A` its characters, masked; every other code's is bytes
+abbrev pub maskedText : Named → List ℕ → List ℕ
+maskedText unknown raw = raw
+maskedText (row c) raw = raw
+maskedText (variable t h) raw = raw
+maskedText (textual h) chars = masked chars
 
 -- one of the three stands at a place
 abbrev pub OrdinaryAt : List ℕ → ℕ → Type 0

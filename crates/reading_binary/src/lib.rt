@@ -1,19 +1,21 @@
-// Reading a single primitive at an offset of a binary: 1, 4 at or past the end, framing, 14, judging. The raw value is told by its
-// place, and the part where it lies is handed back.
+// Reading a single primitive at an offset of a binary: 1, 4 at or past the end, framing, 14, judging, and 3 where there is no room for a
+// text, which is copied out. Any other value is told by its place, and the part where it lies is handed back.
 use format::BinaryFound;
 use format::BinaryOffset;
 use format::BinaryRead;
 use format::Framed;
 use format::Kind;
+use format::TextOffset;
 ghost use mathlib.Core.Path.{_≡_};
-ghost use Prim.Native.Nat.{_+_, _≤_};
-ghost use lib.ListN.{length};
+ghost use Prim.Native.Nat.{_+_, _-_, _*_, _≤_};
+ghost use lib.ListN.{length, take, drop};
 ghost use Rattle.format.specs.declared.Framed.the-variants.{Item};
 ghost use Rattle.format.specs.Units.{binarySextets};
-ghost use Rattle.format.specs.Reading.{reading, binaryAnswer, readBinary, partAt};
+ghost use Rattle.format.specs.Reading.{reading, binaryAnswer, readBinary, charsLeft, partAt};
 ghost use Rattle.format.specs.Reading.Reading.{found};
 ghost use Rattle.reading_part.specs.Outcome.{outcome};
-ghost use Rattle.reading_binary.specs.Part.{noBinary, partStart};
+ghost use Rattle.reading_chars.specs.Chars.{charsInto};
+ghost use Rattle.reading_binary.specs.Part.{noBinary, anyText, partStart};
 
 fn no_binary(number: u8, place: usize) -> BinaryRead
     ensures { λ r. ⌜ r ≡ noBinary number place ⌝ }
@@ -27,11 +29,13 @@ fn no_binary(number: u8, place: usize) -> BinaryRead
 // The item that a part begins with.
 fn binary_found(part: &[u8], kind: Kind, head: usize, size: usize) -> BinaryRead
     requires { ⌜ (outcome (reading (binarySextets (now part))) ≡ Item kind head size) × (length (now part) ≤ 3145728) ⌝ }
-    ensures { λ r. ⌜ r ≡ binaryAnswer 0 (found kind head size) (binarySextets (now (part .entry))) ⌝ }
+    ensures { λ r. ⌜ r ≡ binaryAnswer 0 (found kind head size) (binarySextets (now (part .entry))) anyText ⌝ }
 {
-    let p = reading_item::primitive_of(kind, head, size);
     let cs = framing_head::binary_head(part);
     let own = framing_head::within(cs, size);
+    let start = reading_item::text_start(kind, head, size, own);
+    let text = reading_item::text_size(size, start);
+    let p = reading_item::primitive_of(kind, head, size, text);
     let tag = reading_item::tag_of(kind, own);
     BinaryRead {
         found: BinaryFound::Found(p),
@@ -39,9 +43,9 @@ fn binary_found(part: &[u8], kind: Kind, head: usize, size: usize) -> BinaryRead
     }
 }
 
-// A primitive of a binary at an offset. Its raw value is not copied: it lies where `start` and `raw` say.
-pub fn read_binary(s: &[u8], at: BinaryOffset) -> BinaryRead
-    ensures { λ r. ⌜ r ≡ readBinary (now (s .entry)) (at .0) ⌝ }
+// A primitive of a binary at an offset, its room not asked.
+fn found_at(s: &[u8], at: BinaryOffset) -> BinaryRead
+    ensures { λ r. ⌜ r ≡ readBinary (now (s .entry)) (at .0) anyText ⌝ }
 {
     if 3145728 < s.len() {
         return no_binary(1, 0);
@@ -57,14 +61,44 @@ pub fn read_binary(s: &[u8], at: BinaryOffset) -> BinaryRead
     }
 }
 
-// The part of the binary where the raw value of the primitive at an offset lies: at the item's end. An empty part, at the stream's
-// start, where reading refuses.
+// The text of an item of so many units from a byte on: its last characters.
+fn copy_text(s: &[u8], from: usize, size: usize, text: usize, out: &mut [u8])
+    requires { ⌜ (from + 3 * size ≤ length (now s)) × (length (now s) ≤ 3145728) × (text ≤ 4 * size) × (text ≤ length (now out)) ⌝ }
+    ensures { λ _. ⌜ now (out .exit) ≡ charsInto (take (3 * size) (drop from (now (s .entry)))) (4 * size - text) (now (out .entry)) ⌝ }
+{
+    let end = from + 3 * size;
+    let start = 4 * size - text;
+    reading_chars::copy_chars(&s[from..end], TextOffset(start), out);
+}
+
+// A primitive of a binary at an offset. A text is copied to the buffer's start; any other raw value is not: it lies where `start` and
+// `raw` say. A refused call writes nothing.
+pub fn read_binary(s: &[u8], at: BinaryOffset, out: &mut [u8]) -> BinaryRead
+    ensures { λ r. ⌜ r ≡ readBinary (now (s .entry)) (at .0) (length (now (out .entry))) ⌝ }
+    ensures { λ r. ⌜ now (out .exit) ≡ charsLeft (r .found) (now (s .entry)) (at .0) (now (out .entry)) ⌝ }
+{
+    let read = found_at(s, at);
+    let found = read.found;
+    match found {
+        BinaryFound::Refused(_, _) => read,
+        BinaryFound::Found(p) => {
+            if out.len() < p.text {
+                return no_binary(3, 0);
+            }
+            copy_text(s, at.0, p.size, p.text, out);
+            read
+        }
+    }
+}
+
+// The part of the binary where the raw value of the primitive at an offset lies: at the item's end, and empty there for a text. An empty
+// part, at the stream's start, where reading refuses.
 pub fn raw_binary(s: &[u8], at: BinaryOffset) -> &[u8]
-    ensures { λ r. ⌜ now r ≡ partAt (now (s .entry)) (at .0) (readBinary (now (s .entry)) (at .0) .found) ⌝ }
-    ensures { λ r. ⌜ r .ptr ≡ (s .entry .ptr .0, partStart (at .0) (readBinary (now (s .entry)) (at .0) .found) + s .entry .ptr .1) ⌝ }
+    ensures { λ r. ⌜ now r ≡ partAt (now (s .entry)) (at .0) (readBinary (now (s .entry)) (at .0) anyText .found) ⌝ }
+    ensures { λ r. ⌜ r .ptr ≡ (s .entry .ptr .0, partStart (at .0) (readBinary (now (s .entry)) (at .0) anyText .found) + s .entry .ptr .1) ⌝ }
 {
     let from = at.0;
-    let read = read_binary(s, at);
+    let read = found_at(s, at);
     let found = read.found;
     match found {
         BinaryFound::Refused(_, _) => &s[..0],

@@ -1,5 +1,6 @@
-// A framed primitive in a caller's words: its code, where its raw value starts, and its tag characters. No stream is looked at. What is
-// said holds of what framing gives: two header units and 1,048,576 units at most, and a row whose tag characters end with the item.
+// A framed primitive in a caller's words: its code, where its raw value starts, where its text, and its tag characters. No stream is looked
+// at. What is said holds of what framing gives: two header units and 1,048,576 units at most, a variable value that ends with the item, and
+// a row whose tag characters do.
 use format::BinaryOffset;
 use format::Code;
 use format::CodeRow;
@@ -7,10 +8,12 @@ use format::Kind;
 use format::Primitive;
 use format::TextOffset;
 ghost use mathlib.Core.Path.{_≡_};
-ghost use Prim.Native.Nat.{_+_, _-_, _<_, _≤_, min};
+ghost use Prim.Native.Nat.{_+_, _-_, _*_, _<_, _≤_, min};
 ghost use Rattle.format.specs.declared.Kind.the-variants as Kind;
 ghost use Rattle.format.specs.Values.{rawStart, tagOf};
 ghost use Rattle.format.specs.Reading.{codeOf, isPrimitive, tagsOf, primitiveOf, padded};
+ghost use Rattle.laws.specs.Framing.{Shaped};
+ghost use Rattle.reading_item.specs.Texts.{fillBy, textStart};
 ghost use Rattle.reading_item.specs.Tags.{tagFrom, Taggable};
 
 fn wide(x: u8) -> usize
@@ -103,17 +106,23 @@ pub fn fixed_start(c: CodeRow) -> BinaryOffset
     }
 }
 
-fn raw_start(kind: Kind, h: usize) -> BinaryOffset
-    requires { ⌜ h ≤ 2 ⌝ }
-    ensures { λ r. ⌜ (r .0 ≡ rawStart kind h) × (r .0 < 1000) ⌝ }
+// Of a text it is the item's end, behind n units.
+fn raw_start(kind: Kind, h: usize, n: usize) -> BinaryOffset
+    requires { ⌜ (h ≤ 2) × (n ≤ 1048576) ⌝ }
+    ensures { λ r. ⌜ (Shaped kind h n → r .0 ≡ rawStart kind h) ⌝ }
 {
     match kind {
         Kind::Fixed(c) => fixed_start(c),
         Kind::Variable {
-            letter: _,
+            letter,
             lead,
             count: _,
-        } => BinaryOffset(3 * h + wide(lead)),
+        } => {
+            if letter == 0 {
+                return BinaryOffset(3 * n);
+            }
+            BinaryOffset(3 * h + wide(lead))
+        }
         Kind::Group { letter: _ } => BinaryOffset(3 * h),
         Kind::Genus => BinaryOffset(3 * h),
     }
@@ -131,12 +140,14 @@ fn at_most(x: usize, most: usize) -> usize
     if x < most { x } else { most }
 }
 
-// A primitive of n units with h header units; no more of either are counted than framing gives.
-pub fn primitive_of(kind: Kind, h: usize, n: usize) -> Primitive
-    ensures { λ r. ⌜ (h ≤ 2 → n ≤ 1048576 → r ≡ primitiveOf kind h n) ⌝ }
+// A primitive of n units with h header units, and a text of so many characters; no more units are counted than framing gives.
+pub fn primitive_of(kind: Kind, h: usize, n: usize, text: usize) -> Primitive
+    ensures { λ r. ⌜ (h ≤ 2 → n ≤ 1048576 → Shaped kind h n → r ≡ primitiveOf kind h n text) ⌝ }
 {
-    let start = raw_start(kind, at_most(h, 2));
-    let raw = left(3 * at_most(n, 1048576), start.0);
+    let few = at_most(h, 2);
+    let units = at_most(n, 1048576);
+    let start = raw_start(kind, few, units);
+    let raw = left(3 * units, start.0);
     let code = code_of(kind, h);
     let tags = tags_of(kind);
     Primitive {
@@ -144,8 +155,51 @@ pub fn primitive_of(kind: Kind, h: usize, n: usize) -> Primitive
         size: n,
         start,
         raw,
+        text,
         tags,
     }
+}
+
+// ---- its text
+
+// How many `A` stand in front of it: "take off one `A` if there is one", two or three.
+fn fill_of(lead: u8, first: u8) -> usize
+    ensures { λ r. ⌜ (r ≡ fillBy lead first) × (r ≤ 256) ⌝ }
+{
+    if lead == 0 {
+        return if first == 0 { 1 } else { 0 };
+    }
+    wide(lead) + 1
+}
+
+// Where the text starts, in characters of the item's text form: behind n units, at the item's end, where there is none.
+pub fn text_start(kind: Kind, h: usize, n: usize, cs: [u8; 12]) -> TextOffset
+    ensures { λ r. ⌜ (h ≤ 2 → n ≤ 1048576 → r .0 ≡ textStart kind h n cs) ⌝ }
+{
+    let end = 4 * at_most(n, 1048576);
+    match kind {
+        Kind::Fixed(_) => TextOffset(end),
+        Kind::Variable {
+            letter,
+            lead,
+            count: _,
+        } => {
+            if letter == 0 {
+                let i = 4 * at_most(h, 2);
+                return TextOffset(i + fill_of(lead, cs[i]));
+            }
+            TextOffset(end)
+        }
+        Kind::Group { letter: _ } => TextOffset(end),
+        Kind::Genus => TextOffset(end),
+    }
+}
+
+// Its characters: what is behind its start.
+pub fn text_size(n: usize, start: TextOffset) -> usize
+    ensures { λ r. ⌜ (n ≤ 1048576 → r ≡ 4 * n - start .0) ⌝ }
+{
+    left(4 * at_most(n, 1048576), start.0)
 }
 
 // ---- its tag characters

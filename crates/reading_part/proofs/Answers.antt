@@ -3,7 +3,7 @@ use mathlib.Core.Path.{_≡_, refl, sym, ap, _∙_, subst}
 use mathlib.Core.Bool.{Bool, true, false}
 use mathlib.Core.List.{List, map}
 use mathlib.Core.Logic.{⊎-elim}
-use Prim.Native.Nat.{ℕ, _+_, _*_, _/_, _<_, _≤_}
+use Prim.Native.Nat.{ℕ, _+_, _-_, _*_, _/_, _<_, _≤_}
 use native.Mathlib.Omega.{arith}
 use lib.Dec.{eqb}
 use lib.ListN.{length, take, drop, length-drop}
@@ -22,7 +22,7 @@ use Rattle.format.specs.Alphabet.{charOf}
 use Rattle.format.specs.Registry.{opening, prepadOf}
 use Rattle.format.specs.Framing.{frameWith, frame, sextet}
 use Rattle.format.specs.Judging.{andThen, unless, isShortest, behind, hasLead, judgeKind, ownCheck}
-use Rattle.format.specs.Values.{rawStart, tagOf}
+use Rattle.format.specs.Values.{rawStart, textIn, tagOf}
 use Rattle.format.specs.Reading.{Reading, isPrimitive, primitiveOf, judged, readFramed, reading, padded}
 use Rattle.format.specs.Reading.Reading.{refused, found}
 use Rattle.laws.specs.Framing.{Lawful, Good, Shaped, frame-good}
@@ -31,7 +31,9 @@ use Rattle.framing_head.specs.Heads.{headOf}
 use Rattle.framing_head.proofs.Laws.{head-at, head-length}
 use Rattle.framing_head.proofs.Laws.{within-head}
 use Rattle.reading_item.specs.Tags.{Taggable}
+use Rattle.reading_item.specs.Texts.{textStart}
 use Rattle.reading_part.specs.Outcome.{outcome}
+use Rattle.reading_part.proofs.Texts.{text-length, text-last}
 
 -- ---- what reading found
 
@@ -148,6 +150,7 @@ tag-own s cs own k h n a e p =
 pub record Inside (s : List ℕ) (k : Kind) (h n : ℕ) : Type 0 where
   pub few : h ≤ 2
   pub room : n ≤ length s / 4
+  pub shape : Shaped k h n
   pub tags : Taggable k
   pub start : rawStart k h ≤ 3 * n
 
@@ -155,11 +158,36 @@ pub inside : (s : List ℕ) (k : Kind) (h n : ℕ) → outcome (reading s) ≡ I
 inside s k h n e =
     let a = accepts s k h n (is-found (reading s) k h n e) in
     let g = accepts-lawful s k h n a in
-    record { few = g .few; room = g .room; tags = taggable s k h n a; start = starts-inside s k h n a }
+    record { few = g .few; room = g .room; shape = g .shape; tags = taggable s k h n a; start = starts-inside s k h n a }
 
 module _ (s : List ℕ) (k : Kind) (h n : ℕ) (e : outcome (reading s) ≡ Item k h n) where
-  pub told-primitive : length s / 4 ≤ 1048576 → (p : Primitive) → (h ≤ 2 → n ≤ 1048576 → p ≡ primitiveOf k h n) → p ≡ primitiveOf k h n
-  told-primitive l p f = let i = inside s k h n e in f (i .few) (omega (arith, i .room))
+  -- its own sextets
+  pub item-long : length (take (4 * n) s) ≡ 4 * n
+  item-long = let i = inside s k h n e in length-take-le (4 * n) s (omega (arith, i .room))
+
+  -- where its text starts, as the code finds it, how long it is, and what it is
+  pub told-start : (cs own : List ℕ) (start : ℕ) → length s / 4 ≤ 1048576 → cs ≡ headOf s → own ≡ headOf (take (4 * n) cs)
+      → (h ≤ 2 → n ≤ 1048576 → start ≡ textStart k h n own) → start ≡ textStart k h n (headOf (take (4 * n) s))
+  told-start cs own start l a b f =
+      let i = inside s k h n e in
+      f (i .few) (omega (arith, i .room)) ∙ rw (b, a, within-head s n)
+
+  pub told-text : textIn k h (take (4 * n) s) ≡ map charOf (drop (4 * n - length (textIn k h (take (4 * n) s))) (take (4 * n) s))
+  told-text = text-last k h n (take (4 * n) s) (inside s k h n e .few) item-long
+
+  pub told-size : (start text : ℕ) → length s / 4 ≤ 1048576 → start ≡ textStart k h n (headOf (take (4 * n) s))
+      → (n ≤ 1048576 → text ≡ 4 * n - start) → text ≡ length (textIn k h (take (4 * n) s))
+  told-size start text l q f =
+      let i = inside s k h n e in
+      f (omega (arith, i .room)) ∙ rw q (sym (text-length k h n (take (4 * n) s) (i .few) item-long))
+
+  -- it has no more characters than the item
+  pub text-few : length (textIn k h (take (4 * n) s)) ≤ 4 * n
+  text-few = omega (arith, text-length k h n (take (4 * n) s) (inside s k h n e .few) item-long)
+
+  pub told-primitive : length s / 4 ≤ 1048576 → (text : ℕ) (p : Primitive) → (h ≤ 2 → n ≤ 1048576 → Shaped k h n → p ≡ primitiveOf k h n text)
+      → p ≡ primitiveOf k h n text
+  told-primitive l text p f = let i = inside s k h n e in f (i .few) (omega (arith, i .room)) (i .shape)
 
   pub told-tag : (cs own t : List ℕ) → cs ≡ headOf s → own ≡ headOf (take (4 * n) cs) → (Taggable k → t ≡ padded (tagOf k own))
       → t ≡ padded (tagOf k (take (4 * n) s))

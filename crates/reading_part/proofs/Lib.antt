@@ -1,3 +1,4 @@
 pub mod Laws
 pub mod Bounds
+pub mod Texts
 pub mod Answers

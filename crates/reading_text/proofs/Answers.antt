@@ -1,33 +1,41 @@
 -- The answers of reading from a text, case by case, and what the buffer then holds. Assumes nothing.
-use mathlib.Core.Path.{_≡_, refl, sym, _∙_}
-use mathlib.Core.List.{List}
+use mathlib.Core.Path.{_≡_, refl, ap, sym, _∙_}
+use mathlib.Core.List.{List, [], map, _++_, append-assoc, append-nil}
 use Prim.Native.Nat.{ℕ, _+_, _-_, _*_, _/_, _%_, _<_, _≤_}
 use native.Mathlib.Omega.{arith}
-use lib.ListN.{length, take, drop, length-drop, length-map, drop-of-length-le}
-use lib.Seq.{length-take-le}
+use lib.ListN.{length, take, drop, length-append, length-drop, length-map, drop-of-length-le}
+use lib.Seq.{take-at, drop-at, drop-drop, take-all, length-take-le}
 use borrow.Author.Tests.{lt-ltb, le-ltb}
-use Rattle.base.specs.Lists.{map-take}
+use Rattle.base.specs.Lists.{map-take, map-drop}
+use Rattle.base.specs.Digits.{Below, below-drop}
+use Rattle.base.specs.Each.{length-each}
 use Rattle.format.specs.declared.Kind.{Kind}
 use Rattle.format.specs.declared.Framed.the-variants.{Item, Unframed}
 use Rattle.format.specs.declared.Primitive.{Primitive}
 use Rattle.format.specs.declared.TextFound.{TextFound}
 use Rattle.format.specs.declared.TextFound.the-variants as T
 use Rattle.format.specs.declared.TextRead.{TextRead}
-use Rattle.format.specs.Alphabet.{sextetOf}
-use Rattle.format.specs.Units.{textSextets}
+use Rattle.format.specs.Alphabet.{sextetOf, charOf}
+use Rattle.format.specs.Units.{bytesOf, textSextets}
+use Rattle.format.specs.Conversion.{toBinary}
 use Rattle.format.specs.Framing.{frameWith, frame}
-use Rattle.format.specs.Values.{rawStart, tagOf}
-use Rattle.format.specs.Reading.{primitiveOf, readFramed, reading, from, placeFrom, padded, textAnswer, readText, textRaw, rawLeft}
+use Rattle.format.specs.Values.{bytesIn, rawStart, rawOf, textIn, valueOf, tagOf}
+use Rattle.format.specs.Reading.{primitiveOf, readFramed, reading, from, placeFrom, padded, valueAt, textAt, textAnswer, readText, valueLeft}
 use Rattle.format.specs.Reading.Reading.{found}
+use Rattle.laws.specs.Framing.{Shaped}
+use Rattle.laws.specs.Units.{bytes-size, chars-back}
+use Rattle.laws.specs.Conversion.{length-to-binary}
+use Rattle.judging.proofs.Laws.{to-end}
 use Rattle.laws.specs.Values.{text-raw}
 use Rattle.framing_head.specs.Heads.{headOf}
 use Rattle.framing.proofs.Laws.{text-units}
 use Rattle.reading_item.specs.Tags.{Taggable}
+use Rattle.reading_item.specs.Texts.{textStart}
 use Rattle.reading_raw.specs.Raw.{Fit, rawInto}
 use Rattle.reading_part.specs.Outcome.{outcome}
-use Rattle.reading_text.specs.Refusal.{noText}
+use Rattle.reading_text.specs.Told.{noText, valueInto, Tells}
 use Rattle.reading_part.proofs.Bounds.{item-known, place-near}
-use Rattle.reading_part.proofs.Answers.{is-refused, is-found, accepts, inside, told-primitive, told-tag}
+use Rattle.reading_part.proofs.Answers.{is-refused, is-found, accepts, inside, item-long, text-few, told-start, told-text, told-size, told-primitive, told-tag}
 
 module _ (s : List ℕ) (at room : ℕ) where
   pub text-long : 4194304 < length s → noText 1 0 ≡ readText s at room
@@ -53,8 +61,8 @@ module _ (s : List ℕ) (at room : ℕ) where
     text-found k h n e r q = rw (le-ltb 4194304 (length s) l, is-found (reading (textSextets (drop at s))) k h n e) q
 
 -- what the buffer holds, by the part
-pub left-from : (f : TextFound) (s : List ℕ) (at : ℕ) (d : List ℕ) → rawLeft f (drop at s) 0 d ≡ rawLeft f s at d
-unfolding rawLeft from
+pub left-from : (f : TextFound) (s : List ℕ) (at : ℕ) (d : List ℕ) → valueLeft f (drop at s) 0 d ≡ valueLeft f s at d
+unfolding valueLeft from
 left-from (T.Found p) s at d = refl
 left-from (T.Refused m p) s at d = refl
 
@@ -64,6 +72,21 @@ unfolding textSextets
 text-place s at m p e =
     let n = place-near (textSextets (drop at s)) m p (is-refused _ m p e) in
     omega (arith, length-map (drop at s) sextetOf, length-drop at s)
+
+bytes-length : (s : List ℕ) → length (bytesIn s) ≡ 3 * (length s / 4)
+unfolding bytesIn
+bytes-length s = length-each 4 3 bytesOf bytes-size (length s / 4) s
+
+-- characters that are known are those of their sextets
+last-chars : (t : List ℕ) (i m : ℕ) → Below 64 (textSextets (take m t)) → map charOf (drop i (take m (textSextets t))) ≡ drop i (take m t)
+unfolding textSextets
+last-chars t i m known =
+    rw (← map-take sextetOf m t, ← map-drop sextetOf i (take m t))
+    (chars-back (drop i (take m t)) (rw (map-drop sextetOf i (take m t)) (below-drop 64 i (map sextetOf (take m t)) known)))
+
+own-sextets : (t : List ℕ) (m : ℕ) → textSextets (take m t) ≡ take m (textSextets t)
+unfolding textSextets
+own-sextets t m = map-take sextetOf m t
 
 -- ---- the item that a part begins with
 
@@ -85,29 +108,80 @@ module _ (t : List ℕ) (k : Kind) (h n : ℕ) (e : outcome (reading (textSextet
         short = omega (arith, item-size);
       }
 
-  module _ (p : Primitive) (f : h ≤ 2 → n ≤ 1048576 → p ≡ primitiveOf k h n) (d : List ℕ) where
-    is : p ≡ primitiveOf k h n
-    is = told-primitive (textSextets t) k h n e (omega (arith, text-units t)) p f
+  -- its text is its own last characters
+  chars-are : textIn k h (take (4 * n) (textSextets t)) ≡ drop (4 * n - length (textIn k h (take (4 * n) (textSextets t)))) (take (4 * n) t)
+  chars-are = told-text (textSextets t) k h n e ∙ last-chars t (4 * n - length (textIn k h (take (4 * n) (textSextets t)))) (4 * n) (item-fit .known)
 
-    pub no-room : length d < p .raw → noText 3 0 ≡ textAnswer 0 (found k h n) (textSextets t) (length d)
-    unfolding textAnswer primitiveOf
-    no-room r = rw (lt-ltb (length d) (3 * n - rawStart k h) (rw is at r))
+  units : length (textSextets t) / 4 ≤ 1048576
+  units = omega (arith, text-units t)
 
-    module _ (r : p .raw ≤ length d) where
-      pub text-item : (cs own g : List ℕ) → cs ≡ headOf (textSextets t) → own ≡ headOf (take (4 * n) cs) → (Taggable k → g ≡ padded (tagOf k own))
-          → record { found = T.Found p; tag = g } ≡ textAnswer 0 (found k h n) (textSextets t) (length d)
-      unfolding textAnswer primitiveOf
-      text-item cs own g a b w = rw (le-ltb (length d) (3 * n - rawStart k h) (rw is at r), is, told-tag (textSextets t) k h n e cs own g a b w)
+  -- what reading_item says holds, since the part is read
+  pub item-told : (cs own g : List ℕ) (start text : ℕ) (p : Primitive) → cs ≡ headOf (textSextets t) → own ≡ headOf (take (4 * n) cs)
+      → (h ≤ 2 → n ≤ 1048576 → start ≡ textStart k h n own) → (n ≤ 1048576 → text ≡ 4 * n - start)
+      → (h ≤ 2 → n ≤ 1048576 → Shaped k h n → p ≡ primitiveOf k h n text) → (Taggable k → g ≡ padded (tagOf k own)) → Tells t k h n p g
+  item-told cs own g start text p a b f w z v =
+      let s = textSextets t in
+      let q = told-start s k h n e cs own start units a b f in
+      let m = told-size s k h n e start text units q w in
+      record { item = told-primitive s k h n e units text p z ∙ ap (primitiveOf k h n) m; tags = told-tag s k h n e cs own g a b v }
 
-      -- what is copied out is the raw value
-      pub raw-copied : (d′ : List ℕ)
-          → (Fit (take (4 * n) t) → p .start .0 ≤ length (take (4 * n) t) / 4 * 3 → length (take (4 * n) t) / 4 * 3 - p .start .0 ≤ length d → d′ ≡ rawInto (take (4 * n) t) (p .start .0) d)
-          → d′ ≡ rawLeft (T.Found p) t 0 d
-      unfolding rawLeft from textRaw primitiveOf textSextets
-      raw-copied d′ w =
-          let i = inside (textSextets t) k h n e in
-          let z : length (take (4 * n) t) / 4 * 3 - rawStart k h ≡ 3 * n - rawStart k h = omega (arith, item-size) in
-          let m : take (4 * n) (textSextets t) ≡ textSextets (take (4 * n) t) = sym (map-take sextetOf (4 * n) t) in
-          let r′ = rw is at r in
-          w item-fit (rw is (omega (arith, i .start, item-size))) (rw is (omega (arith, item-size)))
-          ∙ rw (is, z, is-found (reading (textSextets t)) k h n e, m, text-raw k h (take (4 * n) t))
+  module _ (p : Primitive) (g : List ℕ) (w : Tells t k h n p g) where
+    -- its value is as long as the two say
+    value-size : length (valueAt (found k h n) (textSextets t)) ≡ p .raw + p .text
+    unfolding valueAt valueOf primitiveOf rawOf
+    value-size =
+        let s = take (4 * n) (textSextets t) in
+        let l = item-long (textSextets t) k h n e in
+        rw (w .item) (length-append (drop (rawStart k h) (bytesIn s)) (textIn k h s)
+        ∙ ap (λ (i : ℕ). i + length (textIn k h s)) (length-drop (rawStart k h) (bytesIn s) ∙ omega (arith, bytes-length s)))
+
+    pub value-lies : (p .start .0 ≤ length (take (4 * n) t) / 4 * 3) × (p .raw ≡ length (take (4 * n) t) / 4 * 3 - p .start .0)
+        × (p .text ≤ length (take (4 * n) t))
+    unfolding primitiveOf
+    value-lies =
+        let i = inside (textSextets t) k h n e in
+        let few = text-few (textSextets t) k h n e in
+        rw (w .item) (omega (arith, i .start, item-size), omega (arith, item-size), omega (arith, item-size))
+
+    pub sizes-fit : p .raw + p .text ≤ 8388608
+    sizes-fit = let r = item-room in let v = value-lies in omega (arith, v .1, v .2, item-size)
+
+    pub no-room : (d : List ℕ) → length d < p .raw + p .text → noText 3 0 ≡ textAnswer 0 (found k h n) (textSextets t) (length d)
+    unfolding textAnswer
+    no-room d r = rw (lt-ltb (length d) (length (valueAt (found k h n) (textSextets t))) (rw (← value-size) at r))
+
+    pub text-item : (d : List ℕ) → p .raw + p .text ≤ length d
+        → record { found = T.Found p; tag = g } ≡ textAnswer 0 (found k h n) (textSextets t) (length d)
+    unfolding textAnswer textAt
+    text-item d r = rw (le-ltb (length d) (length (valueAt (found k h n) (textSextets t))) (rw (← value-size) at r), w .item, w .tags)
+
+    -- what is copied out is the value
+    pub value-copied : (d d′ : List ℕ)
+        → (Fit (take (4 * n) t) → p .start .0 ≤ length (take (4 * n) t) / 4 * 3 → p .raw ≡ length (take (4 * n) t) / 4 * 3 - p .start .0
+        → d′ ≡ valueInto (take (4 * n) t) (p .start .0) (p .text) d)
+        → d′ ≡ valueLeft (T.Found p) t 0 d
+    unfolding valueLeft from valueAt valueOf primitiveOf
+    value-copied d d′ c =
+        let T = take (4 * n) t in
+        let z : 4 * n / 4 * 3 - rawStart k h ≡ 3 * n - rawStart k h = omega arith in
+        let raw : rawOf k h (take (4 * n) (textSextets t)) ≡ drop (rawStart k h) (toBinary T) = rw (own-sextets t (4 * n)) at (text-raw k h T) in
+        c item-fit (value-lies .0) (value-lies .1)
+        ∙ rw (w .item, is-found (reading (textSextets t)) k h n e, item-size, ← chars-are, z, raw, append-assoc)
+
+-- ---- the buffer: raw bytes, and a text behind them
+
+pub put-value : (t d : List ℕ) (start raw text : ℕ) → start ≤ length t / 4 * 3 → raw ≡ length t / 4 * 3 - start → text ≤ length t → raw + text ≤ length d
+    → (d₁ : List ℕ) → d₁ ≡ rawInto t start d → (src : List ℕ) → src ≡ take (length t - (length t - text)) (drop (length t - text) t)
+    → (d₂ : List ℕ) → d₂ ≡ take (length src) src ++ drop (length src) (take (length d₁ - raw) (drop raw d₁))
+    → take raw d₁ ++ (d₂ ++ drop (length d₁ - raw) (drop raw d₁)) ≡ valueInto t start text d
+put-value t d start raw text i r few room d₁ p src q d₂ c =
+    let bytes = drop start (toBinary t) in
+    let l : length bytes ≡ raw = length-drop start (toBinary t) ∙ omega (arith, length-to-binary t) in
+    let p′ : d₁ ≡ bytes ++ drop raw d = p ∙ rw (← r) in
+    let front : take raw d₁ ≡ bytes = rw p′ (take-at bytes (drop raw d) raw l) in
+    let rest : drop raw d₁ ≡ drop raw d = rw p′ (drop-at bytes (drop raw d) raw l) in
+    let none : drop (length d₁ - raw) (drop raw d₁) ≡ [] = drop-of-length-le (drop raw d₁) {i = length d₁ - raw} (omega (arith, length-drop raw d₁)) in
+    let s : src ≡ drop (length t - text) t = q ∙ to-end t (length t - text) in
+    let m : length src ≡ text = ap length s ∙ length-drop (length t - text) t ∙ omega arith in
+    let g : d₂ ≡ src ++ drop text (drop raw d) = c ∙ rw (to-end d₁ raw, rest, take-all (length src) src (omega arith), m) in
+    rw (front, none, append-nil, g, s, ← r, drop-drop text raw d)

@@ -1,19 +1,22 @@
 // Reading a single primitive at an offset of a text: 1, 4 at or past the end, framing, 14, judging, and 3 where there is no room for
-// its raw value, which is copied out.
+// its value, raw bytes or a text, which is copied out.
+use format::BinaryOffset;
 use format::Framed;
 use format::Kind;
+use format::Primitive;
 use format::TextFound;
 use format::TextOffset;
 use format::TextRead;
 ghost use mathlib.Core.Path.{_≡_};
-ghost use Prim.Native.Nat.{_≤_};
+ghost use Prim.Native.Nat.{_+_, _-_, _*_, _≤_, _/_};
 ghost use lib.ListN.{length};
 ghost use Rattle.format.specs.declared.Framed.the-variants.{Item};
 ghost use Rattle.format.specs.Units.{textSextets};
-ghost use Rattle.format.specs.Reading.{reading, textAnswer, readText, rawLeft};
+ghost use Rattle.format.specs.Reading.{reading, textAnswer, readText, valueLeft};
 ghost use Rattle.format.specs.Reading.Reading.{found};
 ghost use Rattle.reading_part.specs.Outcome.{outcome};
-ghost use Rattle.reading_text.specs.Refusal.{noText};
+ghost use Rattle.reading_raw.specs.Raw.{Fit};
+ghost use Rattle.reading_text.specs.Told.{noText, valueInto, Tells};
 
 fn no_text(number: u8, place: usize) -> TextRead
     ensures { λ r. ⌜ r ≡ noText number place ⌝ }
@@ -24,31 +27,59 @@ fn no_text(number: u8, place: usize) -> TextRead
     }
 }
 
-// The item that a part begins with, where there is room for its raw value: 3.
+// What is told of the item that a part begins with.
+struct Told {
+    item: Primitive,
+    tag: [u8; 11],
+}
+
+fn text_item(part: &[u8], kind: Kind, head: usize, size: usize) -> Told
+    requires { ⌜ (outcome (reading (textSextets (now part))) ≡ Item kind head size) × (length (now part) ≤ 4194304) ⌝ }
+    ensures { λ r. ⌜ Tells (now (part .entry)) kind head size (r .item) (r .tag) ⌝ }
+{
+    let cs = framing_head::text_head(part);
+    let own = framing_head::within(cs, size);
+    let start = reading_item::text_start(kind, head, size, own);
+    let text = reading_item::text_size(size, start);
+    let item = reading_item::primitive_of(kind, head, size, text);
+    let tag = reading_item::tag_of(kind, own);
+    Told { item, tag }
+}
+
+// The item's raw bytes from one of its binary form on, and behind them so many of its last characters: one of the two is empty.
+fn copy_value(item: &[u8], start: BinaryOffset, raw: usize, text: usize, out: &mut [u8])
+    requires { ⌜ (text ≤ length (now item)) × (raw + text ≤ length (now out)) ⌝ }
+    ensures { λ _. ⌜ (Fit (now (item .entry)) → start .0 ≤ length (now (item .entry)) / 4 * 3 → raw ≡ length (now (item .entry)) / 4 * 3 - start .0 → now (out .exit) ≡ valueInto (now (item .entry)) (start .0) text (now (out .entry))) ⌝ }
+{
+    reading_raw::copy_raw(item, start, out);
+    let from = item.len() - text;
+    bytes::copy(&item[from..], &mut out[raw..]);
+}
+
+// The item that a part begins with, where there is room for its value: 3.
 fn text_found(part: &[u8], kind: Kind, head: usize, size: usize, out: &mut [u8]) -> TextRead
     requires { ⌜ (outcome (reading (textSextets (now part))) ≡ Item kind head size) × (length (now part) ≤ 4194304) ⌝ }
     ensures { λ r. ⌜ r ≡ textAnswer 0 (found kind head size) (textSextets (now (part .entry))) (length (now (out .entry))) ⌝ }
-    ensures { λ r. ⌜ now (out .exit) ≡ rawLeft (r .found) (now (part .entry)) 0 (now (out .entry)) ⌝ }
+    ensures { λ r. ⌜ now (out .exit) ≡ valueLeft (r .found) (now (part .entry)) 0 (now (out .entry)) ⌝ }
 {
-    let p = reading_item::primitive_of(kind, head, size);
-    if out.len() < p.raw {
+    let read = text_item(part, kind, head, size);
+    let p = read.item;
+    if out.len() < p.raw + p.text {
         return no_text(3, 0);
     }
-    let cs = framing_head::text_head(part);
-    let own = framing_head::within(cs, size);
-    let tag = reading_item::tag_of(kind, own);
     let end = 4 * size;
-    reading_raw::copy_raw(&part[..end], p.start, out);
+    copy_value(&part[..end], p.start, p.raw, p.text, out);
+    let tag = read.tag;
     TextRead {
         found: TextFound::Found(p),
         tag,
     }
 }
 
-// A primitive of a text at an offset; its raw value is copied to the buffer's start. A refused call writes nothing.
+// A primitive of a text at an offset; its value is copied to the buffer's start. A refused call writes nothing.
 pub fn read_text(s: &[u8], at: TextOffset, out: &mut [u8]) -> TextRead
     ensures { λ r. ⌜ r ≡ readText (now (s .entry)) (at .0) (length (now (out .entry))) ⌝ }
-    ensures { λ r. ⌜ now (out .exit) ≡ rawLeft (r .found) (now (s .entry)) (at .0) (now (out .entry)) ⌝ }
+    ensures { λ r. ⌜ now (out .exit) ≡ valueLeft (r .found) (now (s .entry)) (at .0) (now (out .entry)) ⌝ }
 {
     if 4194304 < s.len() {
         return no_text(1, 0);

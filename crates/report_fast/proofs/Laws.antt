@@ -23,6 +23,8 @@ use Rattle.laws.specs.Domains.{reader}
 use Rattle.laws.specs.Levels.{part, any-item, item-sizes, level, Taken, taken-sizes}
 use Rattle.runs.specs.Plain.{plainTable, plainAt, groupAt, letterAt}
 use Rattle.runs.specs.Levels.{Clear, clear-less, plain-taken, group-taken}
+use Rattle.runs_value.specs.Values.{valuedAt}
+use Rattle.runs_value.specs.Taken.{valued-taken}
 use Rattle.report_next.specs.Next.{isEntered, isRuled}
 use Rattle.report_found.specs.Finds.{Inside, Fits, Finds}
 use Rattle.report_item.specs.Items.{Takes}
@@ -48,6 +50,9 @@ module _ (f : Form) (values classes rows s : List ℕ) (l at stop : ℕ) (I : In
 
   by-plain : (first : Bool) (k : ℕ) → plainAt plainTable own at ≡ k → k ≤ stop - at → Takes own l first at stop k
   by-plain first k e h p = plain-taken own l stop long first at k stop e p (omega arith) (R .clear) (omega arith)
+
+  by-units : (first : Bool) (k : ℕ) → valuedAt own at ≡ k → k ≤ stop - at → Takes own l first at stop k
+  by-units first k e h p = valued-taken own l stop long first at k stop e p (omega arith) (R .clear) (omega arith)
 
 pub ready-part : (f : Form) (values classes rows s : List ℕ) (at stop i to : ℕ) → Ready f values classes rows s at stop → at ≤ i → to ≤ stop
     → Ready f values classes rows s i to
@@ -170,6 +175,11 @@ module _ {f : Form} {values classes rows s : List ℕ} {l : ℕ} {first : Bool} 
         → Going f values classes rows s l first at stop false (i + n)
     going-taken n t p = going-more n (t .few) (pos-of-ne-zero p) (t .right)
 
+    -- whatever the level and the mark
+    pub going-valued : (n : ℕ) → ((m : ℕ) (b : Bool) → Take f values classes rows s m b i stop n) → 0 < n
+        → Going f values classes rows s l first at stop false (i + n)
+    going-valued n t p = let h = t l ruled in going-more n (h .few) p (h .right)
+
     pub going-less : (n : ℕ) → Take f values classes rows s l ruled i stop n → (n ≡ 0 → ⊥) → i < stop → stop - (i + n) < stop - i
     going-less n t p h = omega (arith, pos-of-ne-zero p, t .few)
 
@@ -238,6 +248,11 @@ module _ (f : Form) (values classes rows s : List ℕ) (l : ℕ) (first : Bool) 
           by-group f values classes rows s l at stop (inside W R) lt R first n g p h (pos-of-ne-zero q) m (z (R .lent) (rw g p))
           (c .right (ready-part f values classes rows s at stop (at + 1) (at + n) R (omega arith) (omega arith)) y);
     }
+
+    -- a small variable value
+    pub by-value : (k : ℕ) → k ≤ stop - at → (Lent values classes rows → valuedAt (domain f .sextets s) at ≡ k)
+        → Take f values classes rows s l first at stop k
+    by-value k h e = record { few = h; right = λ R. by-units f values classes rows s l at stop (inside W R) lt R first k (e (R .lent)) h }
 
     -- a plain primitive
     pub by-first : (k : ℕ) → k ≤ stop - at → (Lent values classes rows → plainAt plainTable (domain f .sextets s) at ≡ k)

@@ -3,8 +3,8 @@
 use format::Form;
 use format::Framed;
 use judging::MAX_DEPTH;
-ghost use mathlib.Core.Bool.{true};
-ghost use Prim.Native.Nat.{_+_, _-_, _/_, _≤_, _<_};
+ghost use mathlib.Core.Bool.{Bool, true};
+ghost use Prim.Native.Nat.{ℕ, _+_, _-_, _/_, _≤_, _<_};
 ghost use lib.ListN.{length};
 ghost use Rattle.format.specs.Units.{domain};
 ghost use Rattle.format.specs.Judging.{maxDepth};
@@ -14,7 +14,28 @@ ghost use Rattle.report_fast.specs.Fast.{Reach, Accepts, Take, Passes};
 
 // ---- items accepted whole, where all is known
 
-// The next item from a unit on, which is no plain primitive, if it ends in front of another unit and is accepted: its size, else 0.
+// A small variable value at a unit, if it ends in front of another unit and the unit behind its header tells that it is accepted: its
+// size, else 0.
+fn valued(
+    form: Form,
+    values: &[u8; 256],
+    classes: &[u8; 256],
+    rows: &[u16; 192],
+    s: &[u8],
+    at: usize,
+    stop: usize,
+) -> usize
+    requires { ⌜ Reach form (now s) at stop × (at < stop) ⌝ }
+    ensures { λ r. ⌜ ((l : ℕ) (first : Bool) → Take form (now (values .entry)) (now (classes .entry)) (now (rows .entry)) (now (s .entry)) l first at stop r) ⌝ }
+{
+    let k = report_first::valued(form, values, classes, rows, s, at);
+    if stop - at < k {
+        return 0;
+    }
+    k
+}
+
+// The next item from a unit on, which is no plain primitive and no small value, if it ends in front of another unit and is accepted: its size, else 0.
 fn taken(
     form: Form,
     values: &[u8; 256],
@@ -56,7 +77,7 @@ fn taken(
     other(form, values, classes, rows, s, levels, first, at, stop)
 }
 
-// The same of an item that its first unit does not tell: as the general way finds it.
+// The same of an item that its first units do not tell: as the general way finds it.
 fn other(
     form: Form,
     values: &[u8; 256],
@@ -125,12 +146,18 @@ fn accepts(
             i = i + k;
             ruled = false;
         } else {
-            let n = taken(form, values, classes, rows, s, levels, ruled, i, stop);
-            if n == 0 {
-                return false;
+            let v = valued(form, values, classes, rows, s, i, stop);
+            if 0 < v {
+                i = i + v;
+                ruled = false;
+            } else {
+                let n = taken(form, values, classes, rows, s, levels, ruled, i, stop);
+                if n == 0 {
+                    return false;
+                }
+                i = i + n;
+                ruled = false;
             }
-            i = i + n;
-            ruled = false;
         }
     }
     true
@@ -161,7 +188,8 @@ pub fn passes(
 
 // ---- at top level
 
-// The size of the item at a unit, if it ends in front of another unit and is accepted; else 0.
+// The size of the item at a unit, if it ends in front of another unit and is accepted; else 0. Small values of every type go one way, so that
+// a text costs what other values do.
 fn accepted_within(
     form: Form,
     values: &[u8; 256],
@@ -174,6 +202,10 @@ fn accepted_within(
     requires { ⌜ Reach form (now s) at stop × (at < stop) ⌝ }
     ensures { λ r. ⌜ Take form (now (values .entry)) (now (classes .entry)) (now (rows .entry)) (now (s .entry)) maxDepth true at stop r ⌝ }
 {
+    let v = valued(form, values, classes, rows, s, at, stop);
+    if 0 < v {
+        return v;
+    }
     let k = report_first::plain(form, values, classes, rows, s, at);
     if 0 < k {
         if stop - at < k {

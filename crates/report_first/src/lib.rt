@@ -1,5 +1,6 @@
 // What a first unit tells, of either form, by tables that are lent: the size of an item whose header it is, whether it is a plain
-// primitive, which small groups are entered; and how far characters are known. Each answer is right where the tables are.
+// primitive, which small groups are entered; what it tells with the unit behind it: a small variable value; and how far characters are
+// known. Each answer is right where the tables are.
 use format::Form;
 ghost use mathlib.Core.Path.{_≡_};
 ghost use Prim.Native.Nat.{_-_, _/_, _≤_, _<_, min};
@@ -8,6 +9,7 @@ ghost use Rattle.format.specs.Units.{domain};
 ghost use Rattle.format.specs.Registry.{isOverrideable};
 ghost use Rattle.runs.specs.Plain.{plainTable, plainAt, sizedAt, groupAt, letterAt, nested};
 ghost use Rattle.runs.specs.Levels.{Clear};
+ghost use Rattle.runs_value.specs.Values.{valuedAt};
 ghost use Rattle.report_first.specs.First.{Lent};
 
 pub fn plain(
@@ -39,6 +41,23 @@ pub fn sized(
     match form {
         Form::Text => runs_text::sized_text(values, rows, s, at),
         Form::Binary => runs_binary::sized_binary(rows, s, at),
+    }
+}
+
+// A small variable value that is accepted, by its header and the unit behind it.
+pub fn valued(
+    form: Form,
+    values: &[u8; 256],
+    classes: &[u8; 256],
+    rows: &[u16; 192],
+    s: &[u8],
+    at: usize,
+) -> usize
+    ensures { λ r. ⌜ (Lent (now (values .entry)) (now (classes .entry)) (now (rows .entry)) → valuedAt (domain form .sextets (now (s .entry))) at ≡ r) ⌝ }
+{
+    match form {
+        Form::Text => runs_text::valued_text(values, s, at),
+        Form::Binary => runs_binary::valued_binary(s, at),
     }
 }
 

@@ -3,10 +3,10 @@
 -- Assumes nothing.
 use Prim.Native.Nat.{ℕ, _+_, _*_, _^_, _<_, _≤_}
 use mathlib.Core.Path.{_≡_}
-use mathlib.Core.List.{List, _++_}
-use mathlib.Core.Bool.{true}
+use mathlib.Core.List.{List, [], _++_}
+use mathlib.Core.Bool.{true, false}
 use mathlib.Core.Logic.{_⊎_}
-use lib.ListN.{length, take, drop}
+use lib.ListN.{length, getD, take, drop}
 use Rattle.base.specs.Digits.{Below}
 use Rattle.format.specs.declared.Kind.{Kind}
 use Rattle.format.specs.declared.Code.{Code}
@@ -19,19 +19,21 @@ use Rattle.format.specs.declared.TextFound.the-variants as TextFound
 use Rattle.format.specs.declared.BinaryFound.the-variants as BinaryFound
 use Rattle.format.specs.declared.TextWritten.the-variants as TextWritten
 use Rattle.format.specs.declared.BinaryWritten.the-variants as BinaryWritten
-use Rattle.format.specs.Alphabet.{sextetOf}
+use Rattle.format.specs.Alphabet.{sextetOf, strangerNumber}
 use Rattle.format.specs.Units.{text, binary, textSextets, binarySextets}
 use Rattle.format.specs.Offsets.{textOffset, binaryOffset}
 use Rattle.format.specs.Conversion.{toBinary, toText, textToBinary, binaryToText}
-use Rattle.format.specs.Registry.{isType, zeroBitsOf, prepadOf}
+use Rattle.format.specs.Registry.{isType, isText, zeroBitsOf, prepadOf}
+use Rattle.format.specs.Texts.{fills, fillFor, textCount}
 use Rattle.format.specs.Judging.{andThen, unless, hasLead, zeroBits, prepadRight}
-use Rattle.format.specs.Values.{bytesIn, rawOf, tagOf}
-use Rattle.format.specs.Reading.{codeOf, tagsOf, found, reading, padded, readText, rawLeft, readBinary, partAt}
-use Rattle.format.specs.Writing.{named, refused, written, writing, countFor, writtenBytes, writeText, writeBinary, textItemLeft, binaryItemLeft}
+use Rattle.format.specs.Values.{bytesIn, textIn, valueOf, tagOf}
+use Rattle.format.specs.Reading.{codeOf, tagsOf, found, reading, padded, readText, valueLeft, readBinary, charsLeft, partAt}
+use Rattle.format.specs.Writing.{Named, unknown, row, variable, textual, named, refused, written, writing, countFor, writtenBytes}
+use Rattle.format.specs.Writing.{writeText, writeBinary, textItemLeft, binaryItemLeft}
 
 -- ---- words
 
--- what is given to a writer: a code, places with tag characters and how many of them count, and raw bytes
+-- what is given to a writer: a code, places with tag characters and how many of them count, and raw bytes, or for type `A` characters
 pub record Given : Type 0 where
   pub code : Code
   pub tag : List ℕ
@@ -43,13 +45,23 @@ pub record Given : Type 0 where
 abbrev pub tagGiven : Given → List ℕ
 tagGiven g = take (g .tags) (g .tag)
 
+-- what of it are a text's characters: all, or none
+abbrev pub textFor : Named → List ℕ → List ℕ
+textFor unknown raw = []
+textFor (row c) raw = []
+textFor (variable t h) raw = []
+textFor (textual h) raw = raw
+
+abbrev pub textGiven : Given → List ℕ
+textGiven g = textFor (named (g .code)) (g .raw)
+
 -- the item's bytes
 abbrev pub itemOf : Given → List ℕ
 itemOf g = writtenBytes (g .code) (g .tag) (g .tags) (g .raw)
 
 -- the writer accepts it as n units of u elements
 abbrev pub Accepts : ℕ → Given → ℕ → ℕ → Type 0
-Accepts u g room n = writing u (named (g .code)) (g .tag) (g .tags) (length (g .raw)) room ≡ written n
+Accepts u g room n = writing u (named (g .code)) (g .tag) (g .tags) (g .raw) room ≡ written n
 
 -- the calls do
 abbrev pub BinaryAccepts : Given → ℕ → ℕ → Type 0
@@ -65,30 +77,33 @@ binaryBuffer g d = binaryItemLeft (writeBinary (g .code) (g .tag) (g .tags) (g .
 abbrev pub textBuffer : Given → List ℕ → List ℕ
 textBuffer g d = textItemLeft (writeText (g .code) (g .tag) (g .tags) (g .raw) (length d)) (g .code) (g .tag) (g .tags) (g .raw) d
 
--- a reading of sextets finds it: "code, tag characters, raw value"
+-- a reading of sextets finds it: "code, tag characters, raw value", or 02 c: "Reading and writing such text gives the characters back"
 pub record Reads (s : List ℕ) (g : Given) (n : ℕ) : Type 0 where
   pub kind : Kind
   pub head : ℕ
   pub reads : reading s ≡ found kind head n
   pub code-back : codeOf kind head ≡ g .code
   pub tag-back : tagOf kind (take (4 * n) s) ≡ tagGiven g
-  pub raw-back : rawOf kind head (take (4 * n) s) ≡ g .raw
+  pub raw-back : valueOf kind head (take (4 * n) s) ≡ g .raw
+  pub text-back : textIn kind head (take (4 * n) s) ≡ textGiven g
 
 -- an answer tells it
 pub record Tells (p : Primitive) (g : Given) (n : ℕ) : Type 0 where
   pub code-back : p .code ≡ g .code
   pub tags-back : p .tags ≡ g .tags
-  pub raw-length : p .raw ≡ length (g .raw)
+  pub raw-length : p .raw + p .text ≡ length (g .raw)
+  pub text-length : p .text ≡ length (textGiven g)
   pub units : p .size ≡ n
 
--- a read of a binary at an offset finds it. 01: "the raw value is handed back as the part of the binary stream where it lies",
--- "tag characters come by value with their number, unused places 0"
-pub record BinaryReads (xs : List ℕ) (at : ℕ) (g : Given) (n : ℕ) : Type 0 where
+-- a read of a binary at an offset with room finds it. 01: "the raw value is handed back as the part of the binary stream where it
+-- lies", "tag characters come by value with their number, unused places 0"; 02 c: "Characters are copied out in both forms"
+pub record BinaryReads (xs : List ℕ) (at room : ℕ) (g : Given) (n : ℕ) : Type 0 where
   pub item : Primitive
-  pub reads : readBinary xs at .found ≡ BinaryFound.Found item
+  pub reads : readBinary xs at room .found ≡ BinaryFound.Found item
   pub tells : Tells item g n
-  pub tag-back : readBinary xs at .tag ≡ padded (tagGiven g)
-  pub raw-back : partAt xs at (readBinary xs at .found) ≡ g .raw
+  pub tag-back : readBinary xs at room .tag ≡ padded (tagGiven g)
+  pub part-back : partAt xs at (readBinary xs at room .found) ++ textGiven g ≡ g .raw
+  pub text-back : (d : List ℕ) → charsLeft (readBinary xs at room .found) xs at d ≡ textGiven g ++ drop (length (textGiven g)) d
 
 -- a read of a text at an offset with room finds it. 01: "3 for T, where raw is copied out", "bytes behind it stay"
 pub record TextReads (xs : List ℕ) (at room : ℕ) (g : Given) (n : ℕ) : Type 0 where
@@ -96,7 +111,7 @@ pub record TextReads (xs : List ℕ) (at room : ℕ) (g : Given) (n : ℕ) : Typ
   pub reads : readText xs at room .found ≡ TextFound.Found item
   pub tells : Tells item g n
   pub tag-back : readText xs at room .tag ≡ padded (tagGiven g)
-  pub raw-back : (d : List ℕ) → rawLeft (readText xs at room .found) xs at d ≡ g .raw ++ drop (length (g .raw)) d
+  pub raw-back : (d : List ℕ) → valueLeft (readText xs at room .found) xs at d ≡ g .raw ++ drop (length (g .raw)) d
 
 -- a write accepts in either form where there is room for n units, and its bytes are b, the text's too
 pub record WritesBack (code : Code) (tag : List ℕ) (tags : ℕ) (raw : List ℕ) (n : ℕ) (b : List ℕ) : Type 0 where
@@ -114,14 +129,15 @@ pub record WrittenReads : Type 0 where
   pub text-sextets : (room n : ℕ) (g : Given) (rest : List ℕ) → Accepts 4 g room n → Reads (textSextets (toText (itemOf g) ++ rest)) g n
   -- by the calls, at any offset of a stream within the limit, whatever stands before and behind the item, as 01's "a second item
   -- goes into the rest of the buffer behind the first"
-  pub binary-calls : (room n : ℕ) (g : Given) (front rest : List ℕ) → BinaryAccepts g room n
-      → length (front ++ (itemOf g ++ rest)) ≤ binary .limit → BinaryReads (front ++ (itemOf g ++ rest)) (length front) g n
+  pub binary-calls : (room n for-text : ℕ) (g : Given) (front rest : List ℕ) → BinaryAccepts g room n
+      → length (front ++ (itemOf g ++ rest)) ≤ binary .limit → length (textGiven g) ≤ for-text
+      → BinaryReads (front ++ (itemOf g ++ rest)) (length front) for-text g n
   pub text-calls : (room n for-raw : ℕ) (g : Given) (front rest : List ℕ) → TextAccepts g room n
       → length (front ++ (toText (itemOf g) ++ rest)) ≤ text .limit → length (g .raw) ≤ for-raw
       → TextReads (front ++ (toText (itemOf g) ++ rest)) (length front) for-raw g n
   -- and in the buffer that was written to. 01: "An accepted call writes its answer from the buffer's start; bytes behind it stay"
-  pub binary-buffer : (n : ℕ) (g : Given) (d : List ℕ) → BinaryAccepts g (length d) n → length d ≤ binary .limit
-      → BinaryReads (binaryBuffer g d) 0 g n
+  pub binary-buffer : (n for-text : ℕ) (g : Given) (d : List ℕ) → BinaryAccepts g (length d) n → length d ≤ binary .limit
+      → length (textGiven g) ≤ for-text → BinaryReads (binaryBuffer g d) 0 for-text g n
   pub text-buffer : (n for-raw : ℕ) (g : Given) (d : List ℕ) → TextAccepts g (length d) n → length d ≤ text .limit
       → length (g .raw) ≤ for-raw → TextReads (textBuffer g d) 0 for-raw g n
 
@@ -141,39 +157,75 @@ pub record WrittenConverts : Type 0 where
 pub record ReadWrites : Type 0 where
   -- on the sextets of either form, of at most as many units as a stream may have
   pub sextets : (s : List ℕ) (k : Kind) (h n : ℕ) → reading s ≡ found k h n → n * 4 ≤ text .limit
-      → let own = take (4 * n) s in WritesBack (codeOf k h) (padded (tagOf k own)) (tagsOf k) (rawOf k h own) n (bytesIn own)
-  -- by the calls: the item's own bytes
-  pub binary-calls : (xs : List ℕ) (at : ℕ) (p : Primitive) → Below 256 xs → readBinary xs at .found ≡ BinaryFound.Found p
-      → WritesBack (p .code) (readBinary xs at .tag) (p .tags) (partAt xs at (BinaryFound.Found p)) (p .size)
-      (take (p .size * 3) (drop at xs))
-  -- its own characters, d being the buffer that the raw value was written to
+      → let own = take (4 * n) s in WritesBack (codeOf k h) (padded (tagOf k own)) (tagsOf k) (valueOf k h own) n (bytesIn own)
+  -- by the calls: the item's own bytes, d being the buffer that a text was written to
+  pub binary-calls : (xs : List ℕ) (at room : ℕ) (p : Primitive) (d : List ℕ) → Below 256 xs
+      → readBinary xs at room .found ≡ BinaryFound.Found p
+      → let raw = partAt xs at (BinaryFound.Found p) ++ take (p .text) (charsLeft (BinaryFound.Found p) xs at d) in
+      WritesBack (p .code) (readBinary xs at room .tag) (p .tags) raw (p .size) (take (p .size * 3) (drop at xs))
+  -- its own characters, d being the buffer that the raw value or the text was written to
   pub text-calls : (xs : List ℕ) (at room : ℕ) (p : Primitive) (d : List ℕ) → readText xs at room .found ≡ TextFound.Found p
-      → let raw = take (p .raw) (rawLeft (TextFound.Found p) xs at d) in
+      → let raw = take (p .raw + p .text) (valueLeft (TextFound.Found p) xs at d) in
       WritesBack (p .code) (readText xs at room .tag) (p .tags) raw (p .size) (toBinary (take (p .size * 4) (drop at xs)))
       × (toText (writtenBytes (p .code) (readText xs at room .tag) (p .tags) raw) ≡ take (p .size * 4) (drop at xs))
 
 -- ---- 01: "small holds at most 12,285 raw bytes, large 3,145,722"
 
+-- a variable type whose value is raw bytes
+abbrev pub RawType : ℕ → Type 0
+RawType letter = (isType (sextetOf letter) ≡ true) × (isText (sextetOf letter) ≡ false)
+
 -- a variable code with a header of so many units holds at least and at most so many raw bytes: the writer takes these where there is
 -- room, gives 12 for more, and for less 18 (02 h), in either form
 pub record Holds (code : ℕ → Code) (head least most : ℕ) : Type 0 where
-  pub accepts : (u letter raw room : ℕ) (tag : List ℕ) → isType (sextetOf letter) ≡ true → least ≤ raw → raw ≤ most
-      → (head + countFor raw) * u ≤ room → writing u (named (code letter)) tag 0 raw room ≡ written (head + countFor raw)
-  pub refuses : (u letter raw room : ℕ) (tag : List ℕ) → isType (sextetOf letter) ≡ true → most < raw
+  pub accepts : (u letter room : ℕ) (tag raw : List ℕ) → RawType letter → least ≤ length raw → length raw ≤ most
+      → (head + countFor (length raw)) * u ≤ room → writing u (named (code letter)) tag 0 raw room ≡ written (head + countFor (length raw))
+  pub refuses : (u letter room : ℕ) (tag raw : List ℕ) → RawType letter → most < length raw
       → writing u (named (code letter)) tag 0 raw room ≡ refused 12 0
-  pub too-few : (u letter raw room : ℕ) (tag : List ℕ) → isType (sextetOf letter) ≡ true → raw < least
+  pub too-few : (u letter room : ℕ) (tag raw : List ℕ) → RawType letter → length raw < least
       → writing u (named (code letter)) tag 0 raw room ≡ refused 18 0
+
+-- a text of type `A` with its fill has so many characters, at least and at most
+pub record Filled (least most : ℕ) (chars : List ℕ) : Type 0 where
+  pub enough : least ≤ length chars + fillFor (length chars)
+  pub few : length chars + fillFor (length chars) ≤ most
+
+-- 02 c: "text with its fill is at most 16,380 characters small and 4,194,296 large", and at least so many (02 h)
+pub record HoldsText (code : Code) (head least most : ℕ) : Type 0 where
+  -- such a text is taken where there is room, in the alphabet and not starting with `A`
+  pub accepts : (u room : ℕ) (tag chars : List ℕ) → Filled least most chars → Below 64 (textSextets chars)
+      → fills 1 (textSextets chars) ≡ false → (head + textCount (length chars)) * u ≤ room
+      → writing u (named code) tag 0 chars room ≡ written (head + textCount (length chars))
+  -- "5 (place its index in the text)", whatever the room: the first character outside the alphabet, by 02 j 19 for one of three
+  pub stranger : (u room : ℕ) (tag chars : List ℕ) (i : ℕ) → Filled least most chars → i < length chars
+      → Below 64 (textSextets (take i chars)) → 64 ≤ sextetOf (getD chars i 0)
+      → writing u (named code) tag 0 chars room ≡ refused (strangerNumber (sextetOf (getD chars i 0))) i
+  -- "16 (place 0)", whatever the room: "A text that itself starts with `A`"
+  pub from-a : (u room : ℕ) (tag chars : List ℕ) → Filled least most chars → Below 64 (textSextets chars)
+      → fills 1 (textSextets chars) ≡ true → writing u (named code) tag 0 chars room ≡ refused 16 0
+  pub refuses : (u room : ℕ) (tag chars : List ℕ) → most < length chars + fillFor (length chars)
+      → writing u (named code) tag 0 chars room ≡ refused 12 0
+  pub too-few : (u room : ℕ) (tag chars : List ℕ) → length chars + fillFor (length chars) < least
+      → writing u (named code) tag 0 chars room ≡ refused 18 0
 
 pub record Limits : Type 0 where
   pub small : Holds Code.Small 1 0 12285
   pub large : Holds Code.Large 2 12286 3145722
-  -- where the numbers come from: a small one is held exactly if two digits count its triplets, a large one exactly if its item is no
-  -- longer than a stream may be, in text and in binary
+  pub small-chars : HoldsText (Code.Small 65) 1 0 16380
+  pub large-chars : HoldsText (Code.Large 65) 2 16381 4194296
+  -- where the numbers come from: a small one is held exactly if two digits count its triplets, or quadlets, a large one exactly if its
+  -- item is no longer than a stream may be, in text and in binary
   pub small-digits : (raw : ℕ) → raw ≤ 12285 → countFor raw < 64 ^ 2
   pub small-most : (raw : ℕ) → countFor raw < 64 ^ 2 → raw ≤ 12285
   pub large-fits : (raw : ℕ) → raw ≤ 3145722 → ((2 + countFor raw) * 4 ≤ text .limit) × ((2 + countFor raw) * 3 ≤ binary .limit)
   pub large-text : (raw : ℕ) → (2 + countFor raw) * 4 ≤ text .limit → raw ≤ 3145722
   pub large-binary : (raw : ℕ) → (2 + countFor raw) * 3 ≤ binary .limit → raw ≤ 3145722
+  pub small-chars-digits : (chars : ℕ) → chars + fillFor chars ≤ 16380 → textCount chars < 64 ^ 2
+  pub small-chars-most : (chars : ℕ) → textCount chars < 64 ^ 2 → chars + fillFor chars ≤ 16380
+  pub large-chars-fit : (chars : ℕ) → chars + fillFor chars ≤ 4194296
+      → ((2 + textCount chars) * 4 ≤ text .limit) × ((2 + textCount chars) * 3 ≤ binary .limit)
+  pub large-chars-text : (chars : ℕ) → (2 + textCount chars) * 4 ≤ text .limit → chars + fillFor chars ≤ 4194296
+  pub large-chars-binary : (chars : ℕ) → (2 + textCount chars) * 3 ≤ binary .limit → chars + fillFor chars ≤ 4194296
 
 -- ---- 01: "Judging a framed primitive: 5 behind the header, 9, 8, 10": two of these orders no item can show
 
@@ -188,8 +240,8 @@ pub record Orders : Type 0 where
       → let nine = unless 9 (hasLead lead count) in let eight = unless 8 (zeroBits s (4 * h) (8 * lead)) in
       andThen nine eight ≡ andThen eight nine
 
--- ---- 02 h: "for accepted primitives equal type and raw value .. mean equal text, shown once over every variable type". A fixed code is a type by
--- itself, and a tag's value is its characters
+-- ---- 02 h: "for accepted primitives equal type and raw value (for type `A`, equal characters) mean equal text, shown once over every
+-- variable type". A fixed code is a type by itself, and a tag's value is its characters
 
 -- a code's type: small and large are not told apart
 abbrev pub typeOf : Code → Code
@@ -202,19 +254,37 @@ pub record OneSpelling : Type 0 where
   pub sextets : (s s′ : List ℕ) (k k′ : Kind) (h h′ n n′ : ℕ) → reading s ≡ found k h n → reading s′ ≡ found k′ h′ n′
       → n * 4 ≤ text .limit → n′ * 4 ≤ text .limit → typeOf (codeOf k h) ≡ typeOf (codeOf k′ h′)
       → let own = take (4 * n) s in let own′ = take (4 * n′) s′ in
-      tagOf k own ≡ tagOf k′ own′ → rawOf k h own ≡ rawOf k′ h′ own′ → own ≡ own′
-  -- by the calls, "equal text": the items' own characters; d and d′ are the buffers that the raw values were written to
+      tagOf k own ≡ tagOf k′ own′ → valueOf k h own ≡ valueOf k′ h′ own′ → own ≡ own′
+  -- by the calls, "equal text": the items' own characters; d and d′ are the buffers that the values were written to
   pub text-calls : (xs xs′ : List ℕ) (at at′ room room′ : ℕ) (p p′ : Primitive) (d d′ : List ℕ)
       → readText xs at room .found ≡ TextFound.Found p → readText xs′ at′ room′ .found ≡ TextFound.Found p′
       → typeOf (p .code) ≡ typeOf (p′ .code) → readText xs at room .tag ≡ readText xs′ at′ room′ .tag
-      → take (p .raw) (rawLeft (TextFound.Found p) xs at d) ≡ take (p′ .raw) (rawLeft (TextFound.Found p′) xs′ at′ d′)
+      → take (p .raw + p .text) (valueLeft (TextFound.Found p) xs at d) ≡ take (p′ .raw + p′ .text) (valueLeft (TextFound.Found p′) xs′ at′ d′)
       → take (p .size * 4) (drop at xs) ≡ take (p′ .size * 4) (drop at′ xs′)
-  -- and equal binary: their own bytes
-  pub binary-calls : (xs xs′ : List ℕ) (at at′ : ℕ) (p p′ : Primitive) → Below 256 xs → Below 256 xs′
-      → readBinary xs at .found ≡ BinaryFound.Found p → readBinary xs′ at′ .found ≡ BinaryFound.Found p′
-      → typeOf (p .code) ≡ typeOf (p′ .code) → readBinary xs at .tag ≡ readBinary xs′ at′ .tag
+  -- and equal binary: their own bytes; d and d′ are the buffers that texts were written to
+  pub binary-calls : (xs xs′ : List ℕ) (at at′ room room′ : ℕ) (p p′ : Primitive) (d d′ : List ℕ) → Below 256 xs → Below 256 xs′
+      → readBinary xs at room .found ≡ BinaryFound.Found p → readBinary xs′ at′ room′ .found ≡ BinaryFound.Found p′
+      → typeOf (p .code) ≡ typeOf (p′ .code) → readBinary xs at room .tag ≡ readBinary xs′ at′ room′ .tag
       → partAt xs at (BinaryFound.Found p) ≡ partAt xs′ at′ (BinaryFound.Found p′)
+      → take (p .text) (charsLeft (BinaryFound.Found p) xs at d) ≡ take (p′ .text) (charsLeft (BinaryFound.Found p′) xs′ at′ d′)
       → take (p .size * 3) (drop at xs) ≡ take (p′ .size * 3) (drop at′ xs′)
+
+-- ---- 02 c: "Characters are copied out in both forms .. so 01's returned part no longer serves type `A`"
+
+-- an answer's part is empty, at the item's end
+abbrev pub EmptyPart : Primitive → Type 0
+EmptyPart p = (p .raw ≡ 0) × (p .start ≡ binaryOffset (3 * p .size))
+
+pub record TextParts : Type 0 where
+  pub binary-none : (xs : List ℕ) (at room : ℕ) (p : Primitive) → readBinary xs at room .found ≡ BinaryFound.Found p
+      → typeOf (p .code) ≡ Code.Small 65 → EmptyPart p × (partAt xs at (BinaryFound.Found p) ≡ [])
+  pub text-none : (xs : List ℕ) (at room : ℕ) (p : Primitive) → readText xs at room .found ≡ TextFound.Found p
+      → typeOf (p .code) ≡ Code.Small 65 → EmptyPart p
+  -- and no other code has characters: its value is raw, and in B nothing is copied out
+  pub binary-others : (xs : List ℕ) (at room : ℕ) (p : Primitive) → readBinary xs at room .found ≡ BinaryFound.Found p
+      → ¬ (typeOf (p .code) ≡ Code.Small 65) → p .text ≡ 0
+  pub text-others : (xs : List ℕ) (at room : ℕ) (p : Primitive) → readText xs at room .found ≡ TextFound.Found p
+      → ¬ (typeOf (p .code) ≡ Code.Small 65) → p .text ≡ 0
 
 pub record RoundTrip : Type 0 where
   pub written-reads : WrittenReads
@@ -223,3 +293,4 @@ pub record RoundTrip : Type 0 where
   pub limits : Limits
   pub orders : Orders
   pub spelling : OneSpelling
+  pub text-parts : TextParts

@@ -1,8 +1,8 @@
--- Variable types, small and large: own sextets are written back, and what is written are own sextets. Assumes nothing.
+-- Variable types but `A`, small and large: own sextets are written back, and what is written are own sextets. Assumes nothing.
 use Prim.Native.Nat.{ℕ, zero, suc, _+_, _-_, _*_, _/_, _%_, _≤_, _<_}
 use mathlib.Core.Path.{_≡_, refl, ap, _∙_, sym, subst}
 use mathlib.Core.List.{List, [], _∷_, _++_, append-assoc}
-use mathlib.Core.Bool.{true}
+use mathlib.Core.Bool.{true, false}
 use mathlib.Core.Logic.{_⊎_, inl, inr, ⊎-elim}
 use native.Mathlib.Nat.{add-zero}
 use native.Mathlib.Omega.{arith}
@@ -14,21 +14,22 @@ use Rattle.base.specs.Pick.{pick, pick-by}
 use Rattle.base.specs.Cases.{lt-or-ge}
 use Rattle.base.specs.Digits.{Below, none, more, below-append, below-drop, numberOf, digitsOf, digits-number, digits-below, number-digits}
 use Rattle.format.specs.declared.Kind.the-variants.{Variable}
-use Rattle.format.specs.Registry.{isType}
+use Rattle.format.specs.Registry.{isType, isText}
+use Rattle.format.specs.Texts.{valueRight}
 use Rattle.format.specs.Units.{bytesOf, textSextets, binarySextets}
 use Rattle.format.specs.Framing.{sextet, digits4}
 use Rattle.format.specs.Judging.{isShortest, zeroBits, hasLead}
 use Rattle.format.specs.Values.{bytesIn, rawStart, rawOf, tagOf}
 use Rattle.format.specs.Reading.{codeOf, tagsOf}
 use Rattle.format.specs.Writing.{variable, rawLimit, fitsVariable, leadFor, countFor}
-use Rattle.format.specs.Writing.{variableHeader, variablePrefix, isNamed, isFit, isShort, itemBytes, unitsOf}
+use Rattle.format.specs.Writing.{variableHeader, variablePrefix, isNamed, isFit, isShort, charsOf, charsFor, beginsRight, itemBytes, unitsOf}
 use Rattle.laws.specs.Conversion.{binary-below}
 use Rattle.laws.specs.Values.{binary-bytes}
 use Rattle.roundtrip.specs.Bytes.{Quad, quad, quad-of, below-any, bytes-length, binary-length, bytes-front}
 use Rattle.roundtrip.specs.Rows.{type-low}
 use Rattle.roundtrip.specs.Prefix.{lead-fronts}
 use Rattle.roundtrip.specs.Own.{Headed, small, large, Own}
-use Rattle.roundtrip.specs.Words.{Writes, Made}
+use Rattle.roundtrip.specs.Words.{Writes, Made, counted-text, counted-value}
 
 -- ---- lead bytes and count
 
@@ -36,7 +37,7 @@ pub has-lead : (l m : ℕ) → hasLead l m ≡ true → 0 < l → 0 < m
 unfolding hasLead
 has-lead l m e p = ltb-true 0 m (rw (lt-ltb 0 l p) at e)
 
-lead-has : (l m : ℕ) → (0 < l → 0 < m) → hasLead l m ≡ true
+pub lead-has : (l m : ℕ) → (0 < l → 0 < m) → hasLead l m ≡ true
 unfolding hasLead
 lead-has l m f = pick-by (λ b. b ≡ true) (ltb 0 l) (ltb 0 m) true (λ e. lt-ltb 0 m (f (ltb-true 0 l e))) (λ _. refl)
 
@@ -92,7 +93,7 @@ large-bytes t l m s (quad {x} {y} {u} {v} {r}) q (more px (more py (more pu (mor
         ∙ ap (λ (w : List ℕ). (bytesOf (x ∷ y ∷ u ∷ v ∷ []) ++ bytesOf w) ++ bytesIn r′) (sym n)
         ∙ rw (a, b, c, d)
 
-header-bytes : (t l m h : ℕ) (s : List ℕ) → Headed t l m h (sextet s) → 4 * h ≤ length s → Below 64 s
+pub header-bytes : (t l m h : ℕ) (s : List ℕ) → Headed t l m h (sextet s) → 4 * h ≤ length s → Below 64 s
     → bytesIn s ≡ variableHeader t h l m ++ bytesIn (drop (4 * h) s)
 header-bytes t l m h s (small e a b d) len low =
     let some : 4 * 1 ≤ length s = rw e at len in
@@ -103,12 +104,12 @@ header-bytes t l m h s (large e a b c d g) len low =
 
 -- ---- the value
 
-bits-behind : (s : List ℕ) (i z : ℕ) → zeroBits s i z ≡ zeroBits (drop i s) 0 z
+pub bits-behind : (s : List ℕ) (i z : ℕ) → zeroBits s i z ≡ zeroBits (drop i s) 0 z
 unfolding zeroBits
 bits-behind s i z = rw (getD-drop i s 0 0, getD-drop i s 1 0, getD-drop i s 2 0, add-zero)
 
 module _ (t l m h n : ℕ) (s : List ℕ) (o : Own (Variable t l m) h n s) where
-  bytes-are : bytesIn s ≡ variableHeader t h l m ++ bytesIn (drop (4 * h) s)
+  pub bytes-are : bytesIn s ≡ variableHeader t h l m ++ bytesIn (drop (4 * h) s)
   bytes-are = header-bytes t l m h s (o .form .head) (omega (arith, o .size, o .form .units)) (o .low)
 
   header-length : length (variableHeader t h l m) ≡ 3 * h
@@ -123,11 +124,12 @@ module _ (t l m h n : ℕ) (s : List ℕ) (o : Own (Variable t l m) h n s) where
         o .form .units,
       )
 
-  pub value-is : rawOf (Variable t l m) h s ≡ drop l (bytesIn (drop (4 * h) s))
+  pub value-is : isText t ≡ false → rawOf (Variable t l m) h s ≡ drop l (bytesIn (drop (4 * h) s))
   unfolding rawOf rawStart
-  value-is =
-      sym (drop-drop l (3 * h) (bytesIn s))
-      ∙ ap (drop l) (ap (drop (3 * h)) bytes-are ∙ drop-at (variableHeader t h l m) (bytesIn (drop (4 * h) s)) (3 * h) header-length)
+  value-is plain =
+      rw plain
+      (sym (drop-drop l (3 * h) (bytesIn s))
+      ∙ ap (drop l) (ap (drop (3 * h)) bytes-are ∙ drop-at (variableHeader t h l m) (bytesIn (drop (4 * h) s)) (3 * h) header-length))
 
   -- small counts have two digits; a large item is within a stream
   within-limit : n ≤ 1048576 → 3 * m - l ≤ rawLimit h
@@ -140,16 +142,16 @@ module _ (t l m h n : ℕ) (s : List ℕ) (o : Own (Variable t l m) h n s) where
           rw e (omega (arith, w 2, w 3))
       by (large e a b c d g) = rw e (omega (arith, o .form .units))
 
-  pub counted-writes : n ≤ 1048576
+  pub counted-writes : isText t ≡ false → n ≤ 1048576
       → Writes (variable t h) (tagOf (Variable t l m) s) (tagsOf (Variable t l m)) (rawOf (Variable t l m) h s) n s
-  unfolding tagOf tagsOf isNamed isFit isShort fitsVariable unitsOf itemBytes variablePrefix textSextets
-  counted-writes few =
+  unfolding tagOf tagsOf isNamed isFit isShort charsOf charsFor beginsRight fitsVariable unitsOf itemBytes variablePrefix textSextets
+  counted-writes plain few =
       let f = o .form in
       let led = has-lead l m (f .led) in
       let v : List ℕ = bytesIn (drop (4 * h) s) in
       let lv : length v ≡ 3 * m =
       omega (arith, bytes-length (drop (4 * h) s), length-drop (4 * h) s, o .size, f .units) in
-      let lr : length (rawOf (Variable t l m) h s) ≡ 3 * m - l = ap length value-is ∙ length-drop l v ∙ omega arith in
+      let lr : length (rawOf (Variable t l m) h s) ≡ 3 * m - l = ap length (value-is plain) ∙ length-drop l v ∙ omega arith in
       let lead : leadFor (length (rawOf (Variable t l m) h s)) ≡ l = ap leadFor lr ∙ lead-is l m (f .few) led in
       let count : countFor (length (rawOf (Variable t l m) h s)) ≡ m = ap countFor lr ∙ count-is l m (f .few) led in
       let zeros : take l v ≡ replicate l 0 =
@@ -161,9 +163,11 @@ module _ (t l m h n : ℕ) (s : List ℕ) (o : Own (Variable t l m) h n s) where
         fits = le-leb _ (rawLimit h) (rw lr (within-limit few));
         shortest = rw count (f .shortest);
         count = refl;
+        many = refl;
         alphabet = none;
+        begins = refl;
         units = rw count (sym (f .units));
-        bytes = rw (lead, count, value-is, append-assoc, ← zeros, take-append-drop l v) (sym bytes-are);
+        bytes = rw (lead, count, value-is plain, append-assoc, ← zeros, take-append-drop l v) (sym bytes-are);
       }
 
 -- ---- what is written
@@ -172,7 +176,7 @@ zero-bytes : (n : ℕ) → Below 256 (replicate n 0)
 zero-bytes zero = none
 zero-bytes (suc n) = more (lit< tt) (zero-bytes n)
 
-module _ (t : ℕ) (raw : List ℕ) (ty : isType t ≡ true) (low : Below 256 raw) where
+module _ (t : ℕ) (raw : List ℕ) (ty : isType t ≡ true) (plain : isText t ≡ false) (low : Below 256 raw) where
   abbrev lead : ℕ
   lead = leadFor (length raw)
 
@@ -219,7 +223,7 @@ module _ (t : ℕ) (raw : List ℕ) (ty : isType t ≡ true) (low : Below 256 ra
         (ap (take lead) behind-bytes ∙ take-at (replicate lead 0) raw lead zeros-length)
 
     own : Own (Variable t lead count) h (h + count) (front ++ behind)
-    unfolding behind
+    unfolding behind valueRight
     own = record {
       size = length-append front behind ∙ omega (arith, behind-length);
       low = below-append 64 front behind fl (binary-below value);
@@ -231,6 +235,7 @@ module _ (t : ℕ) (raw : List ℕ) (ty : isType t ≡ true) (low : Below 256 ra
         shortest = shortest;
         led = lead-has lead count led;
         zeros = zeros;
+        right = rw plain;
       };
     }
 
@@ -247,7 +252,9 @@ module _ (t : ℕ) (raw : List ℕ) (ty : isType t ≡ true) (low : Below 256 ra
       code = refl;
       tagged = refl;
       count = refl;
-      value = value-is t lead count h (h + count) (front ++ behind) own
+      text = counted-text t lead count h (front ++ behind) plain;
+      value = counted-value t lead count h (front ++ behind) plain
+          ∙ value-is t lead count h (h + count) (front ++ behind) own plain
           ∙ ap (λ (x : List ℕ). drop lead (bytesIn x)) parts
           ∙ ap (drop lead) behind-bytes
           ∙ drop-at (replicate lead 0) raw lead zeros-length;

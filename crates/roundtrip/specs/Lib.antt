@@ -8,10 +8,12 @@ pub mod Words
 pub mod Raws
 pub mod Tags
 pub mod Counts
+pub mod Texts
 pub mod Writes
 pub mod Sextets
 pub mod Calls
 pub mod Limits
 pub mod Orders
+pub mod Parts
 pub mod Spelling
 pub mod Proved

@@ -3,13 +3,14 @@ use Prim.Native.Nat.{ℕ, _+_, _*_, _≤_}
 use mathlib.Core.Path.{_≡_}
 use mathlib.Core.List.{List}
 use mathlib.Core.Bool.{true}
-use lib.ListN.{length, take}
+use lib.ListN.{length, take, drop}
 use Rattle.base.specs.Digits.{Below}
 use Rattle.format.specs.declared.CodeRow.{CodeRow}
 use Rattle.format.specs.declared.Kind.{Kind}
 use Rattle.format.specs.declared.Kind.the-variants.{Fixed, Variable, Group, Genus}
 use Rattle.format.specs.Registry.{zeroBitsOf, prepadOf, isType}
 use Rattle.format.specs.Framing.{sextet, digits4}
+use Rattle.format.specs.Texts.{valueRight}
 use Rattle.format.specs.Judging.{isShortest, hasLead, zeroBits, prepadRight}
 use Rattle.format.specs.Writing.{codeSextets}
 use Rattle.roundtrip.specs.Rows.{Row}
@@ -27,7 +28,7 @@ pub record Coded (c : CodeRow) (h n : ℕ) (s : List ℕ) : Type 0 where
   pub zeros : zeroBits s (c .chars) (zeroBitsOf c) ≡ true
   pub prepad : prepadRight s (c .chars) (prepadOf c) ≡ true
 
--- a variable type, with l lead bytes and m units behind the header
+-- a variable type, with l lead bytes and m units behind the header; type `A` has the right fill
 pub record Counted (t l m h n : ℕ) (s : List ℕ) : Type 0 where
   pub type : isType t ≡ true
   pub few : l ≤ 2
@@ -36,6 +37,7 @@ pub record Counted (t l m h n : ℕ) (s : List ℕ) : Type 0 where
   pub shortest : isShortest h m ≡ true
   pub led : hasLead l m ≡ true
   pub zeros : zeroBits s (4 * h) (8 * l) ≡ true
+  pub right : valueRight t l (drop (4 * h) s) ≡ true
 
 abbrev pub Form : Kind → ℕ → ℕ → List ℕ → Type 0
 Form (Fixed c) h n s = Coded c h n s

@@ -17,11 +17,12 @@ use Rattle.format.specs.Writing.{textOutcome, binaryOutcome, writeText, writeBi
 use Rattle.laws.specs.Conversion.{length-to-text}
 use Rattle.roundtrip.specs.Sextets as S
 use Rattle.roundtrip.specs.Calls as C
-use Rattle.roundtrip.specs.Claims.{Given, itemOf, Accepts, BinaryAccepts}
+use Rattle.roundtrip.specs.Claims.{Given, textGiven, itemOf, Accepts, BinaryAccepts}
 use Rattle.roundtrip.specs.Claims.{TextAccepts, binaryBuffer, textBuffer, BinaryReads, TextReads}
 use Rattle.roundtrip.specs.Limits.{limits}
 use Rattle.roundtrip.specs.Orders.{orders}
 use Rattle.roundtrip.specs.Spelling.{spelling}
+use Rattle.roundtrip.specs.Parts.{text-parts}
 use Rattle.roundtrip.specs.Claims.{WrittenReads, WrittenConverts, ReadWrites, RoundTrip}
 
 -- ---- what a call wrote
@@ -50,11 +51,11 @@ module _ (room n : ℕ) (g : Given) where
     unfolding writeBinary
     binary-writing = binary-written _ n w
 
-    binary-calls : (front rest : List ℕ) → length (front ++ (itemOf g ++ rest)) ≤ binary .limit
-        → BinaryReads (front ++ (itemOf g ++ rest)) (length front) g n
-    binary-calls front rest l =
+    binary-calls : (for-text : ℕ) (front rest : List ℕ) → length (front ++ (itemOf g ++ rest)) ≤ binary .limit
+        → length (textGiven g) ≤ for-text → BinaryReads (front ++ (itemOf g ++ rest)) (length front) for-text g n
+    binary-calls for-text front rest l f =
         let e = drop-append-seam front (itemOf g ++ rest) in
-        C.binary-by (front ++ (itemOf g ++ rest)) (length front) g n (S.tag-count 3 room n g binary-writing) l
+        C.binary-by (front ++ (itemOf g ++ rest)) (length front) for-text g n (S.tag-count 3 room n g binary-writing) l f
         (rw (e, take-at (itemOf g) rest (n * 3) (S.written-length 3 room n g binary-writing)) (S.written-below 3 room n g binary-writing))
         (rw e (S.binary-reads 3 room n g binary-writing rest))
 
@@ -71,14 +72,14 @@ module _ (room n : ℕ) (g : Given) where
 
 -- in the buffer that was written to, bytes behind staying
 module _ (n : ℕ) (g : Given) (d : List ℕ) where
-  binary-buffer : BinaryAccepts g (length d) n → length d ≤ binary .limit
-      → BinaryReads (binaryBuffer g d) 0 g n
+  binary-buffer : (for-text : ℕ) → BinaryAccepts g (length d) n → length d ≤ binary .limit → length (textGiven g) ≤ for-text
+      → BinaryReads (binaryBuffer g d) 0 for-text g n
   unfolding binaryItemLeft
-  binary-buffer w l =
+  binary-buffer for-text w l f =
       let v = binary-writing (length d) n g w in
       let size : length (itemOf g ++ drop (n * 3) d) ≤ binary .limit =
       rw (length-append, length-drop) (omega (arith, S.written-length 3 (length d) n g v, S.room-there 3 (length d) n g v)) in
-      rw w (binary-calls (length d) n g w [] (drop (n * 3) d) size)
+      rw w (binary-calls (length d) n g w for-text [] (drop (n * 3) d) size f)
 
   text-buffer : (for-raw : ℕ) → TextAccepts g (length d) n → length d ≤ text .limit → length (g .raw) ≤ for-raw
       → TextReads (textBuffer g d) 0 for-raw g n
@@ -97,9 +98,9 @@ written-reads = record {
   sizes = λ u room n g w. (S.written-length u room n g w, S.written-below u room n g w);
   binary-sextets = λ room n g rest w. S.binary-reads 3 room n g w rest;
   text-sextets = λ room n g rest w. S.text-reads 4 room n g w rest;
-  binary-calls = λ room n g front rest w. binary-calls room n g w front rest;
+  binary-calls = λ room n for-text g front rest w. binary-calls room n g w for-text front rest;
   text-calls = λ room n for-raw g front rest w. text-calls room n g w for-raw front rest;
-  binary-buffer = binary-buffer;
+  binary-buffer = λ n for-text g d. binary-buffer n g d for-text;
   text-buffer = λ n for-raw g d. text-buffer n g d for-raw;
 }
 
@@ -127,4 +128,5 @@ proved = record {
   limits = limits;
   orders = orders;
   spelling = spelling;
+  text-parts = text-parts;
 }

@@ -15,14 +15,14 @@ use Rattle.format.specs.Units.{textSextets, binarySextets}
 use Rattle.format.specs.Judging.{prepadRight}
 use Rattle.format.specs.Values.{bytesIn, rawStart, rawOf, tagOf}
 use Rattle.format.specs.Reading.{codeOf, tagsOf}
-use Rattle.format.specs.Writing.{row, rawSize, fitsRow, rawPrefix, rowPrefix, isNamed, isFit, isShort, itemBytes, unitsOf}
+use Rattle.format.specs.Writing.{row, rawSize, fitsRow, rawPrefix, rowPrefix, isNamed, isFit, isShort, charsOf, charsFor, beginsRight, itemBytes, unitsOf}
 use Rattle.laws.specs.Conversion.{binary-below}
 use Rattle.laws.specs.Values.{binary-bytes, raw-inside}
 use Rattle.roundtrip.specs.Bytes.{quad-of, no-length, bytes-length, binary-length}
 use Rattle.roundtrip.specs.Rows.{Row}
 use Rattle.roundtrip.specs.Prefix.{code-fronts}
 use Rattle.roundtrip.specs.Own.{Own}
-use Rattle.roundtrip.specs.Words.{Writes, Made}
+use Rattle.roundtrip.specs.Words.{Writes, Made, fixed-text, fixed-value}
 
 module _ (c : CodeRow) (n : ℕ) (r : Row c n) (t : c .tag ≡ 0) where
   some : 0 < n
@@ -54,7 +54,7 @@ module _ (c : CodeRow) (n : ℕ) (r : Row c n) (t : c .tag ≡ 0) where
 
   pub raw-writes : (h : ℕ) (s : List ℕ) → Own (Fixed c) h n s
       → Writes (row c) (tagOf (Fixed c) s) (tagsOf (Fixed c)) (rawOf (Fixed c) h s) n s
-  unfolding tagsOf rawOf rawStart isNamed isShort unitsOf itemBytes textSextets
+  unfolding tagsOf rawOf rawStart isNamed isShort charsOf charsFor beginsRight unitsOf itemBytes textSextets
   raw-writes h s o =
       let f = o .form in
       let e = o .size in
@@ -67,7 +67,9 @@ module _ (c : CodeRow) (n : ℕ) (r : Row c n) (t : c .tag ≡ 0) where
         fits = fits (drop m (bytesIn s)) l;
         shortest = refl;
         count = rw (no-tag s, t);
+        many = rw (no-tag s, t);
         alphabet = rw (no-tag s) none;
+        begins = refl;
         units = omega (arith, r .units);
         bytes = ap (λ (x : List ℕ). x ++ drop m (bytesIn s)) (prefix-is (tagOf (Fixed c) s) ∙ sym p) ∙ take-append-drop m (bytesIn s);
       }
@@ -100,6 +102,7 @@ module _ (c : CodeRow) (n : ℕ) (r : Row c n) (t : c .tag ≡ 0) where
         code = refl;
         tagged = no-tag s ∙ sym (no-length tag (el ∙ et ∙ t));
         count = sym et;
-        value = ap (drop m) bytes ∙ drop-at (rawPrefix c) raw m prefix-length;
+        text = fixed-text c 1 s;
+        value = fixed-value c 1 s ∙ ap (drop m) bytes ∙ drop-at (rawPrefix c) raw m prefix-length;
         bytes = ap (λ (x : List ℕ). x ++ raw) (prefix-is tag) ∙ sym bytes;
       }

@@ -262,7 +262,7 @@ own-judges (Fixed c) h n s o =
     rw (scan-below _ (below-drop 64 (4 * h) s (o .low)), f .zeros, f .prepad)
 own-judges (Variable t l m) h n s o =
     let f = o .form in
-    rw (scan-below _ (below-drop 64 (4 * h) s (o .low)), f .shortest, f .led, f .zeros)
+    rw (scan-below _ (below-drop 64 (4 * h) s (o .low)), f .shortest, f .led, f .zeros, f .right)
 own-judges (Group l) h n s o = absurd (o .form)
 own-judges Genus h n s o = absurd (o .form)
 
@@ -318,6 +318,7 @@ own-by (Variable t l m) h n s e p g f j =
     let a = both-accept _ _ j in
     let w = both-accept _ _ (a .1) in
     let b = both-accept _ _ (w .1) in
+    let z = both-accept _ _ (b .1) in
     record {
       size = e;
       low = own-low s h (g .some) (g .few) (omega (arith, g .inside)) (f .0) (low-scan _ (shifted (4 * h) _ (a .0)));
@@ -328,7 +329,8 @@ own-by (Variable t l m) h n s e p g f j =
         head = f .2;
         shortest = passes 18 _ (w .0);
         led = passes 9 _ (b .0);
-        zeros = passes 8 _ (b .1);
+        zeros = passes 8 _ (z .0);
+        right = passes 16 _ (z .1);
       };
     }
 own-by (Group l) h n s e p g f j = let z : _≡_ {A = ℕ} 0 1 = cc in absurd (omega arith)

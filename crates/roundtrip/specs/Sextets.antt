@@ -18,42 +18,47 @@ use Rattle.format.specs.Alphabet.{sextetOf}
 use Rattle.format.specs.Units.{text, binary, textSextets, binarySextets}
 use Rattle.format.specs.Offsets.{textOffset, binaryOffset}
 use Rattle.format.specs.Conversion.{toBinary, toText, firstStranger, textToBinary, binaryToText}
-use Rattle.format.specs.Values.{bytesIn, rawOf, tagOf}
+use Rattle.format.specs.Values.{bytesIn, textIn, valueOf, tagOf}
 use Rattle.format.specs.Reading.{codeOf, tagsOf, found, reading, padded}
-use Rattle.format.specs.Writing.{Named, named, Writing, refused, written, writing, writtenBytes, isNamed, isFit, isShort, unitsOf}
+use Rattle.format.specs.Writing.{Named, unknown, row, variable, textual, named, Writing, refused, written, writing, writtenBytes}
+use Rattle.format.specs.Writing.{isNamed, isFit, isShort, charsOf, charsFor, beginsRight, unitsOf}
 use Rattle.format.specs.Writing.{textOutcome, binaryOutcome, writeText, writeBinary}
 use Rattle.laws.specs.Conversion.{length-to-text, binary-to-text-sextets, text-below, binary-back, no-stranger, all-known}
 use Rattle.roundtrip.specs.Bytes.{bytes-length, bytes-in-below, sextets-join, sextets-back}
 use Rattle.roundtrip.specs.Own.{Own}
 use Rattle.roundtrip.specs.Reads.{own-reads, read-own}
 use Rattle.roundtrip.specs.Words.{nameOf, Made}
-use Rattle.roundtrip.specs.Writes.{own-named, own-writes, made, made-code}
+use Rattle.roundtrip.specs.Writes.{own-named, own-writes, text-fits, made, made-code}
 use Rattle.roundtrip.specs.Claims.{Given, tagGiven, itemOf, Accepts, Reads, WritesBack}
 
 -- ---- what an accepted write says
 
-pub record Accepted (u : ℕ) (name : Named) (tag : List ℕ) (tags raw room n : ℕ) : Type 0 where
+pub record Accepted (u : ℕ) (name : Named) (tag : List ℕ) (tags : ℕ) (raw : List ℕ) (room n : ℕ) : Type 0 where
   pub known : isNamed name ≡ true
-  pub fits : isFit name tags raw ≡ true
-  pub shortest : isShort name raw ≡ true
-  pub strangers : tags ≤ firstStranger (take tags tag)
-  pub units : unitsOf name raw ≡ n
-  pub there : unitsOf name raw * u ≤ room
+  pub fits : isFit name tags (length raw) ≡ true
+  pub shortest : isShort name (length raw) ≡ true
+  pub strangers : charsFor name tags (length raw) ≤ firstStranger (charsOf name (take tags tag) raw)
+  pub begins : beginsRight name raw ≡ true
+  pub units : unitsOf name (length raw) ≡ n
+  pub there : unitsOf name (length raw) * u ≤ room
 
 unwritten {ℓ} : {A : Type ℓ} (m p n : ℕ) → refused m p ≡ written n → A
 unwritten m p n e = let z : _≡_ {A = ℕ} 0 1 = cc in absurd (omega arith)
 
-pub accepted : (u : ℕ) (name : Named) (tag : List ℕ) (tags raw room n : ℕ) → writing u name tag tags raw room ≡ written n
-    → Accepted u name tag tags raw room n
+pub accepted : (u : ℕ) (name : Named) (tag : List ℕ) (tags : ℕ) (raw : List ℕ) (room n : ℕ)
+    → writing u name tag tags raw room ≡ written n → Accepted u name tag tags raw room n
 unfolding writing
 accepted u name tag tags raw room n =
     let P : Writing → Type 0 = λ w. w ≡ written n → Accepted u name tag tags raw room n in
+    let chars = charsOf name (take tags tag) raw in
     pick-by P (isNamed name) _ _
-    (λ a. pick-by P (isFit name tags raw) _ _
-    (λ b. pick-by P (isShort name raw) _ _
-    (λ s. pick-by P (ltb (firstStranger (take tags tag)) tags) _ _ (λ _. unwritten _ _ n)
-    (λ c. pick-by P (ltb room (unitsOf name raw * u)) _ _ (λ _. unwritten 3 0 n)
-    (λ r e. record { known = a; fits = b; shortest = s; strangers = ltb-false _ tags c; units = cc; there = ltb-false room _ r })))
+    (λ a. pick-by P (isFit name tags (length raw)) _ _
+    (λ b. pick-by P (isShort name (length raw)) _ _
+    (λ s. pick-by P (ltb (firstStranger chars) (charsFor name tags (length raw))) _ _ (λ _. unwritten _ _ n)
+    (λ c. pick-by P (beginsRight name raw) _ _
+    (λ d. pick-by P (ltb room (unitsOf name (length raw) * u)) _ _ (λ _. unwritten 3 0 n)
+    (λ r e. record { known = a; fits = b; shortest = s; strangers = ltb-false _ _ c; begins = d; units = cc; there = ltb-false room _ r }))
+    (λ _. unwritten 16 0 n)))
     (λ _. unwritten 18 0 n))
     (λ _. unwritten 12 0 n))
     (λ _. unwritten 6 0 n)
@@ -68,23 +73,40 @@ text-join : (x y : List ℕ) → textSextets (x ++ y) ≡ textSextets x ++ textS
 unfolding textSextets
 text-join x y = map-join sextetOf x y
 
+by-tags : (tag : List ℕ) (tags : ℕ) → tags ≤ firstStranger (take tags tag)
+    → (length (take tags tag) ≡ tags) × (length (take tags tag) ≤ firstStranger (take tags tag))
+by-tags tag tags h =
+    let i = stranger-inside (take tags tag) in
+    let l = length-take tags tag in
+    (omega arith, omega arith)
+
+-- as many tag characters as are said to be there, and as many of a text
+counted : (name : Named) (tag : List ℕ) (tags : ℕ) (raw : List ℕ) → isFit name tags (length raw) ≡ true
+    → charsFor name tags (length raw) ≤ firstStranger (charsOf name (take tags tag) raw)
+    → (length (take tags tag) ≡ tags) × (length (charsOf name (take tags tag) raw) ≤ firstStranger (charsOf name (take tags tag) raw))
+unfolding isFit charsOf charsFor
+counted unknown tag tags raw e h = let z : _≡_ {A = ℕ} 0 1 = cc in absurd (omega arith)
+counted (row c) tag tags raw e h = by-tags tag tags h
+counted (variable t k) tag tags raw e h = by-tags tag tags h
+counted (textual k) tag tags raw e h = (rw (text-fits k tags (length raw) e .0), h)
+
 -- ---- what is written, then read
 
 module _ (u room n : ℕ) (g : Given) (w : Accepts u g room n) where
-  fits : Accepted u (named (g .code)) (g .tag) (g .tags) (length (g .raw)) room n
-  fits = accepted u (named (g .code)) (g .tag) (g .tags) (length (g .raw)) room n w
+  fits : Accepted u (named (g .code)) (g .tag) (g .tags) (g .raw) room n
+  fits = accepted u (named (g .code)) (g .tag) (g .tags) (g .raw) room n w
 
   pub room-there : n * u ≤ room
   room-there = rw (fits .units) at (fits .there)
 
   -- as many tag characters as are said to be there
   pub tag-count : length (tagGiven g) ≡ g .tags
-  tag-count = omega (arith, fits .strangers, stranger-inside (tagGiven g), length-take (g .tags) (g .tag))
+  tag-count = counted (named (g .code)) (g .tag) (g .tags) (g .raw) (fits .fits) (fits .strangers) .0
 
   item : Made (named (g .code)) (tagGiven g) (g .tags) (g .raw)
   item =
-      made (tagGiven g) (g .raw) (g .tags) tag-count (all-known (tagGiven g) (omega (arith, fits .strangers, tag-count))) (g .bytes)
-      (g .code) (fits .fits) (fits .shortest)
+      made (tagGiven g) (g .raw) (g .tags) tag-count (g .bytes) (g .code) (fits .fits) (fits .shortest)
+      (all-known _ (counted (named (g .code)) (g .tag) (g .tags) (g .raw) (fits .fits) (fits .strangers) .1)) (fits .begins)
 
   size-is : item .size ≡ n
   size-is = sym (item .units) ∙ fits .units
@@ -115,7 +137,8 @@ module _ (u room n : ℕ) (g : Given) (w : Accepts u g room n) where
         reads = ap reading e ∙ own-reads (item .kind) (item .head) n (item .sextets) rest own;
         code-back = item .code ∙ made-code (g .code) (fits .known);
         tag-back = ap (tagOf (item .kind)) front ∙ item .tagged;
-        raw-back = ap (rawOf (item .kind) (item .head)) front ∙ item .value;
+        raw-back = ap (valueOf (item .kind) (item .head)) front ∙ item .value;
+        text-back = ap (textIn (item .kind) (item .head)) front ∙ item .text;
       }
 
   pub binary-reads : (rest : List ℕ) → Reads (binarySextets (itemOf g ++ rest)) g n
@@ -169,7 +192,7 @@ module _ (u room n : ℕ) (g : Given) (w : Accepts u g room n) where
 -- ---- what is read, then written
 
 pub reads-written : (s : List ℕ) (k : Kind) (h n : ℕ) → reading s ≡ found k h n → n ≤ 1048576
-    → let own = take (4 * n) s in WritesBack (codeOf k h) (padded (tagOf k own)) (tagsOf k) (rawOf k h own) n (bytesIn own)
+    → let own = take (4 * n) s in WritesBack (codeOf k h) (padded (tagOf k own)) (tagsOf k) (valueOf k h own) n (bytesIn own)
 unfolding padded writing writtenBytes writeBinary writeText binaryOutcome textOutcome
 reads-written s k h n e few =
     let own = take (4 * n) s in
@@ -178,7 +201,7 @@ reads-written s k h n e few =
     let name : named (codeOf k h) ≡ nameOf k h = own-named k h n own o in
     let tag : take (tagsOf k) (padded (tagOf k own)) ≡ tagOf k own = take-at (tagOf k own) _ (tagsOf k) (w .count) in
     let accepts : (u room : ℕ) → n * u ≤ room
-    → writing u (named (codeOf k h)) (padded (tagOf k own)) (tagsOf k) (length (rawOf k h own)) room ≡ written n =
+    → writing u (named (codeOf k h)) (padded (tagOf k own)) (tagsOf k) (valueOf k h own) room ≡ written n =
     λ u room r.
     rw (
       name,
@@ -186,7 +209,9 @@ reads-written s k h n e few =
       w .fits,
       w .shortest,
       tag,
-      le-ltb (firstStranger (tagOf k own)) (tagsOf k) (omega (arith, no-stranger (tagOf k own) (w .alphabet), w .count)),
+      le-ltb (firstStranger (charsOf (nameOf k h) (tagOf k own) (valueOf k h own))) (charsFor (nameOf k h) (tagsOf k) (length (valueOf k h own)))
+          (omega (arith, no-stranger (charsOf (nameOf k h) (tagOf k own) (valueOf k h own)) (w .alphabet), w .many)),
+      w .begins,
       w .units,
       le-ltb room (n * u) r,
     ) in

@@ -21,7 +21,7 @@ use Rattle.format.specs.Units.{bytesOf, textSextets}
 use Rattle.format.specs.Judging.{prepadRight}
 use Rattle.format.specs.Values.{bytesIn, rawStart, rawOf, tagOf}
 use Rattle.format.specs.Reading.{codeOf, tagsOf}
-use Rattle.format.specs.Writing.{row, rawSize, fitsRow, codeSextets, tagPrefix, rowPrefix, isNamed, isFit, isShort, itemBytes, unitsOf}
+use Rattle.format.specs.Writing.{row, rawSize, fitsRow, codeSextets, tagPrefix, rowPrefix, isNamed, isFit, isShort, charsOf, charsFor, beginsRight, itemBytes, unitsOf}
 use Rattle.laws.specs.Alphabet.{sextet-char}
 use Rattle.laws.specs.Units.{chars-back}
 use Rattle.laws.specs.Registry.{Code, one, two, four, Tag}
@@ -29,7 +29,7 @@ use Rattle.roundtrip.specs.Bytes.{no-length, bytes-length}
 use Rattle.roundtrip.specs.Rows.{Row}
 use Rattle.roundtrip.specs.Prefix.{no-bits}
 use Rattle.roundtrip.specs.Own.{Own}
-use Rattle.roundtrip.specs.Words.{Writes, Made}
+use Rattle.roundtrip.specs.Words.{Writes, Made, fixed-text, fixed-value}
 
 code-length : (c : CodeRow) → Code c → length (codeSextets c) ≡ c .chars
 unfolding codeSextets
@@ -157,7 +157,8 @@ module _ (c : CodeRow) (n : ℕ) (r : Row c n) (t : c .tag ≡ 0 → ⊥) where
         code = refl;
         tagged = spelled-tag tag l low;
         count = sym et;
-        value = no-raw 1 (spelled tag) (o .size) ∙ sym nothing;
+        text = fixed-text c 1 (spelled tag);
+        value = fixed-value c 1 (spelled tag) ∙ no-raw 1 (spelled tag) (o .size) ∙ sym nothing;
         bytes = rw nothing (append-nil (rowPrefix c tag)) ∙ spelled-bytes tag l;
       }
 
@@ -194,7 +195,7 @@ module _ (c : CodeRow) (n : ℕ) (r : Row c n) (t : c .tag ≡ 0 → ⊥) where
         sym (take-append-drop (c .chars) s) ∙ rw (o .form .code, d, tag-back)
 
     pub tag-writes : Writes (row c) (tagOf (Fixed c) s) (tagsOf (Fixed c)) (rawOf (Fixed c) h s) n s
-    unfolding tagsOf isNamed isFit isShort fitsRow unitsOf itemBytes textSextets
+    unfolding tagsOf isNamed isFit isShort charsOf charsFor beginsRight fitsRow unitsOf itemBytes textSextets
     tag-writes =
         let nothing = no-raw h s (o .size) in
         record {
@@ -202,7 +203,9 @@ module _ (c : CodeRow) (n : ℕ) (r : Row c n) (t : c .tag ≡ 0 → ⊥) where
           fits = rw (nothing, eq-eqb (c .tag) (c .tag) refl, raw-size);
           shortest = refl;
           count = tag-length;
+          many = tag-length;
           alphabet = rw tag-back rest-low;
+          begins = refl;
           units = omega (arith, r .units);
           bytes = rw nothing (append-nil (rowPrefix c (tagOf (Fixed c) s))) ∙ spelled-bytes (tagOf (Fixed c) s) tag-length
               ∙ ap bytesIn (sym own-spelled);

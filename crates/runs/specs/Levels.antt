@@ -37,7 +37,7 @@ use Rattle.runs.specs.Opened.{Opens, Plain, plain-opens, sized-opens, gr
 abbrev pub Clear : List ℕ → ℕ → ℕ → Type 0
 Clear s at to = (i : ℕ) → 4 * at ≤ i → i < 4 * to → sextet s i < 64
 
-part-at : (s : List ℕ) (at stop i : ℕ) → 4 * at + i < 4 * stop → sextet (part s at stop) i ≡ sextet s (4 * at + i)
+pub part-at : (s : List ℕ) (at stop i : ℕ) → 4 * at + i < 4 * stop → sextet (part s at stop) i ≡ sextet s (4 * at + i)
 part-at s at stop i h = getD-drop (4 * at) (take (4 * stop) s) i 0 ∙ getD-take (4 * stop) s (4 * at + i) 0 h
 
 pub clear-part : (s : List ℕ) (at to x y : ℕ) → Clear s at to → at ≤ x → y ≤ to → Below 64 (part s x y)
@@ -53,13 +53,13 @@ pub clear-below : (s : List ℕ) (at to : ℕ) → Below 64 s → Clear s at to
 clear-below s at to b i p q = ⊎-elim (below-at 64 s b i) (λ h. rw (List·getD-eq-default s 0 {n = i} h) (omega arith)) (lt-or-ge i (length s))
 
 -- the four sextets of a first unit
-abbrev Head : List ℕ → Type 0
+abbrev pub Head : List ℕ → Type 0
 Head x = (i : ℕ) → i < 4 → sextet x i < 64
 
 head-known : (x : List ℕ) → Head x → Known (sextet x) 0
 head-known x h = (lt-ltb _ _ (h 0 (omega arith)), lt-ltb _ _ (h 1 (omega arith)), lt-ltb _ _ (h 2 (omega arith)), lt-ltb _ _ (h 3 (omega arith)))
 
-part-head : (s : List ℕ) (at stop to : ℕ) → Clear s at to → at < stop → at < to → Head (part s at stop)
+pub part-head : (s : List ℕ) (at stop to : ℕ) → Clear s at to → at < stop → at < to → Head (part s at stop)
 part-head s at stop to k h l i q = rw (part-at s at stop i (omega arith)) (k (4 * at + i) (omega arith) (omega arith))
 
 drop-head : (s : List ℕ) (at to : ℕ) → Clear s at to → at < to → Head (drop (4 * at) s)
@@ -67,7 +67,7 @@ drop-head s at to k l i q = rw (getD-drop (4 * at) s i 0) (k (4 * at + i) (omega
 
 -- ---- a unit that is told
 
-told : (f : ℕ → ℕ → ℕ → ℕ → ℕ) (s : List ℕ) (at n : ℕ) → unitBy f s at ≡ n → 0 < n
+pub told : (f : ℕ → ℕ → ℕ → ℕ → ℕ) (s : List ℕ) (at n : ℕ) → unitBy f s at ≡ n → 0 < n
     → f (sextet s (4 * at)) (sextet s (4 * at + 1)) (sextet s (4 * at + 2)) (sextet s (4 * at + 3)) ≡ n
 unfolding unitBy
 told f s at n e p = go (ltb at (length s / 4)) e
@@ -81,7 +81,7 @@ five : (f : ℕ → ℕ → ℕ → ℕ → ℕ) {a b c d x y z w n : ℕ} → a
 five f p q r s e = cc
 
 -- a rule of a unit, read from a part that starts with it
-told-part : (f : ℕ → ℕ → ℕ → ℕ → ℕ) (s : List ℕ) (at stop n : ℕ) → unitBy f s at ≡ n → 0 < n → at < stop
+pub told-part : (f : ℕ → ℕ → ℕ → ℕ → ℕ) (s : List ℕ) (at stop n : ℕ) → unitBy f s at ≡ n → 0 < n → at < stop
     → f (sextet (part s at stop) 0) (sextet (part s at stop) 1) (sextet (part s at stop) 2) (sextet (part s at stop) 3) ≡ n
 told-part f s at stop n e p h =
     let z : 4 * at + 0 ≡ 4 * at = omega arith in
@@ -97,12 +97,12 @@ told-drop f s at n e p =
 
 -- ---- framing by a first unit
 
-frame-short : (x : List ℕ) (k : Kind) (n : ℕ) → Head x → opening (sextet x 0) (sextet x 1) (sextet x 2) (sextet x 3) ≡ Short k n
+pub frame-short : (x : List ℕ) (k : Kind) (n : ℕ) → Head x → opening (sextet x 0) (sextet x 1) (sextet x 2) (sextet x 3) ≡ Short k n
     → 0 < n → n ≤ length x / 4 → frame x ≡ Item k 1 n
 unfolding frame frameWith headed fit
 frame-short x k n h o p room = rw (le-ltb (length x / 4) 1 (omega arith), known-next (sextet x) 0 _ (head-known x h), o, le-ltb (length x / 4) n room)
 
-next-short : (first : Bool) (x : List ℕ) (k : Kind) (n : ℕ) → ((at : ℕ → ℕ) (h m : ℕ) → ruled at (Item k h m) ≡ Item k h m) → frame x ≡ Item k 1 n
+pub next-short : (first : Bool) (x : List ℕ) (k : Kind) (n : ℕ) → ((at : ℕ → ℕ) (h m : ℕ) → ruled at (Item k h m) ≡ Item k h m) → frame x ≡ Item k 1 n
     → frameNext first x ≡ Item k 1 n
 unfolding frameRuled
 next-short true x k n r e = rw e (r (sextet x) 1 n)
@@ -174,7 +174,7 @@ inside-group s at n (suc m) letter p o =
     rw (o, z, shift-shift, y, part-drop s at 1 (at + n))
 
 module _ (s : List ℕ) (l : ℕ) (stop : ℕ) (long : 4 * stop ≤ length s) where
-  in-part : (at n : ℕ) → at + n ≤ stop → n ≤ length (part s at stop) / 4
+  pub in-part : (at n : ℕ) → at + n ≤ stop → n ≤ length (part s at stop) / 4
   in-part at n h = omega (arith, part-length s at stop long)
 
   -- a plain primitive is accepted whole, and leaves the rest

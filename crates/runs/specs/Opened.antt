@@ -20,16 +20,17 @@ use Rattle.format.specs.declared.Opening.the-variants.{Unknown, Short, LargeVar
 use Rattle.format.specs.declared.Framed.the-variants.{Item}
 use Rattle.format.specs.declared.Verdict.{Verdict}
 use Rattle.format.specs.declared.Verdict.the-variants.{Accepted}
-use Rattle.format.specs.Registry.{fixed, isType, isGroup, isOpaque, zeroBitsOf, prepadOf, opening}
+use Rattle.format.specs.Registry.{fixed, isType, isText, isGroup, isOpaque, zeroBitsOf, prepadOf, opening}
 use Rattle.format.specs.Framing.{sextet, ruled}
+use Rattle.format.specs.Texts.{valueRight}
 use Rattle.format.specs.Judging.{shift, andThen, unless, isShortest, behind, hasLead, zeroBits, prepadRight, judgeKind}
 use Rattle.laws.specs.Scan.{scan-below}
 use Rattle.laws.specs.Registry.{Finds, fixed-finds}
-use Rattle.runs.specs.Plain.{limitOf, plainRow, rowsOf, plainTable, rowOf, rowAA, typed, lettered, limited, sizedOf, plainOf, groupOf}
+use Rattle.runs.specs.Plain.{limitOf, plainRow, rowsOf, plainTable, rowOf, rowAA, typed, notText, lettered, limited, sizedOf, plainOf, groupOf}
 
 -- ---- choices that are not 0
 
-some-then : (b : Bool) (m n : ℕ) → pick b m 0 ≡ n → 0 < n → (b ≡ true) × (m ≡ n)
+pub some-then : (b : Bool) (m n : ℕ) → pick b m 0 ≡ n → 0 < n → (b ≡ true) × (m ≡ n)
 some-then true m n e p = (refl, e)
 some-then false m n e p = absurd (omega arith)
 
@@ -128,7 +129,7 @@ pub record Plain (a b c d n : ℕ) : Type 0 where
   pub accepts : (own : List ℕ) → sextet own 1 ≡ b → sextet own 2 ≡ c → Below 64 own → (inner : ℕ → ℕ → List ℕ → Verdict)
       → judgeKind (told .kind) 1 own inner ≡ Accepted
 
-all-low : (x : List ℕ) → Below 64 x → (i : ℕ) → sextet x i < 64
+pub all-low : (x : List ℕ) → Below 64 x → (i : ℕ) → sextet x i < 64
 all-low x b i = ⊎-elim (below-at 64 x b i) (λ h. rw (List·getD-eq-default x 0 {n = i} h) (omega arith)) (lt-or-ge i (length x))
 
 fixed-accepts : (row : CodeRow) (own : List ℕ) → prepadOf row ≡ 0 → zeroBits own (row .chars) (zeroBitsOf row) ≡ true → Below 64 own
@@ -136,10 +137,18 @@ fixed-accepts : (row : CodeRow) (own : List ℕ) → prepadOf row ≡ 0 → zero
 unfolding judgeKind behind prepadRight unless andThen shift
 fixed-accepts row own e z b inner = rw (scan-below (drop 4 own) (below-drop 64 4 own b), z, eq-eqb (prepadOf row) 0 e)
 
-variable-accepts : (t m : ℕ) (own : List ℕ) → Below 64 own → (inner : ℕ → ℕ → List ℕ → Verdict) → judgeKind (Variable t 0 m) 1 own inner ≡ Accepted
-unfolding judgeKind isShortest behind hasLead zeroBits unless andThen shift
-variable-accepts t m own b inner =
-    rw (scan-below (drop 4 own) (below-drop 64 4 own b), zero-by 0 (sextet own 4) (sextet own 5) (sextet own 6) (omega arith) (all-low own b 4) (all-low own b 5) (all-low own b 6))
+-- a small variable value, of which 9, 8 and 16 ask nothing
+pub variable-accepts : (t lead m : ℕ) (own : List ℕ) → hasLead lead m ≡ true → zeroBits own 4 (8 * lead) ≡ true → valueRight t lead (drop 4 own) ≡ true
+    → Below 64 own → (inner : ℕ → ℕ → List ℕ → Verdict) → judgeKind (Variable t lead m) 1 own inner ≡ Accepted
+unfolding judgeKind isShortest behind unless andThen shift
+variable-accepts t lead m own e z v b inner = rw (scan-below (drop 4 own) (below-drop 64 4 own b), e, z, v)
+
+bytes-accepts : (t m : ℕ) (own : List ℕ) → isText t ≡ false → Below 64 own → (inner : ℕ → ℕ → List ℕ → Verdict)
+    → judgeKind (Variable t 0 m) 1 own inner ≡ Accepted
+unfolding hasLead zeroBits valueRight
+bytes-accepts t m own e b inner =
+    variable-accepts t 0 m own refl
+    (zero-by 0 (sextet own 4) (sextet own 5) (sextet own 6) (omega arith) (all-low own b 4) (all-low own b 5) (all-low own b 6)) (rw e) b inner
 
 -- ---- the table
 
@@ -223,15 +232,16 @@ module _ (a b c d n : ℕ) (p : 0 < n) (la : a < 64) (lb : b < 64) (ld : d < 64)
       fixed-plain 4 d 63 r (rw (f, g, t, q .0, q .1))
       (λ s x y k. zero-by (zeroBitsOf (r .row)) (sextet s 4) _ _ (r .few) (omega (arith, all-low s k 4, r .low)) (all-low s k 5) (all-low s k 6))
 
-  variable-plain : eqb a 56 ≡ true → typed b c d ≡ n → Plain a b c d n
-  unfolding opening typed ruled
+  variable-plain : eqb a 56 ≡ true → notText b c d ≡ n → Plain a b c d n
+  unfolding opening notText typed ruled
   variable-plain t e =
-      let q = some-then (isType b) _ n e p in
+      let x = some-else (isText b) _ n e p in
+      let q = some-then (isType b) _ n (x .1) p in
       let is : a ≡ 56 = eqb-true _ _ t in
       let s = q .1 in
       record {
         told = record { kind = Variable b 0 (c * 64 + d); ruleless = λ at h m. refl; opens = rw (is, q .0, s) };
-        accepts = λ own y w k inner. variable-accepts b (c * 64 + d) own k inner;
+        accepts = λ own y w k inner. bytes-accepts b (c * 64 + d) own (x .0) k inner;
       }
 
   pub plain-opens : plainOf plainTable a b c d ≡ n → Plain a b c d n
@@ -239,7 +249,7 @@ module _ (a b c d n : ℕ) (p : 0 < n) (la : a < 64) (lb : b < 64) (ld : d < 64)
   plain-opens e = go (ltb a 52) (eqb a 52) (eqb a 53) (eqb a 56) refl refl refl refl e
     where
       go : (x y z w : Bool) → ltb a 52 ≡ x → eqb a 52 ≡ y → eqb a 53 ≡ z → eqb a 56 ≡ w
-          → pick x (limited (rowOf plainTable 0 a) b) (pick y (limited (rowOf plainTable 1 b) c) (pick z (limited (rowAA plainTable b c d) 63) (pick w (typed b c d) 0))) ≡ n
+          → pick x (limited (rowOf plainTable 0 a) b) (pick y (limited (rowOf plainTable 1 b) c) (pick z (limited (rowAA plainTable b c d) 63) (pick w (notText b c d) 0))) ≡ n
           → Plain a b c d n
       go true y z w s t u v q = one-plain s (rw (table-one a la) at q)
       go false true z w s t u v q = two-plain s t (rw (table-two b lb) at q)

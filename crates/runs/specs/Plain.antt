@@ -12,7 +12,7 @@ use Rattle.format.specs.declared.Kind.{Kind}
 use Rattle.format.specs.declared.Kind.the-variants.{Fixed, Variable, Group, Genus}
 use Rattle.format.specs.declared.Opening.{Opening}
 use Rattle.format.specs.declared.Opening.the-variants.{Unknown, Short, LargeVariable, LargeGroup, Version}
-use Rattle.format.specs.Registry.{fixed, isType, isGroup, isOpaque, isOverrideable, zeroBitsOf, prepadOf}
+use Rattle.format.specs.Registry.{fixed, isType, isText, isGroup, isOpaque, isOverrideable, zeroBitsOf, prepadOf}
 use Rattle.format.specs.Framing.{sextet}
 use Rattle.format.specs.Alphabet.{sextetOf}
 
@@ -63,6 +63,10 @@ counted c d = 1 + (c * 64 + d)
 unfoldable pub typed : ℕ → ℕ → ℕ → ℕ
 typed b c d = pick (isType b) (counted c d) 0
 
+-- and of another type than text: what 16 asks of a text stands behind the first unit
+unfoldable pub notText : ℕ → ℕ → ℕ → ℕ
+notText b c d = pick (isText b) 0 (typed b c d)
+
 -- a small group, by what is behind the `-`
 unfoldable pub lettered : ℕ → ℕ → ℕ → ℕ
 lettered b c d = pick (isGroup b) (counted c d) 0
@@ -84,7 +88,7 @@ plainOf rows a b c d =
     pick (ltb a 52) (limited (rowOf rows 0 a) b)
     (pick (eqb a 52) (limited (rowOf rows 1 b) c)
     (pick (eqb a 53) (limited (rowAA rows b c d) 63)
-    (pick (eqb a 56) (typed b c d) 0)))
+    (pick (eqb a 56) (notText b c d) 0)))
 
 -- the size in units of a small group whose contents are items; 0 for everything else
 unfoldable pub groupOf : ℕ → ℕ → ℕ → ℕ → ℕ

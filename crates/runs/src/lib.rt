@@ -3,7 +3,7 @@
 // items. The tables are lent, since naming a constant copies it.
 ghost use mathlib.Core.Path.{_≡_};
 ghost use Prim.Native.Nat.{_+_, _-_, _*_, _<_};
-ghost use Rattle.runs.specs.Plain.{plainTable, classTable, rowOf, rowAA, typed, lettered, limited, sizedOf, plainOf};
+ghost use Rattle.runs.specs.Plain.{plainTable, classTable, rowOf, rowAA, typed, notText, lettered, limited, sizedOf, plainOf};
 
 const ROWS: [u16; 192] = [
     1035,
@@ -527,13 +527,20 @@ pub fn counted(c: u8, d: u8) -> usize
 }
 
 // A small variable value, by what is behind the selector.
-fn typed(b: u8, c: u8, d: u8) -> usize
+pub fn typed(b: u8, c: u8, d: u8) -> usize
     ensures { λ r. ⌜ r ≡ typed b c d ⌝ }
 {
     if b < 6 {
         return counted(c, d);
     }
     if b == 7 { counted(c, d) } else { 0 }
+}
+
+// And of another type than text.
+fn not_text(b: u8, c: u8, d: u8) -> usize
+    ensures { λ r. ⌜ r ≡ notText b c d ⌝ }
+{
+    if b == 0 { 0 } else { typed(b, c, d) }
 }
 
 // A small group, by what is behind the `-`.
@@ -584,7 +591,7 @@ pub fn plain(rows: &[u16; 192], a: u8, b: u8, c: u8, d: u8) -> usize
     if a == 53 {
         return limited(row_aa(rows, b, c, d), 63);
     }
-    if a == 56 { typed(b, c, d) } else { 0 }
+    if a == 56 { not_text(b, c, d) } else { 0 }
 }
 
 // How far a number is beyond another; 0 where it is not.

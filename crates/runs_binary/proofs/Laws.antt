@@ -15,6 +15,7 @@ use Rattle.laws.specs.Domains.{binary-reader}
 use Rattle.laws.specs.Local.{binary-sextet}
 use Rattle.runs.specs.Plain.{groupOf, opensBy, unitBy, groupAt, marksAt}
 use Rattle.runs.specs.Units.{unit-at, unit-past}
+use Rattle.runs_value.specs.Values.{unitNumber, isSelector, valuedOf, other-valued, numberAt, valuedAt}
 
 abbrev Bytes : List ℕ → Type 0
 Bytes s = (i : ℕ) → getD s i 0 < 256
@@ -67,3 +68,26 @@ module _ (s : List ℕ) (at : ℕ) where
   pub marks-past : length s / 3 ≤ at → false ≡ marksAt (binarySextets s) at
   unfolding marksAt
   marks-past h = rw (binary-reader .units s, le-ltb _ _ h)
+
+-- ---- a value, by its bytes
+
+number-bytes : (x y z : ℕ) → y < 256 → z < 256
+    → (x * 256 + y) * 256 + z ≡ unitNumber (x / 4) (x % 4 * 16 + y / 16) (y % 16 * 4 + z / 64) (z % 64)
+number-bytes x y z h l = omega arith
+
+module _ (s : List ℕ) (at : ℕ) (h : at < length s / 3) (b : Bytes s) where
+  pub number-unit : {x y z : ℕ} → x ≡ getD s (3 * at) 0 → y ≡ getD s (3 * at + 1) 0 → z ≡ getD s (3 * at + 2) 0
+      → (x * 256 + y) * 256 + z ≡ numberAt (binarySextets s) at
+  number-unit p q r = rw (p, q, r) (number-bytes _ _ _ (b (3 * at + 1)) (b (3 * at + 2)) ∙ binary-unit unitNumber s at h b)
+
+  pub binary-valued : (v : ℕ) → v ≡ numberAt (binarySextets s) (at + 1) → (x y z : ℕ) → x ≡ getD s (3 * at) 0 → y ≡ getD s (3 * at + 1) 0
+      → z ≡ getD s (3 * at + 2) 0 → (c d : ℕ) → c ≡ x % 4 * 16 + y / 16 → d ≡ y % 16 * 4 + z / 64 → (r : ℕ) → r ≡ valuedOf v (x / 4) c d (z % 64)
+      → r ≡ valuedAt (binarySextets s) at
+  binary-valued v e x y z p q t c d k l r w =
+      w ∙ rw (k, l, p, q, t, e) (binary-unit (valuedOf (numberAt (binarySextets s) (at + 1))) s at h b)
+
+  -- none under `4` `5` `6`
+  pub binary-other : (y : Bool) → y ≡ isSelector (getD s (3 * at) 0 / 4) → y ≡ false → 0 ≡ valuedAt (binarySextets s) at
+  binary-other y e f =
+      other-valued (numberAt (binarySextets s) (at + 1)) _ _ _ _ (sym e ∙ f)
+      ∙ binary-unit (valuedOf (numberAt (binarySextets s) (at + 1))) s at h b

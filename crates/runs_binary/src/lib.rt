@@ -1,10 +1,11 @@
 // What the first unit at a position of a binary decides, sextet by sextet or byte by byte: sizes, plain primitives, small groups,
-// and which of these stand one in the other.
+// and which of these stand one in the other; and what it decides with the unit behind it: small variable values.
 ghost use mathlib.Core.Path.{_≡_};
-ghost use Prim.Native.Nat.{_/_, _<_};
+ghost use Prim.Native.Nat.{_+_, _*_, _/_, _%_, _<_};
 ghost use lib.ListN.{length, getD};
 ghost use Rattle.format.specs.Units.{binarySextets};
 ghost use Rattle.runs.specs.Plain.{sizedAt, plainAt, opensBy, groupAt, marksAt, nestedAt};
+ghost use Rattle.runs_value.specs.Values.{numberAt, valuedAt};
 
 fn wide(x: u8) -> usize
     ensures { λ r. ⌜ (r ≡ x) × (r < 256) ⌝ }
@@ -57,6 +58,59 @@ fn byte(s: &[u8], i: usize) -> usize
     ensures { λ r. ⌜ (r ≡ getD (now (s .entry)) i 0) × (r < 256) ⌝ }
 {
     wide(s[i])
+}
+
+// The unit at a position as a number, byte by byte; 0 past the end.
+fn number_binary(s: &[u8], at: usize) -> usize
+    ensures { λ r. ⌜ r ≡ numberAt (binarySextets (now (s .entry))) at ⌝ }
+{
+    if s.len() / 3 <= at {
+        return 0;
+    }
+    let i = 3 * at;
+    let x = byte(s, i);
+    let y = byte(s, i + 1);
+    let z = byte(s, i + 2);
+    (x * 256 + y) * 256 + z
+}
+
+// The second sextet of a unit, and the third.
+fn second(x: u8, y: u8) -> u8
+    ensures { λ r. ⌜ r ≡ x % 4 * 16 + y / 16 ⌝ }
+{
+    x % 4 * 16 + y / 16
+}
+
+fn third(y: u8, z: u8) -> u8
+    ensures { λ r. ⌜ r ≡ y % 16 * 4 + z / 64 ⌝ }
+{
+    y % 16 * 4 + z / 64
+}
+
+fn valued_in_binary(s: &[u8], at: usize) -> usize
+    requires { ⌜ at < length (now s) / 3 ⌝ }
+    ensures { λ r. ⌜ r ≡ valuedAt (binarySextets (now (s .entry))) at ⌝ }
+{
+    let v = number_binary(s, at + 1);
+    let i = 3 * at;
+    let x = s[i];
+    let y = s[i + 1];
+    let z = s[i + 2];
+    runs_value::valued(v, x / 4, second(x, y), third(y, z), z % 64)
+}
+
+// The size of a small variable value, by its header and the unit behind it, or 0.
+pub fn valued_binary(s: &[u8], at: usize) -> usize
+    ensures { λ r. ⌜ r ≡ valuedAt (binarySextets (now (s .entry))) at ⌝ }
+{
+    if s.len() / 3 <= at {
+        return 0;
+    }
+    if runs_value::is_selector(s[3 * at] / 4) {
+        valued_in_binary(s, at)
+    } else {
+        0
+    }
 }
 
 // A group whose contents are items, by its first two sextets.

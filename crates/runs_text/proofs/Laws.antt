@@ -1,5 +1,6 @@
 -- A unit of a text, its characters read by a table. Assumes nothing.
-use mathlib.Core.Path.{_≡_, sym, _∙_}
+use mathlib.Core.Path.{_≡_, refl, sym, _∙_}
+use mathlib.Core.Bool.{Bool, false}
 use mathlib.Core.List.{List}
 use Prim.Native.Nat.{ℕ, _+_, _*_, _/_, _≤_, _<_}
 use native.Mathlib.Omega.{arith}
@@ -7,6 +8,7 @@ use lib.ListN.{length, getD, length-map}
 use Rattle.base.specs.Lists.{getD-map-within}
 use Rattle.runs.specs.Plain.{unitBy, sextetsBy}
 use Rattle.runs.specs.Units.{unit-at, unit-past}
+use Rattle.runs_value.specs.Values.{isSelector, valuedOf, other-valued, numberAt, valuedAt}
 
 module _ (values s : List ℕ) where
   units : length (sextetsBy values s) ≡ length s
@@ -27,3 +29,16 @@ module _ (f : ℕ → ℕ → ℕ → ℕ → ℕ) (values s : List ℕ) (at : �
 
   pub text-past : length s / 4 ≤ at → 0 ≡ unitBy f (sextetsBy values s) at
   text-past h = unit-past f (sextetsBy values s) at (rw (units values s) h)
+
+-- ---- a small variable value
+
+module _ (values s : List ℕ) (at : ℕ) (h : at < length s / 4) (a : ℕ) (p : a ≡ getD values (getD s (4 * at) 0) 0) where
+  pub text-valued : (v b c d r : ℕ) → v ≡ numberAt (sextetsBy values s) (at + 1) → b ≡ getD values (getD s (4 * at + 1) 0) 0
+      → c ≡ getD values (getD s (4 * at + 2) 0) 0 → d ≡ getD values (getD s (4 * at + 3) 0) 0 → r ≡ valuedOf v a b c d → r ≡ valuedAt (sextetsBy values s) at
+  text-valued v b c d r e q t u w = w ∙ rw e (text-unit (valuedOf (numberAt (sextetsBy values s) (at + 1))) values s at h p q t u)
+
+  -- none under `4` `5` `6`
+  pub text-other : (y : Bool) → y ≡ isSelector a → y ≡ false → 0 ≡ valuedAt (sextetsBy values s) at
+  text-other y e f =
+      other-valued (numberAt (sextetsBy values s) (at + 1)) a _ _ _ (sym e ∙ f)
+      ∙ text-unit (valuedOf (numberAt (sextetsBy values s) (at + 1))) values s at h p refl refl refl

@@ -1,9 +1,11 @@
 // What the first unit at a position of a text decides, by its characters and the tables lent: sizes, plain primitives, small
-// groups, and which of these stand one in the other. Whether a character is known is not asked.
+// groups, and which of these stand one in the other; and what it decides with the unit behind it: small variable values. Whether a
+// character is known is not asked.
 ghost use mathlib.Core.Path.{_≡_};
 ghost use Prim.Native.Nat.{_/_, _<_};
 ghost use lib.ListN.{length, getD};
 ghost use Rattle.runs.specs.Plain.{sizedAt, plainAt, groupBy, marksBy, nestedAt, sextetsBy};
+ghost use Rattle.runs_value.specs.Values.{numberAt, valuedAt};
 
 fn wide(x: u8) -> usize
     ensures { λ r. ⌜ (r ≡ x) × (r < 256) ⌝ }
@@ -51,6 +53,44 @@ pub fn plain_text(values: &[u8; 256], rows: &[u16; 192], s: &[u8], at: usize) ->
         value(values, s, i + 2),
         value(values, s, i + 3),
     )
+}
+
+// The unit at a position as a number; 0 past the end.
+fn number_text(values: &[u8; 256], s: &[u8], at: usize) -> usize
+    ensures { λ r. ⌜ r ≡ numberAt (sextetsBy (now (values .entry)) (now (s .entry))) at ⌝ }
+{
+    if s.len() / 4 <= at {
+        return 0;
+    }
+    let i = 4 * at;
+    runs_value::number(
+        value(values, s, i),
+        value(values, s, i + 1),
+        value(values, s, i + 2),
+        value(values, s, i + 3),
+    )
+}
+
+// The size of a small variable value, by its header and the unit behind it, or 0.
+pub fn valued_text(values: &[u8; 256], s: &[u8], at: usize) -> usize
+    ensures { λ r. ⌜ r ≡ valuedAt (sextetsBy (now (values .entry)) (now (s .entry))) at ⌝ }
+{
+    if s.len() / 4 <= at {
+        return 0;
+    }
+    let i = 4 * at;
+    let a = value(values, s, i);
+    if runs_value::is_selector(a) {
+        let v = number_text(values, s, at + 1);
+        return runs_value::valued(
+            v,
+            a,
+            value(values, s, i + 1),
+            value(values, s, i + 2),
+            value(values, s, i + 3),
+        );
+    }
+    0
 }
 
 // By the characters themselves, which saves look-ups: 45 is `-`.

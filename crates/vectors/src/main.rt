@@ -3,13 +3,14 @@
 //
 // A record: the call (1 byte), the room lent (2 bytes, big-endian), the input's length (2), the input. A line of output: the call,
 // the number (0: accepted), the length or place, and the whole lent buffer in hexadecimal, which held AA before. To read a primitive
-// the input is the offset (2 bytes) and the stream, and the line goes on with the tag places and the six numbers of the item. To write
-// one it is chars, letter and number of tag characters (1 byte each), eleven tag places and the raw value. For a step of the walk it
+// the input is the offset (2 bytes) and the stream, and the line goes on with the tag places and the seven numbers of the item. To write
+// one it is chars, letter and number of tag characters (1 byte each), eleven tag places and the raw value or a text's characters. For a step of the walk it
 // is the numbers of the state (1 byte each) and the stream; the line has the state and the item's numbers afterwards. A step is
 // made again through a reader, call 11 for a text and 12 for a binary, and a third line counts the items that are left from there on.
 // For an instalment, call 13 or 14, the room is the budget; the line has the items taken and the state afterwards. It is made again with
 // the state by value, call 15 or 16.
 // To compare (call 20), the input is the expectation file's length (2 bytes), the file and the report; the line has the five numbers.
+use exports_values::INFO;
 use exports_values::MARK;
 use exports_values::STATE;
 use instalments::BinaryPause;
@@ -35,7 +36,7 @@ fn show(call: u8, number: u8, value: usize, out: &[u8]) {
 
 // ---- reading
 
-fn show_read(call: u8, number: u8, value: usize, out: &[u8], tag: [u8; 11], info: [usize; 6]) {
+fn show_read(call: u8, number: u8, value: usize, out: &[u8], tag: [u8; 11], info: [usize; INFO]) {
     recorded::show_answer(call, number, value);
     recorded::show_bytes(out);
     recorded::show_bytes(&tag);
@@ -46,13 +47,13 @@ fn show_read(call: u8, number: u8, value: usize, out: &[u8], tag: [u8; 11], info
 fn read(call: u8, stream: &[u8], at: usize, out: &mut [u8]) {
     let mut value = 0;
     let mut tag: [u8; 11] = [170; 11];
-    let mut info: [usize; 6] = [170; 6];
+    let mut info: [usize; INFO] = [170; INFO];
     if call == 5 {
         let number = exports::cesr_read_text(stream, at, out, &mut tag, &mut info, &mut value);
         show_read(call, number, value, out, tag, info);
         return;
     }
-    let number = exports::cesr_read_binary(stream, at, &mut tag, &mut info, &mut value);
+    let number = exports::cesr_read_binary(stream, at, out, &mut tag, &mut info, &mut value);
     show_read(call, number, value, out, tag, info);
 }
 

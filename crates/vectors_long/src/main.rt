@@ -1,11 +1,12 @@
-// Runs recorded writes of long raw values, around what a small and a large form may hold, and reads back what was written. The
+// Runs recorded writes of long values, around what a small and a large form may hold, and reads back what was written. The
 // records and the expected output were made by the independent program in rust/oracle; nothing here was.
 //
-// A record is ten bytes: the call (7 to text, 8 to binary), the code's chars and letter, a seed, the raw length (4 bytes, big-endian)
-// and the room lent (2). The raw value is not recorded: byte i is (7 i + i / 256 + seed) mod 256. A line of output: the call, the number
-// (0: accepted), the length or place, a checksum of the whole lent buffer, which held AA before, and its first twelve bytes. Where an
-// item was written it is read back, and a second line has the six numbers of the item, the length of the raw value and how many of
-// its bytes, from the first on, are those that were given.
+// A record is ten bytes: the call (7 to text, 8 to binary), the code's chars and letter, a seed, the value's length (4 bytes, big-endian)
+// and the room lent (2). The value is not recorded: with n = 7 i + i / 256 + seed byte i is n mod 256, and of a text the small letter
+// n mod 26. A line of output: the call, the number (0: accepted), the length or place, a checksum of the whole lent buffer, which held AA
+// before, and its first twelve bytes. Where an item was written it is read back, and a second line has the seven numbers of the item, the
+// length of what was read and how many of its bytes, from the first on, are those that were given.
+use exports_values::INFO;
 use format::BinaryOffset;
 use libc::STDIN_FILENO;
 use recorded::number;
@@ -17,23 +18,28 @@ ghost use lib.ListN.{length};
 
 // ---- the raw value
 
-fn byte_at(i: usize, seed: u8) -> u8 {
-    ((i % 65536 * 7 + i / 256 % 256 + wide(seed)) % 256) as u8
+// Type `A`, which is 65, holds characters: small letters.
+fn byte_at(i: usize, letter: u8, seed: u8) -> u8 {
+    let n = i % 65536 * 7 + i / 256 % 256 + wide(seed);
+    if letter == 65 {
+        return (97 + n % 26) as u8;
+    }
+    (n % 256) as u8
 }
 
-fn fill(raw: &mut [u8], seed: u8) {
+fn fill(raw: &mut [u8], letter: u8, seed: u8) {
     let mut i = 0;
     while i < raw.len() {
-        raw[i] = byte_at(i, seed);
+        raw[i] = byte_at(i, letter, seed);
         i += 1;
     }
 }
 
 // How many bytes from the first on are the filled ones.
-fn agreeing(raw: &[u8], seed: u8) -> usize {
+fn agreeing(raw: &[u8], letter: u8, seed: u8) -> usize {
     let mut i = 0;
     while i < raw.len() {
-        if raw[i] != byte_at(i, seed) {
+        if raw[i] != byte_at(i, letter, seed) {
             return i;
         }
         i += 1;
@@ -78,32 +84,46 @@ fn show_written(call: u8, number: u8, value: usize, out: &[u8]) {
     recorded::end_line();
 }
 
-fn show_read(call: u8, number: u8, value: usize, info: [usize; 6], raw: &[u8], seed: u8) {
+fn show_read(
+    call: u8,
+    number: u8,
+    value: usize,
+    info: [usize; INFO],
+    raw: &[u8],
+    letter: u8,
+    seed: u8,
+) {
     recorded::show_answer(call, number, value);
     recorded::show_numbers(&info);
     show_number(raw.len());
-    show_number(agreeing(raw, seed));
+    show_number(agreeing(raw, letter, seed));
     recorded::end_line();
 }
 
 // ---- an item read back
 
-fn read_text(item: &[u8], raw: &mut [u8], seed: u8) {
+fn read_text(item: &[u8], raw: &mut [u8], letter: u8, seed: u8) {
     blank(raw);
     let mut value = 0;
     let mut tag: [u8; 11] = [170; 11];
-    let mut info: [usize; 6] = [170; 6];
+    let mut info: [usize; INFO] = [170; INFO];
     let number = exports::cesr_read_text(item, 0, raw, &mut tag, &mut info, &mut value);
-    show_read(5, number, value, info, raw, seed);
+    show_read(5, number, value, info, raw, letter, seed);
 }
 
-fn read_binary(item: &[u8], seed: u8) {
+// A text is copied out; any other value is the part where it lies.
+fn read_binary(item: &[u8], raw: &mut [u8], letter: u8, seed: u8) {
+    blank(raw);
     let mut value = 0;
     let mut tag: [u8; 11] = [170; 11];
-    let mut info: [usize; 6] = [170; 6];
-    let number = exports::cesr_read_binary(item, 0, &mut tag, &mut info, &mut value);
+    let mut info: [usize; INFO] = [170; INFO];
+    let number = exports::cesr_read_binary(item, 0, raw, &mut tag, &mut info, &mut value);
+    if letter == 65 {
+        show_read(6, number, value, info, raw, letter, seed);
+        return;
+    }
     let part = reading_binary::raw_binary(item, BinaryOffset(0));
-    show_read(6, number, value, info, part, seed);
+    show_read(6, number, value, info, part, letter, seed);
 }
 
 // ---- an item written
@@ -115,32 +135,33 @@ fn write_text(chars: u8, letter: u8, raw: &mut [u8], seed: u8, out: &mut [u8]) {
     show_written(7, number, value, out);
     if number == 0 {
         if value <= out.len() {
-            read_text(&out[0..value], raw, seed);
+            read_text(&out[0..value], raw, letter, seed);
         }
     }
 }
 
-fn write_binary(chars: u8, letter: u8, raw: &[u8], seed: u8, out: &mut [u8]) {
+fn write_binary(chars: u8, letter: u8, raw: &mut [u8], seed: u8, out: &mut [u8]) {
     let mut value = 0;
     let tag: [u8; 11] = [33; 11];
     let number = exports::cesr_write_binary(chars, letter, &tag, 0, raw, out, &mut value);
     show_written(8, number, value, out);
     if number == 0 {
         if value <= out.len() {
-            read_binary(&out[0..value], seed);
+            read_binary(&out[0..value], raw, letter, seed);
         }
     }
 }
 
 fn run(head: [u8; 4], raw: &mut [u8], out: &mut [u8]) {
+    let letter = head[2];
     let seed = head[3];
-    fill(raw, seed);
+    fill(raw, letter, seed);
     blank(out);
     if head[0] == 7 {
-        write_text(head[1], head[2], raw, seed, out);
+        write_text(head[1], letter, raw, seed, out);
         return;
     }
-    write_binary(head[1], head[2], raw, seed, out);
+    write_binary(head[1], letter, raw, seed, out);
 }
 
 fn lend(r: [u8; 10], raw: &mut [u8], out: &mut [u8]) {
@@ -177,11 +198,11 @@ fn run_all(records: &[u8], raw: &mut [u8], out: &mut [u8]) {
     }
 }
 
-// One byte more than a large form holds.
-fn raw_space() -> [u8; 3145723]
-    ensures { λ r. ⌜ 3145723 ≡ length r ⌝ }
+// One character more than a large text holds.
+fn raw_space() -> [u8; 4194297]
+    ensures { λ r. ⌜ 4194297 ≡ length r ⌝ }
 {
-    [0; 3145723]
+    [0; 4194297]
 }
 
 // A large text of 12,288 raw bytes, and a byte behind it.

@@ -8,12 +8,13 @@ use mathlib.Core.Bool.{true, false}
 use lib.ListN.{length, take}
 use Rattle.format.specs.declared.Kind.{Kind}
 use Rattle.format.specs.declared.Framed.the-variants.{Item}
+use Rattle.format.specs.declared.Verdict.the-variants.{Refused}
 use Rattle.format.specs.Units.{Domain, text, binary}
 use Rattle.format.specs.Conversion.{toBinary, toText}
 use Rattle.format.specs.Judging.{maxDepth}
 use Rattle.format.specs.Report.{rowsIn, refusalsIn, remainderIn, frameIn, judgeIn}
 use Rattle.claims.specs.Words.{WholeText, WholeBinary}
-use Rattle.claims.specs.Order.{None, Refusal}
+use Rattle.claims.specs.Order.{None, Among, Refusal}
 use Rattle.walk_state.specs.declared.Walk.{Walk}
 use Rattle.walk_state.specs.declared.Found.the-variants as F
 use Rattle.walk_state.specs.Walking.{isFit, stepIn}
@@ -35,7 +36,7 @@ pub record StreamClaims (d : Domain) (xs : List ℕ) : Type 0 where
   -- demand 1: "Every public entry refuses bad input by number": neither 0, which is how a call for C says accepted, nor 255, by which it
   -- tells the end; 01's numbers for a step, in 01's order; and the state is left
   pub refuses : (w : Walk) (m p : ℕ) → stepIn d xs w .found ≡ F.Refused m p
-      → Refusal (1 ∷ 13 ∷ 4 ∷ 5 ∷ 19 ∷ 6 ∷ 7 ∷ 11 ∷ 18 ∷ 9 ∷ 8 ∷ 10 ∷ []) (stepRules d xs w) m × (m < 255) × (stepIn d xs w .next ≡ w)
+      → Refusal (1 ∷ 13 ∷ 4 ∷ 5 ∷ 19 ∷ 6 ∷ 7 ∷ 11 ∷ 18 ∷ 9 ∷ 8 ∷ 16 ∷ 10 ∷ []) (stepRules d xs w) m × (m < 255) × (stepIn d xs w .next ≡ w)
   -- an item is yielded only where none of them is to be given
   pub accepts : (w : Walk) (o n e h : ℕ) (k : Kind) → stepIn d xs w .found ≡ F.Item o n e k h → None (stepRules d xs w)
   -- and the end is told only of a fit state behind the last byte of a stream within the limit
@@ -82,6 +83,9 @@ pub record StreamClaims (d : Domain) (xs : List ℕ) : Type 0 where
   -- gives judging's number and place"
   pub item : (k : Kind) (h : ℕ) → length xs ≤ d .limit → frameIn d xs ≡ Item k h (length xs) → (j : ℕ) → Stops (foundAt d xs j)
       → foundAt d xs j ≡ foundOf (judgeIn d xs)
+  -- so an item's verdict, which it has by itself (demand 3), is 0 or one of a step's numbers but 1 and 13
+  pub verdicts : (k : Kind) (h m p : ℕ) → length xs ≤ d .limit → frameIn d xs ≡ Item k h (length xs) → judgeIn d xs ≡ Refused m p
+      → Among (4 ∷ 5 ∷ 19 ∷ 6 ∷ 7 ∷ 11 ∷ 18 ∷ 9 ∷ 8 ∷ 16 ∷ 10 ∷ []) m
 
 -- ---- of text and binary together
 

@@ -115,7 +115,7 @@ kind-own (Fixed c) h l s =
     (then-own _ _ (unless-own 8 _ tt) (unless-own 10 _ tt))
 kind-own (Variable t v c) h l s =
     then-own _ _ (shift-own (4 * h) _ (scan-own _))
-    (then-own _ _ (unless-own 18 _ tt) (then-own _ _ (unless-own 9 _ tt) (unless-own 8 _ tt)))
+    (then-own _ _ (unless-own 18 _ tt) (then-own _ _ (unless-own 9 _ tt) (then-own _ _ (unless-own 8 _ tt) (unless-own 16 _ tt))))
 kind-own (Group letter) h zero s = tt
 kind-own (Group letter) h (suc l) s =
     then-own _ _ (unless-own 18 _ tt) (pick-by Judging (isOpaque letter) _ _ (λ _. shift-own (4 * h) _ (scan-own _)) (λ _. tt))

@@ -181,11 +181,11 @@ module _ (d : Domain) (R : Reader d) (xs : List ℕ) (w : Walk) where
 -- ---- as claims
 
 abbrev stepNumbers : List ℕ
-stepNumbers = 1 ∷ 13 ∷ 4 ∷ 5 ∷ 19 ∷ 6 ∷ 7 ∷ 11 ∷ 18 ∷ 9 ∷ 8 ∷ 10 ∷ []
+stepNumbers = 1 ∷ 13 ∷ 4 ∷ 5 ∷ 19 ∷ 6 ∷ 7 ∷ 11 ∷ 18 ∷ 9 ∷ 8 ∷ 16 ∷ 10 ∷ []
 
 own-allowed : (l : ℕ) (k : Kind) (h : ℕ) (s : List ℕ) → Allowed stepNumbers (C.ownRules l k h s)
-own-allowed l (Fixed c) h s = inl tt & inl tt & inl tt & inl tt & inl tt & inl tt & end
-own-allowed l (Variable t v c) h s = inl tt & inl tt & inl tt & inl tt & inl tt & inl tt & end
+own-allowed l (Fixed c) h s = inl tt & inl tt & inl tt & inl tt & inl tt & inl tt & inl tt & end
+own-allowed l (Variable t v c) h s = inl tt & inl tt & inl tt & inl tt & inl tt & inl tt & inl tt & end
 own-allowed l (Group g) h s = inl tt & inl tt & inl tt & inl tt & end
 own-allowed l Genus h s = end
 

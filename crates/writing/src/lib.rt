@@ -1,5 +1,5 @@
-// Writing a single primitive as text or as binary into a lent buffer: 6, 12, 18, 5 or 19, 3. A refused call writes nothing, exact room
-// suffices, and bytes behind the item stay.
+// Writing a single primitive as text or as binary into a lent buffer: 6, 12, 18, 5 or 19, 16, 3. A refused call writes nothing, exact
+// room suffices, and bytes behind the item stay.
 use format::BinaryOffset;
 use format::BinaryWritten;
 use format::Code;
@@ -14,8 +14,8 @@ ghost use lib.Seq.{paste};
 ghost use Rattle.format.specs.Conversion.{toText};
 ghost use Rattle.format.specs.Writing.{textOutcome, binaryOutcome, writeText, textItemLeft, writeBinary, binaryItemLeft};
 ghost use Rattle.writing_head.specs.Heads.{Sized};
-ghost use Rattle.writing_plan.specs.Plan.{roomFor};
-ghost use Rattle.writing.specs.Item.{planned, binaryIn, textIn};
+ghost use Rattle.writing_plan.specs.Plan.{roomFor, binaryIn, textIn};
+ghost use Rattle.writing.specs.Item.{planned};
 
 // ---- the buffer: what stands before the raw value, and the raw value
 
@@ -55,7 +55,7 @@ fn put_text(head: [u8; 9], start: usize, raw: &[u8], out: &mut [u8])
     convert::binary_to_text(&raw[k..], &mut out[at..]);
 }
 
-// ---- an item of so many units, where there is room: 3
+// ---- an item of so many units that a raw value ends, where there is room: 3
 
 fn binary_item(units: usize, head: [u8; 9], raw: &[u8], out: &mut [u8]) -> BinaryWritten
     requires { ⌜ Sized (length (now raw)) units ⌝ }
@@ -83,7 +83,7 @@ fn text_item(units: usize, head: [u8; 9], raw: &[u8], out: &mut [u8]) -> TextWri
     TextWritten::Written(TextOffset(chars))
 }
 
-// ---- the calls: 6, 12, 18, 5 or 19, 3
+// ---- the calls: 6, 12, 18, 5 or 19, 16, 3
 
 // A primitive as binary, from the buffer's start.
 pub fn write_binary(
@@ -96,13 +96,17 @@ pub fn write_binary(
     ensures { λ r. ⌜ r ≡ writeBinary code tag tags (now (raw .entry)) (length (now (out .entry))) ⌝ }
     ensures { λ r. ⌜ now (out .exit) ≡ binaryItemLeft r code tag tags (now (raw .entry)) (now (out .entry)) ⌝ }
 {
-    let plan = writing_plan::plan_item(code, tag, tags, raw.len());
+    let plan = writing_plan::plan_item(code, tag, tags, raw);
     let planned = plan.planned;
     match planned {
         Planned::Refused(number, place) => BinaryWritten::Refused(number, place),
         Planned::Units(n) => {
             let head = plan.head;
             binary_item(n, head, raw, out)
+        }
+        Planned::Text(header) => {
+            let head = plan.head;
+            writing_text::text_in_binary(header, head, raw, out)
         }
     }
 }
@@ -112,13 +116,17 @@ pub fn write_text(code: Code, tag: [u8; 11], tags: usize, raw: &[u8], out: &mut 
     ensures { λ r. ⌜ r ≡ writeText code tag tags (now (raw .entry)) (length (now (out .entry))) ⌝ }
     ensures { λ r. ⌜ now (out .exit) ≡ textItemLeft r code tag tags (now (raw .entry)) (now (out .entry)) ⌝ }
 {
-    let plan = writing_plan::plan_item(code, tag, tags, raw.len());
+    let plan = writing_plan::plan_item(code, tag, tags, raw);
     let planned = plan.planned;
     match planned {
         Planned::Refused(number, place) => TextWritten::Refused(number, place),
         Planned::Units(n) => {
             let head = plan.head;
             text_item(n, head, raw, out)
+        }
+        Planned::Text(header) => {
+            let head = plan.head;
+            writing_text::text_in_text(header, head, raw, out)
         }
     }
 }

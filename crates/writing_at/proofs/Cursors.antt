@@ -64,7 +64,7 @@ module _ (d : List ℕ) (cursor at : ℕ) (e : at ≡ min cursor (length d)) whe
       binary-ends : (n : BinaryOffset) → w ≡ B.Written n → (at + n .0 ≤ length d) × (at ≡ cursor)
       unfolding writeBinary
       binary-ends n h =
-          let s = binary-some _ (length (drop cursor d)) n (held 3 code tag tags (length raw) (length (drop cursor d))) (sym binary-answer ∙ h) in
+          let s = binary-some _ (length (drop cursor d)) n (held 3 code tag tags raw (length (drop cursor d))) (sym binary-answer ∙ h) in
           let l = length-drop cursor d in
           (omega arith, omega arith)
 
@@ -91,7 +91,7 @@ module _ (d : List ℕ) (cursor at : ℕ) (e : at ≡ min cursor (length d)) whe
       text-ends : (n : TextOffset) → w ≡ T.Written n → (at + n .0 ≤ length d) × (at ≡ cursor)
       unfolding writeText
       text-ends n h =
-          let s = text-some _ (length (drop cursor d)) n (held 4 code tag tags (length raw) (length (drop cursor d))) (sym text-answer ∙ h) in
+          let s = text-some _ (length (drop cursor d)) n (held 4 code tag tags raw (length (drop cursor d))) (sym text-answer ∙ h) in
           let l = length-drop cursor d in
           (omega arith, omega arith)
 

@@ -1,38 +1,32 @@
-// The code that a caller names, whether tag characters and a raw value fit it, and how large its item is: what 6, 12 and 18 ask, and the
-// count of a header.
+// The code that a caller names, whether tag characters and a raw value or a text fit it, and how large its item is: what 6, 12 and 18
+// ask. A text's characters stand where the raw value does.
 use format::Code;
 use format::CodeRow;
 use format::Kind;
 use format::Opening;
 use format::TextOffset;
 ghost use mathlib.Core.Path.{_≡_};
-ghost use Prim.Native.Nat.{_+_, _*_, _<_};
-ghost use Rattle.base.specs.Pick.{pick};
+ghost use Prim.Native.Nat.{_+_, _<_, _≤_};
+ghost use lib.Dec.{leb};
 ghost use Rattle.format.specs.Alphabet.{sextetOf};
-ghost use Rattle.format.specs.Registry.{isType};
-ghost use Rattle.format.specs.Writing.{named, namedFixed, isNamed, isFit, isShort, rawSize, rawLimit, leadFor, countFor, unitsOf};
-ghost use Rattle.format.specs.Writing.Named.{unknown, variable};
+ghost use Rattle.format.specs.Texts.{fillFor};
+ghost use Rattle.format.specs.Writing.{named, namedFixed, namedVariable, isNamed, isFit, isShort, rawSize, rawLimit, textLimit, unitsOf};
 ghost use Rattle.writing_code.specs.Names.{asNamed};
 
 // A code that is a primitive's, or none.
 pub enum Named {
     Unknown,
     Row(CodeRow),
-    // letter: the variable type as a sextet; head: the header's units
+    // letter: the variable type as a sextet, another than `A`; head: the header's units
     Variable { letter: u8, head: u8 },
+    // type `A`
+    Textual { head: u8 },
 }
 
 fn wide(x: u8) -> usize
     ensures { λ r. ⌜ (r ≡ x) × (r < 256) ⌝ }
 {
     x as usize
-}
-
-fn narrow(x: usize) -> u8
-    requires { ⌜ x < 256 ⌝ }
-    ensures { λ r. ⌜ r ≡ x ⌝ }
-{
-    x as u8
 }
 
 // ---- 6: the code that is named
@@ -62,11 +56,15 @@ fn row_of(op: Opening) -> Named
 }
 
 fn type_of(letter: u8, head: u8) -> Named
-    ensures { λ r. ⌜ asNamed r ≡ pick (isType (sextetOf letter)) (variable (sextetOf letter) head) unknown ⌝ }
+    ensures { λ r. ⌜ asNamed r ≡ namedVariable (sextetOf letter) head ⌝ }
 {
     let t = alphabet::sextet(letter);
     if registry::is_type(t) {
-        Named::Variable { letter: t, head }
+        if t == 0 {
+            Named::Textual { head }
+        } else {
+            Named::Variable { letter: t, head }
+        }
     } else {
         Named::Unknown
     }
@@ -93,6 +91,7 @@ pub fn is_named(n: Named) -> bool
         Named::Unknown => false,
         Named::Row(_) => true,
         Named::Variable { letter: _, head: _ } => true,
+        Named::Textual { head: _ } => true,
     }
 }
 
@@ -111,6 +110,23 @@ fn raw_limit(head: u8) -> usize
     ensures { λ r. ⌜ r ≡ rawLimit head ⌝ }
 {
     if head == 1 { 12285 } else { 3145722 }
+}
+
+// Of a text with its fill.
+fn text_limit(head: u8) -> usize
+    ensures { λ r. ⌜ (r ≡ textLimit head) × (r ≤ 4194296) ⌝ }
+{
+    if head == 1 { 16380 } else { 4194296 }
+}
+
+fn text_fits(head: u8, chars: usize) -> bool
+    ensures { λ r. ⌜ r ≡ leb (chars + fillFor chars) (textLimit head) ⌝ }
+{
+    let most = text_limit(head);
+    if most < chars {
+        return false;
+    }
+    chars + writing_sizes::fill_for(chars) <= most
 }
 
 pub fn is_fit(n: Named, tags: usize, raw: usize) -> bool
@@ -133,25 +149,17 @@ pub fn is_fit(n: Named, tags: usize, raw: usize) -> bool
                 false
             }
         }
+        Named::Textual { head } => {
+            if tags == 0 {
+                text_fits(head, raw)
+            } else {
+                false
+            }
+        }
     }
 }
 
-// ---- sizes
-
-// The lead follows from the raw length.
-pub fn lead_for(raw: usize) -> u8
-    ensures { λ r. ⌜ (r ≡ leadFor raw) × (r < 3) ⌝ }
-{
-    narrow((3 - raw % 3) % 3)
-}
-
-// The triplets of a raw value and its lead: one more where there is a lead.
-pub fn count_for(raw: usize) -> usize
-    ensures { λ r. ⌜ (r ≡ countFor raw) × (3 * r < raw + 3) ⌝ }
-{
-    let whole = raw / 3;
-    if raw % 3 == 0 { whole } else { whole + 1 }
-}
+// ---- the full size
 
 pub fn units_of(n: Named, raw: usize) -> usize
     ensures { λ r. ⌜ r ≡ unitsOf (asNamed n) raw ⌝ }
@@ -162,7 +170,8 @@ pub fn units_of(n: Named, raw: usize) -> usize
             let size = c.size;
             wide(size) / 4
         }
-        Named::Variable { letter: _, head } => wide(head) + count_for(raw),
+        Named::Variable { letter: _, head } => wide(head) + writing_sizes::count_for(raw),
+        Named::Textual { head } => wide(head) + writing_sizes::text_count(raw),
     }
 }
 
@@ -174,9 +183,13 @@ pub fn is_short(n: Named, raw: usize) -> bool
     match n {
         Named::Unknown => true,
         Named::Row(_) => true,
-        Named::Variable { letter: _, head } => judging_header::is_shortest(
-            wide(head),
-            count_for(raw),
-        ),
+        Named::Variable { letter: _, head } => {
+            let triplets = writing_sizes::count_for(raw);
+            judging_header::is_shortest(wide(head), triplets)
+        }
+        Named::Textual { head } => {
+            let quadlets = writing_sizes::text_count(raw);
+            judging_header::is_shortest(wide(head), quadlets)
+        }
     }
 }

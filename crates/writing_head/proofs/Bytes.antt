@@ -1,4 +1,4 @@
--- The first bytes of an item as the nine hold them: what format sets before a raw value is where they begin, and the raw value
+-- The first bytes of an item as the nine hold them: what format sets before a raw value or a text is where they begin, and the value
 -- ends the item. Of the rows with a raw value one test that antt computes over the whole table. Assumes nothing.
 use mathlib.Core.Path.{_≡_, refl, sym, ap, _∙_}
 use mathlib.Core.List.{List, [], _∷_, _++_, map}
@@ -20,15 +20,16 @@ use Rattle.format.specs.declared.Code.{Code}
 use Rattle.format.specs.declared.Code.the-variants as C
 use Rattle.format.specs.Alphabet.{sextetOf}
 use Rattle.format.specs.Units.{bytesOf}
-use Rattle.format.specs.Registry.{codes, prepadOf, isType, fixedAmong, fixed}
-use Rattle.format.specs.Values.{rawStart}
-use Rattle.format.specs.Writing.{Named, namedFixed, named, rawSize, leadFor, countFor, codeSextets, rawPrefix, tagPrefix, rowPrefix}
-use Rattle.format.specs.Writing.{variableHeader, variablePrefix, itemBytes, unitsOf}
-use Rattle.format.specs.Writing.Named.{unknown, row, variable}
+use Rattle.format.specs.Registry.{codes, prepadOf, isType, isText, fixedAmong, fixed}
+use Rattle.format.specs.Texts.{textLead, textCount}
+use Rattle.format.specs.Values.{bytesIn, rawStart}
+use Rattle.format.specs.Writing.{Named, namedFixed, namedVariable, named, rawSize, leadFor, countFor, codeSextets, rawPrefix, tagPrefix, rowPrefix}
+use Rattle.format.specs.Writing.{variableHeader, variablePrefix, filled, textBytes, itemBytes, unitsOf}
+use Rattle.format.specs.Writing.Named.{unknown, row, variable, textual}
 use Rattle.laws.specs.Registry.{Sound}
 use Rattle.laws.specs.Units.{bytes-size}
 use Rattle.writing_code.specs.Names.{Able}
-use Rattle.writing_head.specs.Heads.{padTo, rowHead, variableSextets, variableHead, headSextets, headBytes, Sized}
+use Rattle.writing_head.specs.Heads.{padTo, rowHead, variableSextets, variableHead, headSextets, headBytes, Sized, TextSized, Divided}
 use Rattle.writing_head.proofs.Heads.{code-length}
 
 -- ---- the first bytes of a row with a raw value
@@ -62,6 +63,7 @@ abbrev Headed : Named → Type 0
 Headed unknown = Unit {0}
 Headed (row c) = (rawStart (Fixed c) 1 ≤ 9) × (c .tag ≡ 0 → rawPrefix c ≡ take (rawStart (Fixed c) 1) (each 4 bytesOf 3 (rowHead c [])))
 Headed (variable t h) = Unit {0}
+Headed (textual h) = Unit {0}
 
 headed-row : (c : CodeRow) → T (isHeaded c) → Headed (row c)
 unfolding isHeaded
@@ -78,15 +80,16 @@ among-headed (c ∷ cs) t chars letter =
     (λ _. headed-row c (both-left (isHeaded c) (allHeaded cs) t)) (λ _. next))
     (λ _. next)
 
-headed-typed : (b : Bool) (t h : ℕ) → Headed (pick b (variable t h) unknown)
-headed-typed true t h = tt
-headed-typed false t h = tt
+headed-typed : (a b : Bool) (t h : ℕ) → Headed (pick a (pick b (textual h) (variable t h)) unknown)
+headed-typed true true t h = tt
+headed-typed true false t h = tt
+headed-typed false b t h = tt
 
 headed : (code : Code) → Headed (named code)
-unfolding named fixed
+unfolding named namedVariable fixed
 headed (C.Fixed chars letter) = among-headed codes table-headed chars (sextetOf letter)
-headed (C.Small letter) = headed-typed (isType (sextetOf letter)) (sextetOf letter) 1
-headed (C.Large letter) = headed-typed (isType (sextetOf letter)) (sextetOf letter) 2
+headed (C.Small letter) = headed-typed (isType (sextetOf letter)) (isText (sextetOf letter)) (sextetOf letter) 1
+headed (C.Large letter) = headed-typed (isType (sextetOf letter)) (isText (sextetOf letter)) (sextetOf letter) 2
 
 -- ---- what an item that fits holds
 
@@ -101,24 +104,42 @@ lead-whole : (raw : ℕ) → (raw + leadFor raw ≡ 3 * countFor raw) × (leadFo
 unfolding leadFor countFor
 lead-whole raw = (omega arith, omega arith)
 
-sized-by : (n : Named) (tags raw : ℕ) → Able n tags raw → Headed n → Sized raw (unitsOf n raw)
+-- one header unit or two
+heads : (h : ℕ) → (h ≡ 1) ⊎ (h ≡ 2) → (0 < h) × (h ≤ 2)
+heads h (inl e) = rw e (omega arith, omega arith)
+heads h (inr e) = rw e (omega arith, omega arith)
+
+-- an item has a unit
+pub some-units : (n : Named) (tags raw : ℕ) → Able n tags raw → 0 < unitsOf n raw
+unfolding Able unitsOf
+some-units unknown tags raw a = absurd a
+some-units (row c) tags raw a = omega (arith, a .0 .some, a .0 .whole)
+some-units (variable t h) tags raw a = omega (arith, heads h (a .0) .0)
+some-units (textual h) tags raw a = omega (arith, heads h (a .0) .0)
+
+row-sized : (c : CodeRow) (tags raw : ℕ) → Able (row c) tags raw → Headed (row c) → Sized raw (unitsOf (row c) raw)
 unfolding Able unitsOf rawSize
-sized-by unknown tags raw a h = absurd a
-sized-by (row c) tags raw a h =
+row-sized c tags raw a h =
     let i = row-inside c (a .0) in
     record {
-      some = omega (arith, a .0 .some, a .0 .whole);
+      some = some-units (row c) tags raw a;
       few = omega (arith, a .0 .small);
       whole = omega (arith, a .2);
       start = omega (arith, a .2, h .0);
     }
-sized-by (variable t h) tags raw a _ =
-    let w = lead-whole raw in
-    ⊎-elim (λ e. record { some = omega arith; few = omega (arith, a .2); whole = omega arith; start = omega arith })
-    (λ e. record { some = omega arith; few = omega (arith, a .2); whole = omega arith; start = omega arith }) (a .0)
 
-pub sized : (code : Code) (tags raw : ℕ) → Able (named code) tags raw → Sized raw (unitsOf (named code) raw)
-sized code tags raw a = sized-by (named code) tags raw a (headed code)
+variable-sized : (t h tags raw : ℕ) → Able (variable t h) tags raw → Sized raw (unitsOf (variable t h) raw)
+unfolding Able unitsOf
+variable-sized t h tags raw a =
+    let w = lead-whole raw in
+    let g = heads h (a .0) in
+    record { some = some-units (variable t h) tags raw a; few = omega (arith, a .2); whole = omega arith; start = omega arith }
+
+text-sized : (h tags chars : ℕ) → Able (textual h) tags chars → TextSized chars h
+unfolding Able textCount
+text-sized h tags chars a =
+    let g = heads h (a .0) in
+    record { some = g .0; header = g .1; few = omega (arith, a .2) }
 
 -- ---- its bytes: the first of those that its sextets make, then the raw value
 
@@ -176,26 +197,52 @@ header-bytes t h (suc zero) n l (inr e) = rw e
 header-bytes t h (suc (suc zero)) n l (inr e) = rw e
 header-bytes t h (suc (suc (suc k))) n l w = absurd (omega arith)
 
-no-able : (tags raw : ℕ) → Able unknown tags raw → ⊥
-unfolding Able
-no-able tags raw a = a
+header-front : (t h lead n : ℕ) → (h ≡ 1) ⊎ (h ≡ 2)
+    → variableHeader t h lead n ≡ take (3 * h) (each 4 bytesOf 3 (padTo 12 (variableSextets t h lead n)))
+unfolding variableHeader variableSextets padTo each bytesOf
+header-front t h lead n (inl e) = rw e
+header-front t h lead n (inr e) = rw e
 
-variable-head : (t h tags raw : ℕ) → Able (variable t h) tags raw → (h ≡ 1) ⊎ (h ≡ 2)
-unfolding Able
-variable-head t h tags raw a = a .0
+module _ (tag raw : List ℕ) (tags : ℕ) where
+  abbrev Fits : Named → Type 0
+  Fits n = Divided n (take tags tag) raw (unitsOf n (length raw)) (headBytes n (take tags tag) (length raw))
 
-bytes-of : (n : Named) (tag : List ℕ) (tags raw : ℕ) → length tag ≡ 11 → Able n tags raw → Headed n → (xs : List ℕ) → length xs ≡ raw
-    → itemBytes n (take tags tag) xs ≡ take (3 * unitsOf n raw - raw) (headBytes n (take tags tag) raw) ++ xs
-unfolding itemBytes unitsOf headBytes headSextets variablePrefix variableHead
-bytes-of unknown tag tags raw l a h xs e = absurd (no-able tags raw a)
-bytes-of (row c) tag tags raw l a h xs e =
-    ap (λ (p : List ℕ). p ++ xs)
-    (⊎-elim (λ z. raw-bytes c tag tags raw a h (eqb-true (c .tag) 0 z)) (λ z. tag-bytes c tag tags raw l a (eqb-false (c .tag) 0 z)) (whether (eqb (c .tag) 0)))
-bytes-of (variable t h) tag tags raw l a _ xs e =
-    let w = lead-whole raw in
-    let z : 3 * (h + countFor raw) - raw ≡ 3 * h + leadFor raw = omega arith in
-    rw (e, z) (ap (λ (p : List ℕ). p ++ xs) (header-bytes t h (leadFor raw) (countFor raw) (w .1) (variable-head t h tags raw a)))
+  row-divided : (c : CodeRow) → length tag ≡ 11 → Able (row c) tags (length raw) → Headed (row c) → Fits (row c)
+  unfolding itemBytes unitsOf headBytes headSextets
+  row-divided c l a h = record {
+    size = row-sized c tags (length raw) a h;
+    bytes = ap (λ (p : List ℕ). p ++ raw)
+        (⊎-elim (λ z. raw-bytes c tag tags (length raw) a h (eqb-true (c .tag) 0 z)) (λ z. tag-bytes c tag tags (length raw) l a (eqb-false (c .tag) 0 z)) (whether (eqb (c .tag) 0)));
+  }
 
-pub item-bytes : (code : Code) (tag : List ℕ) (tags raw : ℕ) → length tag ≡ 11 → Able (named code) tags raw → (xs : List ℕ) → length xs ≡ raw
-    → itemBytes (named code) (take tags tag) xs ≡ take (3 * unitsOf (named code) raw - raw) (headBytes (named code) (take tags tag) raw) ++ xs
-item-bytes code tag tags raw l a = bytes-of (named code) tag tags raw l a (headed code)
+  variable-divided : (t h : ℕ) → Able (variable t h) tags (length raw) → Fits (variable t h)
+  unfolding Able itemBytes unitsOf headBytes headSextets variablePrefix variableHead
+  variable-divided t h a =
+      let n = length raw in
+      let w = lead-whole n in
+      let z : 3 * (h + countFor n) - n ≡ 3 * h + leadFor n = omega arith in
+      record {
+        size = variable-sized t h tags n a;
+        bytes = rw z (ap (λ (p : List ℕ). p ++ raw) (header-bytes t h (leadFor n) (countFor n) (w .1) (a .0)));
+      }
+
+  text-divided : (h : ℕ) → Able (textual h) tags (length raw) → Fits (textual h)
+  unfolding Able itemBytes textBytes unitsOf headBytes headSextets variableHead
+  text-divided h a =
+      let n = length raw in
+      record {
+        size = text-sized h tags n a;
+        units = refl;
+        bytes = ap (λ (p : List ℕ). p ++ bytesIn (filled raw)) (header-front 0 h (textLead n) (textCount n) (a .0));
+      }
+
+  divided-by : (n : Named) → length tag ≡ 11 → Able n tags (length raw) → Headed n → Fits n
+  unfolding Able
+  divided-by unknown l a h = absurd a
+  divided-by (row c) l a h = row-divided c l a h
+  divided-by (variable t h) l a _ = variable-divided t h a
+  divided-by (textual h) l a _ = text-divided h a
+
+pub divided : (code : Code) (tag : List ℕ) (tags : ℕ) (raw : List ℕ) → length tag ≡ 11 → Able (named code) tags (length raw)
+    → Divided (named code) (take tags tag) raw (unitsOf (named code) (length raw)) (headBytes (named code) (take tags tag) (length raw))
+divided code tag tags raw l a = divided-by tag raw tags (named code) l a (headed code)

@@ -1,8 +1,8 @@
--- The sextets before a raw value as arrays hold them. Assumes nothing.
+-- The sextets before a raw value or a text as arrays hold them. Assumes nothing.
 use mathlib.Core.Path.{_≡_, refl, _∙_}
 use mathlib.Core.List.{List, [], _∷_, _++_, map, append-assoc}
 use mathlib.Core.Logic.{⊎-elim}
-use Prim.Native.Nat.{ℕ, zero, suc, _+_, _-_, _*_, _/_, _%_, _<_, _≤_}
+use Prim.Native.Nat.{ℕ, zero, suc, _+_, _-_, _/_, _%_, _<_, _≤_}
 use native.Mathlib.Nat.{div-one}
 use native.Mathlib.Omega.{arith}
 use borrow.Author.Tests.{eq-eqb, ne-eqb, eqb-true, eqb-false}
@@ -17,6 +17,7 @@ use Rattle.format.specs.declared.CodeRow.{CodeRow}
 use Rattle.format.specs.Alphabet.{sextetOf}
 use Rattle.format.specs.Units.{bytesOf}
 use Rattle.format.specs.Registry.{prepadOf}
+use Rattle.format.specs.Texts.{fillFor, textCount}
 use Rattle.format.specs.Writing.{codeSextets, leadFor, countFor}
 use Rattle.laws.specs.Registry.{Sound, Code, one, two, four}
 use Rattle.writing_head.specs.Heads.{padTo, codeHead, rowHead, variableSextets, variableHead}
@@ -118,21 +119,25 @@ row-filled c cs tag tags q s t l a e =
 
 -- ---- a variable header
 
-count-least : (raw : ℕ) → 3 * countFor raw < raw + 3
+-- a small form holds as many units as two digits count
+pub raw-count : (raw : ℕ) → raw ≤ 12285 → countFor raw ≤ 4095
 unfolding countFor leadFor
-count-least raw = omega arith
+raw-count raw h = omega arith
 
-module _ (t h raw lead n d : ℕ) (e : lead ≡ leadFor raw) (f : n ≡ countFor raw) (g : d ≡ n % 64) where
-  -- a small form's count has two digits
-  pub small-head : h ≡ 1 → raw ≤ 12285 → (a : ℕ) → a ≡ n / 64 % 64
-      → (56 + lead) ∷ t ∷ a ∷ d ∷ 0 ∷ 0 ∷ 0 ∷ 0 ∷ 0 ∷ 0 ∷ 0 ∷ 0 ∷ [] ≡ variableHead t h raw
+pub text-count : (chars : ℕ) → chars + fillFor chars ≤ 16380 → textCount chars ≤ 4095
+unfolding textCount
+text-count chars h = omega arith
+
+module _ (t h lead n d : ℕ) (g : d ≡ n % 64) where
+  pub small-head : h ≡ 1 → n ≤ 4095 → (a : ℕ) → a ≡ n / 64 % 64
+      → (56 + lead) ∷ t ∷ a ∷ d ∷ 0 ∷ 0 ∷ 0 ∷ 0 ∷ 0 ∷ 0 ∷ 0 ∷ 0 ∷ [] ≡ variableHead t h lead n
   unfolding variableHead variableSextets padTo
-  small-head i l a k = let q : a ≡ n / 64 = omega (arith, count-least raw) in rw (eq-eqb h 1 i, q, g, f, e)
+  small-head i l a k = let q : a ≡ n / 64 = omega arith in rw (eq-eqb h 1 i, q, g)
 
   pub large-head : (h ≡ 1 → ⊥) → (x y z : ℕ) → x ≡ n / 262144 % 64 → y ≡ n / 4096 % 64 → z ≡ n / 64 % 64
-      → (59 + lead) ∷ 0 ∷ 0 ∷ t ∷ x ∷ y ∷ z ∷ d ∷ 0 ∷ 0 ∷ 0 ∷ 0 ∷ [] ≡ variableHead t h raw
+      → (59 + lead) ∷ 0 ∷ 0 ∷ t ∷ x ∷ y ∷ z ∷ d ∷ 0 ∷ 0 ∷ 0 ∷ 0 ∷ [] ≡ variableHead t h lead n
   unfolding variableHead variableSextets padTo
-  large-head i x y z p q r = rw (ne-eqb h 1 i, p, q, r, g, f, e, div-one)
+  large-head i x y z p q r = rw (ne-eqb h 1 i, p, q, r, g, div-one)
 
 -- ---- three units
 

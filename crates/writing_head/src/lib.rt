@@ -1,5 +1,5 @@
-// What stands before the raw value of an item, as its first nine bytes: code, prepad and tag characters, or selector, type and
-// count. Then zeros. Of a code that the lengths do not fit nothing is said.
+// What stands before the raw value or the text of an item, as its first nine bytes: code, prepad and tag characters, or selector, type
+// and count. Then zeros. Of a code that the lengths do not fit nothing is said.
 use format::CodeRow;
 use writing_code::Named;
 ghost use mathlib.Core.Path.{_≡_};
@@ -79,11 +79,11 @@ fn digit(n: usize) -> u8
     (n % 64) as u8
 }
 
-fn variable_head(letter: u8, head: u8, raw: usize) -> [u8; 12]
-    ensures { λ r. ⌜ ((head ≡ 1 → raw ≤ 12285) → r ≡ variableHead letter head raw) ⌝ }
+// Selector, type and count; a small form's count has two digits.
+fn variable_head(letter: u8, head: u8, lead: u8, n: usize) -> [u8; 12]
+    requires { ⌜ lead < 3 ⌝ }
+    ensures { λ r. ⌜ ((head ≡ 1 → n ≤ 4095) → r ≡ variableHead letter head lead n) ⌝ }
 {
-    let lead = writing_code::lead_for(raw);
-    let n = writing_code::count_for(raw);
     let d = digit(n);
     let c = digit(n / 64);
     if head == 1 {
@@ -100,7 +100,18 @@ fn head_of(n: Named, tag: [u8; 11], tags: usize, raw: usize) -> [u8; 12]
     match n {
         Named::Unknown => [0; 12],
         Named::Row(c) => row_head(c, tag, tags),
-        Named::Variable { letter, head } => variable_head(letter, head, raw),
+        Named::Variable { letter, head } => variable_head(
+            letter,
+            head,
+            writing_sizes::lead_for(raw),
+            writing_sizes::count_for(raw),
+        ),
+        Named::Textual { head } => variable_head(
+            0,
+            head,
+            writing_sizes::text_lead(raw),
+            writing_sizes::text_count(raw),
+        ),
     }
 }
 

@@ -1,41 +1,76 @@
 -- The plan of an item before its room is asked, as format's writing goes: refused or not. Assumes nothing.
 use Prim.Native.Nat.{ℕ, _*_}
-use mathlib.Core.List.{List}
+use mathlib.Core.List.{List, _++_}
 use lib.Dec.{ltb, eqb}
-use lib.ListN.{take, replicate}
+use lib.ListN.{length, take, drop, replicate}
 use Rattle.base.specs.Pick.{pick}
-use Rattle.format.specs.Conversion.{firstStranger, firstNumber}
+use Rattle.format.specs.Units.{textSextets}
+use Rattle.format.specs.Conversion.{toText, firstStranger, firstNumber}
+use Rattle.format.specs.Texts.{fills}
 use Rattle.format.specs.Writing as F
 use Rattle.writing_head.specs.Heads.{headBytes}
 use Rattle.writing_plan.specs.declared.Refusal.{Refusal}
+use Rattle.writing_plan.specs.declared.Planned.{Planned}
 use Rattle.writing_plan.specs.declared.Planned.the-variants as P
 use Rattle.writing_plan.specs.declared.Plan.{Plan}
 
 abbrev pub refusal : ℕ → ℕ → Refusal
 refusal m p = record { number = m; place = p }
 
--- in this order 6, 12, 18, 5 or 19; number 0 for none
-unfoldable pub refusalOf : F.Named → List ℕ → ℕ → ℕ → Refusal
+-- ---- 5 or 19, and 16; number 0 for none
+
+abbrev strangerRefusal : List ℕ → ℕ → Refusal → Refusal
+strangerRefusal chars count r = pick (ltb (firstStranger chars) count) (refusal (firstNumber chars) (firstStranger chars)) r
+
+unfoldable pub tagRefusal : List ℕ → ℕ → Refusal
+tagRefusal tag tags = strangerRefusal (take tags tag) tags (refusal 0 0)
+
+unfoldable pub textRefusal : List ℕ → Refusal
+textRefusal chars = strangerRefusal chars (length chars) (pick (fills 1 (textSextets chars)) (refusal 16 0) (refusal 0 0))
+
+unfoldable pub charsRefusal : F.Named → List ℕ → ℕ → List ℕ → Refusal
+charsRefusal F.Named.unknown tag tags raw = tagRefusal tag tags
+charsRefusal (F.Named.row c) tag tags raw = tagRefusal tag tags
+charsRefusal (F.Named.variable t h) tag tags raw = tagRefusal tag tags
+charsRefusal (F.Named.textual h) tag tags raw = textRefusal raw
+
+-- ---- in this order 6, 12, 18, 5 or 19, 16
+
+unfoldable pub refusalOf : F.Named → List ℕ → ℕ → List ℕ → Refusal
 refusalOf n tag tags raw =
     pick (F.isNamed n)
-    (pick (F.isFit n tags raw)
-    (pick (F.isShort n raw)
-    (pick (ltb (firstStranger (take tags tag)) tags) (refusal (firstNumber (take tags tag)) (firstStranger (take tags tag)))
-    (refusal 0 0))
+    (pick (F.isFit n tags (length raw))
+    (pick (F.isShort n (length raw))
+    (charsRefusal n tag tags raw)
     (refusal 18 0))
     (refusal 12 0))
     (refusal 6 0)
 
+unfoldable pub plannedOf : F.Named → ℕ → Planned
+plannedOf F.Named.unknown k = P.Units k
+plannedOf (F.Named.row c) k = P.Units k
+plannedOf (F.Named.variable t h) k = P.Units k
+plannedOf (F.Named.textual h) k = P.Text h
+
 -- by the refusal: the item's size and first bytes where there is none
 abbrev pub planBy : Refusal → F.Named → List ℕ → ℕ → Plan
 planBy r n tag raw =
-    pick (eqb (r .number) 0) (record { planned = P.Units (F.unitsOf n raw); head = headBytes n tag raw })
+    pick (eqb (r .number) 0) (record { planned = plannedOf n (F.unitsOf n raw); head = headBytes n tag raw })
     (record { planned = P.Refused (r .number) (r .place); head = replicate 9 0 })
 
-unfoldable pub planOf : F.Named → List ℕ → ℕ → ℕ → Plan
-planOf n tag tags raw = planBy (refusalOf n tag tags raw) n (take tags tag) raw
+unfoldable pub planOf : F.Named → List ℕ → ℕ → List ℕ → Plan
+planOf n tag tags raw = planBy (refusalOf n tag tags raw) n (take tags tag) (length raw)
 
 -- ---- what is asked last: 3, with u elements to the unit
 
 abbrev pub roomFor : ℕ → ℕ → ℕ → F.Writing
 roomFor u k room = pick (ltb room (k * u)) (F.Writing.refused 3 0) (F.Writing.written k)
+
+-- what the buffer holds then: the bytes b of the item, or their text, where it is written
+abbrev pub binaryIn : F.Writing → List ℕ → List ℕ → List ℕ
+binaryIn (F.Writing.refused m p) b d = d
+binaryIn (F.Writing.written k) b d = b ++ drop (k * 3) d
+
+abbrev pub textIn : F.Writing → List ℕ → List ℕ → List ℕ
+textIn (F.Writing.refused m p) b d = d
+textIn (F.Writing.written k) b d = toText b ++ drop (k * 4) d

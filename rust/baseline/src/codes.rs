@@ -18,6 +18,10 @@ pub enum Class {
     /// A variable code with one or two lead bytes.
     Lead1,
     Lead2,
+    /// Type `A`: text with none or one `A` before it, with two, with three.
+    Text,
+    Text1,
+    Text2,
     /// A large variable code whose count fits the small one.
     NotShort,
     /// A group; one with a first-item mark; one not to be looked into; a large
@@ -40,12 +44,33 @@ pub struct Row {
     pub count: u16,
 }
 
-/// What the last two sextets of a primitive's first unit must say, and the number if it does not.
+/// What the last two sextets of a primitive's first unit must say, and the number
+/// if it does not; and what its value's first unit must be.
 #[derive(Clone, Copy)]
 pub struct Check {
     pub mask: u16,
     pub want: u16,
     pub number: u8,
+    pub front: Front,
+}
+
+/// A range of the 24 bits of a unit.
+#[derive(Clone, Copy)]
+pub struct Front {
+    least: u32,
+    most: u32,
+}
+
+impl Front {
+    const ANY: Front = Front {
+        least: 0,
+        most: 0xFF_FFFF,
+    };
+
+    #[inline(always)]
+    pub fn contains(self, bits: u32) -> bool {
+        (self.least..=self.most).contains(&bits)
+    }
 }
 
 impl Class {
@@ -67,32 +92,36 @@ static CHECKS: [Check; CLASSES] = checks();
 const CLASSES: usize = Class::OtherGenus as usize + 1;
 
 const fn checks() -> [Check; CLASSES] {
-    let mut checks = [Check {
-        mask: 0,
-        want: 0,
-        number: 0,
-    }; CLASSES];
-    checks[Class::NotZero as usize] = Check {
-        mask: 0,
-        want: 1,
-        number: 8,
-    };
-    checks[Class::FourZero as usize] = Check {
-        mask: 0xF00,
-        want: 0,
-        number: 8,
-    };
-    checks[Class::Prepad as usize] = Check {
-        mask: 0xFC0,
-        want: 0xFC0,
-        number: 10,
-    };
-    checks[Class::NotShort as usize] = Check {
-        mask: 0,
-        want: 1,
-        number: 18,
-    };
+    let mut checks = [of_header(0, 0, 0); CLASSES];
+    checks[Class::NotZero as usize] = of_header(0, 1, 8);
+    checks[Class::FourZero as usize] = of_header(0xF00, 0, 8);
+    checks[Class::Prepad as usize] = of_header(0xFC0, 0xFC0, 10);
+    checks[Class::NotShort as usize] = of_header(0, 1, 18);
+    checks[Class::Lead1 as usize] = of_value(0, 0xFFFF);
+    checks[Class::Lead2 as usize] = of_value(0, 0xFF);
+    // A text starts with another character than `A`: behind one `A` or none
+    // twelve bits are not all zero, behind two the next six, behind three the
+    // last six.
+    checks[Class::Text as usize] = of_value(1 << 12, 0xFF_FFFF);
+    checks[Class::Text1 as usize] = of_value(1 << 6, 0xFFF);
+    checks[Class::Text2 as usize] = of_value(1, 0x3F);
     checks
+}
+
+const fn of_header(mask: u16, want: u16, number: u8) -> Check {
+    Check {
+        mask,
+        want,
+        number,
+        front: Front::ANY,
+    }
+}
+
+const fn of_value(least: u32, most: u32) -> Check {
+    Check {
+        front: Front { least, most },
+        ..of_header(0, 0, 0)
+    }
 }
 
 impl Row {
@@ -169,7 +198,7 @@ const fn row(first: usize, second: usize) -> Row {
         0..=26 => letter(first, second),
         DIGIT_0 => zero(second),
         53 | 59..=61 if second == 0 => MORE,
-        56..=58 if is_type(second) => counted(lead(first - 56)),
+        56..=58 if is_type(second) => counted(variable(second, first - 56)),
         DASH if second >= DASH => MORE,
         DASH if second <= LAST_GROUP => counted(group(second)),
         _ => UNKNOWN,
@@ -203,11 +232,14 @@ pub const fn is_type(letter: usize) -> bool {
     letter <= 5 || letter == 7
 }
 
-/// The class of a variable code by its number of lead bytes.
-pub const fn lead(bytes: usize) -> Class {
-    match bytes {
-        0 => Class::Plain,
-        1 => Class::Lead1,
+/// The class of a variable code by its type and its number of lead bytes.
+pub const fn variable(letter: usize, lead: usize) -> Class {
+    match (letter, lead) {
+        (0, 0) => Class::Text,
+        (0, 1) => Class::Text1,
+        (0, _) => Class::Text2,
+        (_, 0) => Class::Plain,
+        (_, 1) => Class::Lead1,
         _ => Class::Lead2,
     }
 }

@@ -124,8 +124,9 @@ fn more<U: Unit, const CAREFUL: bool>(
         },
         codes::SEVEN_A | codes::EIGHT_A | codes::NINE_A if third == 0 && codes::is_type(fourth) => {
             let count = second_unit::<U, CAREFUL>(left, clean)? as usize;
+            let lead = usize::from(code - codes::SEVEN_A) >> 6;
             let class = match count {
-                codes::LEAST_LARGE.. => codes::lead(usize::from(code - codes::SEVEN_A) >> 6),
+                codes::LEAST_LARGE.. => codes::variable(fourth, lead),
                 _ => Class::NotShort,
             };
             two_unit_header(left.len(), count, class, low)
@@ -177,27 +178,37 @@ fn two_unit_header(left: usize, count: usize, class: Class, low: u16) -> Result<
     })
 }
 
-/// Judges a framed primitive or genus/version without strangers: 0, 18, 9, 8, 10.
+/// Judges a framed primitive or genus/version without strangers: 0, 18, 9, 8,
+/// 10, 16.
+///
+/// What stands in front of a value is a range of its first unit's bits, so that
+/// no class asks for a branch of its own; an item that has no value is looked at
+/// in its last unit, which for a variable is its header and so no lead byte.
 #[inline(always)]
 pub fn primitive<U: Unit>(item: &[U], framed: &Frame) -> u8 {
     let check = framed.class.check();
     if framed.low & check.mask != check.want {
         return check.number;
     }
-    match framed.class {
-        Class::Lead1 => lead(&item[framed.header..], 16),
-        Class::Lead2 => lead(&item[framed.header..], 8),
-        _ => 0,
+    let value = item[framed.header.min(item.len() - 1)].bits();
+    if check.front.contains(value) {
+        return 0;
     }
+    refused_front(&item[framed.header..], framed.class)
 }
 
-/// The lead bytes of a variable value: 9, then 8.
-#[inline(always)]
-fn lead<U: Unit>(value: &[U], shift: u32) -> u8 {
+/// The number of a value that is not in its range: 9, 8, 16.
+#[cold]
+fn refused_front<U: Unit>(value: &[U], class: Class) -> u8 {
+    let lead = match class {
+        Class::Lead1 | Class::Text1 => 16,
+        Class::Lead2 | Class::Text2 => 8,
+        _ => return 16,
+    };
     match value.first() {
         None => 9,
-        Some(unit) if unit.bits() >> shift != 0 => 8,
-        Some(_) => 0,
+        Some(unit) if unit.bits() >> lead != 0 => 8,
+        Some(_) => 16,
     }
 }
 

@@ -8,7 +8,7 @@ use oracle::Form as Judge;
 use streams::damage::{damage, OPERATORS};
 use streams::form::FORMS;
 use streams::generate::{
-    any_deck, every_code, large_code, long_item, nested, not_short_deck, LARGE_CODES,
+    any_deck, any_fill_deck, every_code, large_code, long_item, nested, not_short_deck, LARGE_CODES,
 };
 use streams::item::stream;
 use streams::noise::noise;
@@ -18,7 +18,7 @@ use streams::{Form, Item, Random};
 /// 01, "The deck we check by" and "Errors we have seen shipped", and the
 /// streams of docs/DECISIONS.md.
 #[rustfmt::skip]
-const DECK: [&str; 78] = [
+const DECK: [&str; 96] = [
     "", "MAAB", "MP__", "MQAA", "0HD_____", "0HEAAAAA", "VABh", "WGhp", "1AAM", "4BAA", "5BAA",
     "5BABAGhp", "6BABAABh", "5BABAPAA", "5BABAQAA", "0J_A", "0JAA", "-0AA", "-AAA", "-AABMAAB",
     "-AACMAAB", "-AAC-_AAABAA", "-JAC-_AAABAA", "-AAB0AAAMAAB", "--AAABAA",
@@ -31,7 +31,10 @@ const DECK: [&str; 78] = [
     "-LAB____", "8AABAAAA", "9AABAAABAAEA", "-AABMAABMAAB!", "--KAAAAB_AA!",
     "--AAAAAA", "7AABAAAA", "9AABAAABAABh", "9AABAAAB!ABh", "-AAC--JAAAAAMAAB", "-AADMQAA--JAAAAA",
     "-JAD8AAHAAABAAAA", "MA!+", "MA+!", "7AAB+__!", "7AAB!__+", "0HEAA/!A", "0HEAA!/A",
-    "-AABMA=!", "-KAB_A=!", "WGhpWGg=",
+    "-AABMA=!", "-KAB_A=!", "WGhpWGg=", "4AAA", "4AABAAAA", "4AABAACD", "4AABABCD", "4AAB-4-5",
+    "4AADA-a-personal", "5AAEAA-4-5-legalName", "6AAEAAA-a-personal-1", "5AAA", "5AABAB-a",
+    "5AABAP-a", "5AABBA-a", "5AABAAAa", "6AABAAB-", "6AABAAE-", "6AABAAAA", "4AABAA!A",
+    "-AAC4AABAACDMAAB",
 ];
 
 #[test]
@@ -128,6 +131,55 @@ fn on_large_codes_for_few_units() {
     }
 }
 
+/// Every first unit of a text that decides, under every selector: `A` and its
+/// neighbours in each place, by itself and with a unit behind it.
+#[test]
+fn on_every_fill() {
+    let choices = b"ABDEPQ_";
+    for selector in *b"456789" {
+        for index in 0..choices.len().pow(4) {
+            let unit = [343, 49, 7, 1].map(|place| choices[index / place % 7]);
+            for more in 0..2 {
+                let mut text = vec![selector, b'A', b'A', b'B' + more];
+                if selector > b'6' {
+                    text = vec![selector, b'A', b'A', b'A', b'A', b'A', b'A', b'B' + more];
+                }
+                text.extend(unit);
+                text.extend(b"AAAA".repeat(usize::from(more)));
+                assert_alike_in_both(&text, "fill");
+            }
+        }
+    }
+}
+
+/// The same in long texts, of which the large selectors are.
+#[test]
+fn on_every_fill_of_a_long_text() {
+    for head in ["4A__", "5A__", "6A__", "7AAAABAA", "8AAAABAA", "9AAAABAA"] {
+        let units = 4095 + usize::from(head.len() > 4);
+        for unit in [
+            "-aaa", "Aaaa", "AAaa", "AAAa", "AAAA", "ABaa", "AABa", "Baaa",
+        ] {
+            let text = [head, unit, &"BCDE".repeat(units - 1)].concat();
+            assert_alike_in_both(text.as_bytes(), "long fill");
+        }
+    }
+}
+
+#[test]
+fn on_any_fill() {
+    let mut random = Random::new(0x0016);
+    for round in 0..8000 {
+        for form in FORMS {
+            let mut stream = form.of_text(&stream(&any_fill_deck(&mut random)));
+            if round % 2 == 1 {
+                damage(&mut random, form, &mut stream);
+            }
+            assert_alike(&stream, form, "any fill");
+        }
+    }
+}
+
 #[test]
 fn on_long_items() {
     let mut random = Random::new(0x4096);
@@ -202,8 +254,8 @@ fn on_noise() {
 
 #[test]
 fn the_streams_meet_every_number() {
-    // D44: a verdict is 4 to 11, 18 or 19, a remainder's number 4 to 7 or 19; 5
-    // and 19 in text only.
+    // D44: a verdict is 4 to 11, 16, 18 or 19, a remainder's number 4 to 7 or
+    // 19; 5 and 19 in text only.
     let mut random = Random::new(0xA11);
     for (form, judge) in [(Form::Text, Judge::Text), (Form::Binary, Judge::Binary)] {
         let (mut verdicts, mut remainders) = ([0; 256], [0; 256]);
@@ -217,10 +269,10 @@ fn the_streams_meet_every_number() {
             rest.into_iter()
                 .for_each(|n| remainders[usize::from(n)] += 1);
         }
-        for number in (4..12).chain([18, 19]) {
+        for number in (4..12).chain([16, 18, 19]) {
             let possible = ![5, 19].contains(&number) || form == Form::Text;
             assert_eq!(verdicts[number] > 0, possible, "{form:?} verdict {number}");
-            let possible = possible && ![8, 9, 10, 11, 18].contains(&number);
+            let possible = possible && ![8, 9, 10, 11, 16, 18].contains(&number);
             assert_eq!(remainders[number] > 0, possible, "{form:?} rest {number}");
         }
     }

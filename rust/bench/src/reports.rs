@@ -3,7 +3,7 @@
 
 use crate::race::{Contender, Race, Rate, REFUSED};
 use crate::SIZES;
-use streams::decks::{digests, mixed, nests};
+use streams::decks::{digests, labels, mixed, nests, small_bytes};
 use streams::{Form, Random};
 
 /// A further program is one more line in each of the two lists.
@@ -36,18 +36,20 @@ fn binary_report(stream: &[u8], out: &mut [u8]) -> usize {
 /// A maker of a text deck of at most a size.
 pub type Deck = fn(&mut Random, usize) -> Vec<u8>;
 
-pub const DECKS: [(&str, Deck); 3] = [
+/// The last two have the same sizes and selectors, from the same seed.
+pub const DECKS: [(&str, Deck); 5] = [
     ("digests", digests),
     ("groups nested ten deep", nests),
     ("all codes, groups three deep", mixed),
+    ("labels and locations of type A", labels),
+    ("the same as bytes of type B", small_bytes),
 ];
 
 pub fn races() -> Vec<Race> {
-    let mut random = Random::new(2);
     let mut races = Vec::new();
     for (deck, make) in DECKS {
         for (name, size) in SIZES {
-            let text = make(&mut random, size);
+            let text = make(&mut Random::new(2), size);
             let binary = Form::Binary.of_text(&text);
             let title = format!("Text report, {deck}, {name} of text");
             races.push(race(title, TEXT, text));

@@ -100,10 +100,9 @@ fn tell(items: usize, out: &mut [u8]) -> usize {
 const ROOM: usize = 8;
 
 pub fn races() -> Vec<Race> {
-    let mut random = Random::new(3);
     let mut races = Vec::new();
     for (deck, make) in DECKS {
-        let text = make(&mut random, 1 << 20);
+        let text = make(&mut Random::new(3), 1 << 20);
         let binary = Form::Binary.of_text(&text);
         let title = format!("Text walk, {deck}, 1 MiB of text");
         races.push(race(title, TEXT, text));

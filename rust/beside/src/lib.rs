@@ -54,24 +54,26 @@ pub fn read_text(
 pub fn read_binary(
     binary: &[u8],
     at: usize,
+    out: &mut [u8],
     tag: &mut Tag,
     info: &mut Info,
 ) -> Result<usize, Refusal> {
-    let (found, part) = primitive::read_binary(binary, at).map_err(refused)?;
-    let raw = told(&found, Form::Binary, tag, info);
-    let start = at + info[3];
-    assert!(std::ptr::eq(part, &binary[start..start + raw]));
-    Ok(raw)
+    let (found, part) = primitive::read_binary(binary, at, out).map_err(refused)?;
+    let length = told(&found, Form::Binary, tag, info);
+    let start = at + info[proved::INFO_START];
+    assert!(std::ptr::eq(part, &binary[start..start + found.raw]));
+    Ok(length)
 }
 
-/// What a reader tells of a primitive, and the raw length.
+/// What a reader tells of a primitive, and the length of its value.
 fn told(found: &primitive::Primitive, form: Form, tag: &mut Tag, info: &mut Info) -> usize {
     let (chars, letter, _) = walk::code(found.code);
     let units = found.size / form.unit();
     let start = 3 * units - found.raw;
+    let (raw, tags, text) = (found.raw, found.tag.number, found.text);
     *tag = found.tag.characters;
-    *info = [chars, letter, units, start, found.raw, found.tag.number];
-    found.raw
+    *info = [chars, letter, units, start, raw, tags, text];
+    raw + text
 }
 
 pub fn write_text(item: &Primitive, out: &mut [u8]) -> Result<usize, Refusal> {

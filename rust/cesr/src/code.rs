@@ -17,12 +17,14 @@ pub enum Code {
         /// Its last character.
         letter: u8,
     },
-    /// A small variable, of selector `4`, `5` or `6`: up to 12,285 raw bytes.
+    /// A small variable, of selector `4`, `5` or `6`: up to 12,285 raw bytes, or
+    /// of type `A` 16,380 characters with their fill.
     Small {
         /// Its type.
         letter: u8,
     },
-    /// A large variable, of selector `7`, `8` or `9`: from 12,286 raw bytes on.
+    /// A large variable, of selector `7`, `8` or `9`: from 12,286 raw bytes on,
+    /// or of type `A` from 16,381 characters on.
     Large {
         /// Its type.
         letter: u8,
@@ -84,6 +86,14 @@ impl Code {
         }
     }
 
+    /// Is its value text? It is that of variable type `A`, small and large.
+    pub fn is_text(self) -> bool {
+        matches!(
+            self,
+            Code::Small { letter: b'A' } | Code::Large { letter: b'A' }
+        )
+    }
+
     /// Does it head a group?
     pub fn is_group(self) -> bool {
         matches!(self, Code::SmallGroup { .. } | Code::LargeGroup { .. })
@@ -131,7 +141,7 @@ impl fmt::Display for ParseCodeError {
 impl std::error::Error for ParseCodeError {}
 
 /// A primitive's code by its characters. A variable's selector tells small
-/// from large; the lead follows from the raw length.
+/// from large; the lead follows from the length of the value.
 ///
 /// ```
 /// use cesr::Code;

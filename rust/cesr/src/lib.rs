@@ -11,7 +11,7 @@
 //! | judge a stream | [`judge`], [`judge_into`], [`judge_with`]: a [`Report`] with its rows |
 //! | know what was not looked into | [`opaque`] |
 //! | convert a stream | [`to_binary`], [`to_text`] and their `_into` forms |
-//! | read one primitive | [`read`], [`read_text_into`], [`read_binary`] |
+//! | read one primitive | [`read`], [`read_text_into`], [`read_binary_into`]: a [`Value`] |
 //! | write one primitive | [`write()`], [`write_into`] |
 //! | write a value by its type alone | [`write_variable`], [`write_variable_into`] |
 //! | go through all depths | [`Walk`], an iterator |
@@ -78,8 +78,8 @@ pub use expectation::{compare, Comparison, Expectation};
 pub use form::{Form, ParseFormError};
 pub use opaque::{opaque, Opaque};
 pub use primitive::{
-    read, read_binary, read_text_into, write, write_into, write_variable, write_variable_into,
-    Primitive, Tag,
+    read, read_binary_into, read_text_into, write, write_into, write_variable, write_variable_into,
+    Primitive, Tag, Value,
 };
 pub use proved::{STATE, STATE_POSITION};
 pub use refusal::{Number, Refusal};

@@ -6,8 +6,8 @@ use std::fmt;
 
 /// The most tag characters that an item holds.
 const MOST_TAGS: usize = 11;
-/// Room for the raw value of every fixed code.
-const FIXED_ROOM: usize = 128;
+/// Room for the raw value of every fixed code, and for most texts.
+const FIRST_ROOM: usize = 128;
 /// Units that an item can need beside those its raw value fills: two of
 /// header, three of tag characters, one that the value fills in part.
 const UNITS_BESIDE: usize = 6;
@@ -51,6 +51,25 @@ impl fmt::Debug for Tag {
     }
 }
 
+/// What a primitive holds: raw bytes, or text under variable type `A`.
+#[derive(Clone, Debug, PartialEq, Eq)]
+pub enum Value<'a> {
+    /// The raw value; empty for a tag.
+    Raw(Cow<'a, [u8]>),
+    /// The characters of type `A`, without the `A` that fill them up in front.
+    Text(Cow<'a, str>),
+}
+
+impl Value<'_> {
+    /// The raw bytes or the characters: what the writer takes for it.
+    pub fn as_bytes(&self) -> &[u8] {
+        match self {
+            Value::Raw(raw) => raw,
+            Value::Text(text) => text.as_bytes(),
+        }
+    }
+}
+
 /// A primitive that was read.
 #[derive(Clone, Debug, PartialEq, Eq)]
 pub struct Primitive<'a> {
@@ -60,117 +79,204 @@ pub struct Primitive<'a> {
     pub size: usize,
     /// Its tag characters; none for a code that is no tag.
     pub tag: Tag,
-    /// Its raw value; empty for a tag.
-    pub raw: Cow<'a, [u8]>,
+    /// Its value.
+    pub value: Value<'a>,
+}
+
+impl Primitive<'_> {
+    /// Its raw value; empty for a tag and for a text.
+    pub fn raw(&self) -> &[u8] {
+        match &self.value {
+            Value::Raw(raw) => raw,
+            Value::Text(_) => &[],
+        }
+    }
+
+    /// Its text; none for another type than `A`.
+    pub fn text(&self) -> Option<&str> {
+        match &self.value {
+            Value::Raw(_) => None,
+            Value::Text(text) => Some(text),
+        }
+    }
 }
 
 /// Reads the primitive at an offset: refused 1, 4 at or past the end, as it is
-/// framed (never 7), 14 for a group or genus/version, then as it is judged.
+/// framed (never 7), 14 for a group or genus/version, then as it is judged. A
+/// raw value of a binary is the part of the stream where it lies.
 ///
 /// ```
 /// use cesr::{read, Form, Number};
 /// let item = read(Form::Text, b"MAAB5BABAGhp", 4)?;
 /// assert_eq!((item.head.to_string().as_str(), item.size), ("5B", 8));
-/// assert_eq!(&*item.raw, b"hi");
+/// assert_eq!(item.raw(), b"hi");
 ///
 /// let tag = read(Form::Text, b"0J_A", 0)?;
 /// assert_eq!(tag.tag.as_bytes(), b"A");
+///
+/// let path = read(Form::Text, b"4AADA-a-personal", 0)?;
+/// assert_eq!(path.text(), Some("-a-personal"));
 ///
 /// let refusal = read(Form::Text, b"-AABMAAB", 0).unwrap_err();
 /// assert_eq!(refusal.number, Number::NOT_A_PRIMITIVE);
 /// # Ok::<(), cesr::Refusal>(())
 /// ```
 pub fn read(form: Form, stream: &[u8], at: usize) -> Result<Primitive<'_>, Refusal> {
-    if form == Form::Binary {
-        return read_binary(stream, at);
-    }
-    let mut out = vec![0; FIXED_ROOM];
-    let first = read_text_into(stream, at, &mut out).map(Primitive::into_parts);
-    let parts = match first {
+    let mut first = [0; FIRST_ROOM];
+    match Found::in_stream(form, stream, at, &mut first) {
         Err(refusal) if refusal.number == Number::ROOM => {
-            let left = Form::Text.units(stream.len().saturating_sub(at));
-            out = vec![0; Form::Binary.room(left)];
-            read_text_into(stream, at, &mut out).map(Primitive::into_parts)
+            // No value has more than four characters a unit.
+            let left = form.units(stream.len().saturating_sub(at));
+            let mut out = vec![0; Form::Text.room(left)];
+            let found = Found::in_stream(form, stream, at, &mut out)?;
+            Ok(found.kept(form, stream, &out))
         }
-        answer => answer,
-    };
-    let (head, size, tag, length) = parts?;
-    out.truncate(length);
-    Ok(Primitive {
-        head,
-        size,
-        tag,
-        raw: Cow::Owned(out),
-    })
-}
-
-impl Primitive<'_> {
-    fn into_parts(self) -> (Head, usize, Tag, usize) {
-        (self.head, self.size, self.tag, self.raw.len())
+        answer => Ok(answer?.kept(form, stream, &first)),
     }
 }
 
-/// Reads the primitive of a text; the raw value is copied to the start of
-/// `out`. Refused as [`read`], then 3 if the room is below the raw length.
+/// Reads the primitive of a text; its raw value, or its text, is copied to the
+/// start of `out`. Refused as [`read`], then 3 if the room is below its length.
 /// Refused, `out` stays as it was.
 pub fn read_text_into<'o>(
     text: &[u8],
     at: usize,
     out: &'o mut [u8],
 ) -> Result<Primitive<'o>, Refusal> {
-    let (mut tag, mut info) = ([0; MOST_TAGS], [0; 6]);
-    let length = proved::read_text(text, at, out, &mut tag, &mut info)?;
-    let raw = out.get(..length).unwrap_or_default();
-    Ok(told(Form::Text, tag, info, raw))
+    let found = Found::in_stream(Form::Text, text, at, out)?;
+    let value = found.value(Form::Text, &[], out);
+    Ok(found.primitive(Form::Text, value))
 }
 
-/// Reads the primitive of a binary; the raw value is the part of the stream
-/// where it lies.
+/// Reads the primitive of a binary; a raw value is the part of the stream where
+/// it lies, and only a text is copied to the start of `out`. Refused as
+/// [`read`], then 3 if the room is below the text's length. Refused, `out` stays
+/// as it was.
 ///
 /// ```
-/// use cesr::read_binary;
-/// let item = read_binary(b"\x30\xFF\xFE", 0)?;
-/// assert_eq!(&*item.raw, b"\xFF\xFE");
+/// use cesr::{read_binary_into, Number};
+/// let item = read_binary_into(b"\x30\xFF\xFE", 0, &mut [])?;
+/// assert_eq!(item.raw(), b"\xFF\xFE");
+///
+/// // `5AABAA-a` in binary.
+/// let mut out = [0; 2];
+/// let item = read_binary_into(b"\xE4\x00\x01\x00\x0F\x9A", 0, &mut out)?;
+/// assert_eq!(item.text(), Some("-a"));
+/// let refusal = read_binary_into(b"\xE4\x00\x01\x00\x0F\x9A", 0, &mut []).unwrap_err();
+/// assert_eq!(refusal.number, Number::ROOM);
 /// # Ok::<(), cesr::Refusal>(())
 /// ```
-pub fn read_binary(binary: &[u8], at: usize) -> Result<Primitive<'_>, Refusal> {
-    let (mut tag, mut info) = ([0; MOST_TAGS], [0; 6]);
-    let length = proved::read_binary(binary, at, &mut tag, &mut info)?;
-    let [_, _, _, start, _, _] = info;
-    let start = at.saturating_add(start);
-    let raw = binary.get(start..start.saturating_add(length));
-    Ok(told(Form::Binary, tag, info, raw.unwrap_or_default()))
+pub fn read_binary_into<'a>(
+    binary: &'a [u8],
+    at: usize,
+    out: &'a mut [u8],
+) -> Result<Primitive<'a>, Refusal> {
+    let found = Found::in_stream(Form::Binary, binary, at, out)?;
+    let value = found.value(Form::Binary, binary, out);
+    Ok(found.primitive(Form::Binary, value))
 }
 
-fn told(form: Form, characters: [u8; MOST_TAGS], info: proved::Info, raw: &[u8]) -> Primitive<'_> {
-    let [chars, letter, units, start, _, count] = info;
-    let code = Code::answered(chars, letter);
-    // The raw value starts behind the header and the lead.
-    let lead = match code {
-        Code::Small { .. } => start.saturating_sub(3),
-        Code::Large { .. } => start.saturating_sub(6),
-        _ => 0,
-    };
-    Primitive {
-        head: Head {
-            code,
-            lead: u8::try_from(lead).unwrap_or(0),
-        },
-        size: units.saturating_mul(form.unit()),
-        tag: Tag { characters, count },
-        raw: Cow::Borrowed(raw),
+/// What the library told of a primitive.
+struct Found {
+    at: usize,
+    tag: [u8; MOST_TAGS],
+    info: proved::Info,
+}
+
+impl Found {
+    fn in_stream(form: Form, stream: &[u8], at: usize, out: &mut [u8]) -> Result<Found, Refusal> {
+        let (mut tag, mut info) = ([0; MOST_TAGS], [0; proved::INFO]);
+        match form {
+            Form::Text => proved::read_text(stream, at, out, &mut tag, &mut info)?,
+            Form::Binary => proved::read_binary(stream, at, out, &mut tag, &mut info)?,
+        };
+        Ok(Found { at, tag, info })
+    }
+
+    fn code(&self) -> Code {
+        let [chars, letter, ..] = self.info;
+        Code::answered(chars, letter)
+    }
+
+    /// Its value: a text's characters and the raw value of a text stream stand
+    /// in `out`, a raw value of a binary where it lies.
+    fn value<'a>(&self, form: Form, stream: &'a [u8], out: &'a [u8]) -> Value<'a> {
+        let [_, _, _, _, raw, _, text] = self.info;
+        if self.code().is_text() {
+            let characters = out.get(..text).unwrap_or_default();
+            return Value::Text(String::from_utf8_lossy(characters));
+        }
+        Value::Raw(match form {
+            Form::Text => out.get(..raw).unwrap_or_default().into(),
+            Form::Binary => self.part(stream).into(),
+        })
+    }
+
+    /// With a value that lies in the stream, or is a copy.
+    fn kept<'s>(self, form: Form, stream: &'s [u8], out: &[u8]) -> Primitive<'s> {
+        let value = match self.value(form, stream, out) {
+            Value::Raw(_) if form == Form::Binary => Value::Raw(self.part(stream).into()),
+            Value::Raw(raw) => Value::Raw(raw.into_owned().into()),
+            Value::Text(text) => Value::Text(text.into_owned().into()),
+        };
+        self.primitive(form, value)
+    }
+
+    /// The part of a binary where its raw value lies.
+    fn part<'a>(&self, binary: &'a [u8]) -> &'a [u8] {
+        let [_, _, _, start, raw, ..] = self.info;
+        let start = self.at.saturating_add(start);
+        let part = binary.get(start..start.saturating_add(raw));
+        part.unwrap_or_default()
+    }
+
+    fn primitive(self, form: Form, value: Value<'_>) -> Primitive<'_> {
+        let [_, _, units, _, _, count, _] = self.info;
+        Primitive {
+            head: Head {
+                code: self.code(),
+                lead: self.lead(),
+            },
+            size: units.saturating_mul(form.unit()),
+            tag: Tag {
+                characters: self.tag,
+                count,
+            },
+            value,
+        }
+    }
+
+    /// The lead bytes of a variable: between the header and the raw value; of a
+    /// text one less than the `A` that fill it up, and none where there are none.
+    fn lead(&self) -> u8 {
+        let [_, _, units, start, _, _, text] = self.info;
+        let code = self.code();
+        let header: usize = match code {
+            Code::Small { .. } => 1,
+            Code::Large { .. } => 2,
+            _ => return 0,
+        };
+        let lead = if code.is_text() {
+            let filled = Form::Text.room(units.saturating_sub(header));
+            filled.saturating_sub(text).saturating_sub(1)
+        } else {
+            start.saturating_sub(Form::Binary.room(header))
+        };
+        u8::try_from(lead).unwrap_or(0)
     }
 }
 
-/// Writes a primitive: refused 6 for a code that is no primitive's, 12 for a
-/// raw length or number of tag characters unfit for the code, 18 for a large
-/// code where the small one holds the raw value, 5 or 19 for a tag character,
-/// its place the index among them. For variables [`write_variable`] takes the code
-/// that fits.
+/// Writes a primitive; for type `A` `raw` is the characters of its text. Refused
+/// 6 for a code that is no primitive's, 12 for a raw length, text or number of
+/// tag characters unfit for the code, 18 for a large code where the small one
+/// holds the value, 5 or 19 for a character of a tag or text, its place the
+/// index among them, 16 for a text that starts with `A`. For variables
+/// [`write_variable`] takes the code that fits.
 ///
 /// ```
 /// use cesr::{write, Code, Form, Number};
 /// assert_eq!(write(Form::Text, Code::small(b'B'), b"", b"hi")?, b"5BABAGhp");
+/// assert_eq!(write(Form::Text, Code::small(b'A'), b"", b"-a")?, b"5AABAA-a");
 /// assert_eq!(write(Form::Text, "0J".parse()?, b"A", b"")?, b"0J_A");
 /// let refusal = write(Form::Text, "M".parse()?, b"", b"one").unwrap_err();
 /// assert_eq!(refusal.number, Number::UNFIT_LENGTH);
@@ -210,23 +316,29 @@ pub fn write_into(
 }
 
 /// Writes a variable value of a type with the one code that holds it: the
-/// small one, or the large one where it does not fit there. Refused 6 for a
-/// letter that is no type, 12 beyond 3,145,722 raw bytes.
+/// small one, or the large one where it does not fit there. For type `A` `raw`
+/// is the characters of its text. Refused 6 for a letter that is no type, 12
+/// beyond 3,145,722 raw bytes or 4,194,296 characters, and a text as by
+/// [`write()`].
 ///
 /// ```
 /// use cesr::{read, write_variable, Form, Number};
 /// assert_eq!(write_variable(Form::Text, b'B', b"hi")?, b"5BABAGhp");
 /// assert_eq!(write_variable(Form::Binary, b'B', b"hi")?, b"\xE4\x10\x01\0hi");
+/// assert_eq!(write_variable(Form::Text, b'A', b"-a-personal")?, b"4AADA-a-personal");
 ///
 /// // 12,285 bytes are the most that a small code holds.
 /// let raw = [7; 12_286];
 /// assert!(write_variable(Form::Text, b'B', &raw[1..])?.starts_with(b"4B__"));
 /// let large = write_variable(Form::Text, b'B', &raw)?;
 /// assert!(large.starts_with(b"9AABABAA"));
-/// assert_eq!(&*read(Form::Text, &large, 0)?.raw, &raw);
+/// assert_eq!(read(Form::Text, &large, 0)?.raw(), &raw);
 ///
 /// let refusal = write_variable(Form::Text, b'G', b"hi").unwrap_err();
 /// assert_eq!(refusal.number, Number::UNKNOWN_CODE);
+/// // It would be taken for fill.
+/// let refusal = write_variable(Form::Text, b'A', b"Abc").unwrap_err();
+/// assert_eq!(refusal.number, Number::TEXT_FILL);
 /// # Ok::<(), cesr::Refusal>(())
 /// ```
 pub fn write_variable(form: Form, letter: u8, raw: &[u8]) -> Result<Vec<u8>, Refusal> {
@@ -265,7 +377,7 @@ pub fn write_variable_into(
     }
 }
 
-/// Room for an item with this raw value, whatever its code.
+/// Room for an item with this raw value or text, whatever its code.
 fn room(form: Form, raw: &[u8]) -> usize {
     let units = Form::Binary.units(raw.len());
     form.room(units.saturating_add(UNITS_BESIDE))

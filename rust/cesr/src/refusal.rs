@@ -2,7 +2,7 @@
 
 use std::fmt;
 
-/// Why something was refused, as a number: 1 to 14, 18, 19 or 20.
+/// Why something was refused, as a number: 1 to 14, 16, 18, 19 or 20.
 ///
 /// ```
 /// use cesr::Number;
@@ -23,8 +23,8 @@ impl Number {
     pub const ROOM: Number = Number(3);
     /// Header or full size passes the end of stream or enclosing group.
     pub const PAST_END: Number = Number(4);
-    /// Character outside the alphabet but `+`, `/`, `=` (in text, or a tag
-    /// character given to a writer).
+    /// Character outside the alphabet but `+`, `/`, `=` (in text, or a
+    /// character of a tag or text given to a writer).
     pub const CHARACTER: Number = Number(5);
     /// Code unknown or reserved.
     pub const UNKNOWN_CODE: Number = Number(6);
@@ -44,10 +44,12 @@ impl Number {
     pub const UNFIT_STATE: Number = Number(13);
     /// Primitive asked for, group or genus/version found.
     pub const NOT_A_PRIMITIVE: Number = Number(14);
+    /// Type `A` without its full fill, or text that itself starts with `A`.
+    pub const TEXT_FILL: Number = Number(16);
     /// Large variable code or large group whose size fits the small code.
     pub const NOT_SHORT: Number = Number(18);
-    /// `+`, `/` or `=` of ordinary Base64 (in text, or a tag character given to
-    /// a writer).
+    /// `+`, `/` or `=` of ordinary Base64 (in text, or a character of a
+    /// tag or text given to a writer).
     pub const ORDINARY_BASE64: Number = Number(19);
     /// Expectation file or report with a missing count, a section shorter than
     /// its count says, a remainder count above 1, or bytes left over.
@@ -56,7 +58,7 @@ impl Number {
     /// The number with this value; none for a value that is no number.
     pub const fn new(value: u8) -> Option<Number> {
         match value {
-            1..=14 | 18 | 19 | 20 => Some(Number(value)),
+            1..=14 | 16 | 18 | 19 | 20 => Some(Number(value)),
             _ => None,
         }
     }
@@ -88,7 +90,7 @@ impl Number {
             2 => "whole-stream conversion: not whole units",
             3 => "output room too small",
             4 => "header or full size passes the end of stream or enclosing group",
-            5 => "character outside the alphabet but `+`, `/`, `=` (in T, or a tag character given to a writer)",
+            5 => "character outside the alphabet but `+`, `/`, `=` (in T, or a character of a tag or text given to a writer)",
             6 => "code unknown or reserved",
             7 => "genus/version required but not `AAACAA`",
             8 => "pad bit or lead byte not zero",
@@ -98,8 +100,9 @@ impl Number {
             12 => "writer: raw length or tag length unfit for the code",
             13 => "walk state unfit for the stream",
             14 => "primitive asked for, group or genus/version found",
+            16 => "type `A` without its full fill, or text that itself starts with `A`",
             18 => "large variable code or large group whose size fits the small code",
-            19 => "`+`, `/` or `=` of ordinary Base64 (in T, or a tag character given to a writer)",
+            19 => "`+`, `/` or `=` of ordinary Base64 (in T, or a character of a tag or text given to a writer)",
             20 => {
                 "expectation file or report with a missing count, a section shorter than \
                  its count says, a remainder count above 1, or bytes left over"
@@ -118,8 +121,8 @@ impl fmt::Display for Number {
 /// A refusal: its number, and the place in characters or bytes.
 ///
 /// The place is the character for 5 and 19, else the item's start; 0 for 1, 2,
-/// 3, 12, 13, 20 and for a writer's 6 and 18, and for a writer's 5 and 19 the
-/// index among the tag characters.
+/// 3, 12, 13, 20 and for a writer's 6, 16 and 18, and for a writer's 5 and 19
+/// the index among the tag characters or in the text.
 #[derive(Clone, Copy, Debug, PartialEq, Eq, Hash)]
 pub struct Refusal {
     /// Why.

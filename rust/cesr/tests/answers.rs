@@ -3,9 +3,9 @@
 //! That the library's answers are right is for the differential test.
 
 use cesr::{
-    compare, item_at, judge, judge_into, opaque, read, read_text_into, to_binary, to_binary_into,
-    to_text, to_text_into, write, write_into, write_variable, write_variable_into, Code,
-    Expectation, Form, Number, Pause, Report, State, Verdict, Walk, STATE, STATE_BYTES,
+    compare, item_at, judge, judge_into, opaque, read, read_binary_into, read_text_into, to_binary,
+    to_binary_into, to_text, to_text_into, write, write_into, write_variable, write_variable_into,
+    Code, Expectation, Form, Number, Pause, Report, State, Verdict, Walk, STATE, STATE_BYTES,
 };
 use streams::generate::any_deck;
 use streams::item::stream;
@@ -142,11 +142,15 @@ fn walks_reads_and_writes_agree() {
             };
             assert_eq!((primitive.head, primitive.size), (step.head, step.size));
             let tag = primitive.tag.as_bytes();
-            let written = write(form, step.head.code, tag, &primitive.raw).unwrap();
+            let value = primitive.value.as_bytes();
+            let written = write(form, step.head.code, tag, value).unwrap();
             assert_eq!(written, &stream[step.offset..step.offset + step.size]);
             if let Code::Small { letter } | Code::Large { letter } = step.head.code {
-                assert_eq!(write_variable(form, letter, &primitive.raw), Ok(written));
+                assert_eq!(write_variable(form, letter, value), Ok(written));
             }
+            let is_text = step.head.code.is_text();
+            assert_eq!(primitive.text().is_some(), is_text);
+            assert_eq!(primitive.raw() == value, !is_text || value.is_empty());
         }
     });
 }
@@ -273,11 +277,25 @@ fn the_limit_is_where_the_library_has_it() {
 fn lent_buffers() {
     let mut out = [0xAA; 9];
     let item = read_text_into(b"5BABAGhp", 0, &mut out[..2]).unwrap();
-    assert_eq!(&*item.raw, b"hi");
+    assert_eq!(item.raw(), b"hi");
     assert_eq!(out[2..], [0xAA; 7]);
     let mut out = [0xAA; 9];
     let refusal = read_text_into(b"5BABAGhp", 0, &mut out[..1]).unwrap_err();
     assert_eq!((refusal.number, out), (Number::ROOM, [0xAA; 9]));
+
+    // `5AABAA-a` in binary: a text is copied out of either form.
+    let binary = b"\xE4\x00\x01\x00\x0F\x9A";
+    let refusal = read_text_into(b"5AABAA-a", 0, &mut out[..1]).unwrap_err();
+    assert_eq!((refusal.number, out), (Number::ROOM, [0xAA; 9]));
+    let refusal = read_binary_into(binary, 0, &mut out[..1]).unwrap_err();
+    assert_eq!((refusal.number, out), (Number::ROOM, [0xAA; 9]));
+    let item = read_binary_into(binary, 0, &mut out[..2]).unwrap();
+    assert_eq!((item.text(), item.raw()), (Some("-a"), &[][..]));
+    assert_eq!((&out[..2], &out[2..]), (&b"-a"[..], &[0xAA; 7][..]));
+    // A raw value isn't, and asks no room.
+    let item = read_binary_into(b"\xE4\x10\x01\0hi", 0, &mut []).unwrap();
+    assert_eq!((item.text(), item.raw()), (None, &b"hi"[..]));
+    let mut out = [0xAA; 9];
 
     let code = cesr::Code::small(b'B');
     let refusal = write_into(Form::Text, code, b"", b"hi", &mut out[..7]).unwrap_err();
@@ -295,10 +313,12 @@ fn lent_buffers() {
     assert_eq!(&out, b"1AAM");
 }
 
-/// A writer's refusals: an unknown code, a tag's length and a tag character.
+/// A writer's refusals: an unknown code, a tag's length, a character of a tag or
+/// text, and a text that starts with `A`.
 #[test]
 fn what_a_writer_refuses() {
     let tag = cesr::Code::fixed(1, b'X');
+    let text = cesr::Code::small(b'A');
     for (code, tags, raw, number, place) in [
         (
             cesr::Code::GenusVersion,
@@ -319,6 +339,10 @@ fn what_a_writer_refuses() {
         (tag, b"abc", b"1", Number::UNFIT_LENGTH, 0),
         (tag, b"a!+", b"", Number::CHARACTER, 1),
         (tag, b"a+!", b"", Number::ORDINARY_BASE64, 1),
+        (text, b"", b"A-a", Number::TEXT_FILL, 0),
+        (text, b"", b"A!+", Number::CHARACTER, 1),
+        (text, b"", b"-a=", Number::ORDINARY_BASE64, 2),
+        (text, b"a", b"A", Number::UNFIT_LENGTH, 0),
     ] {
         let refusal = write(Form::Binary, code, tags, raw).unwrap_err();
         assert_eq!((refusal.number, refusal.place), (number, place), "{code:?}");
@@ -336,8 +360,21 @@ fn the_longest_values_are_read_and_written() {
         let raw = Random::new(7).bytes(length);
         for form in [Form::Text, Form::Binary] {
             let item = write(form, code, b"", &raw).unwrap();
-            assert_eq!(&*read(form, &item, 0).unwrap().raw, &raw[..]);
+            assert_eq!(read(form, &item, 0).unwrap().raw(), &raw[..]);
             assert_eq!(write_variable(form, b'B', &raw), Ok(item));
+        }
+    }
+    for (code, length) in [
+        (Code::small(b'A'), 16_380),
+        (Code::large(b'A'), 16_381),
+        (Code::large(b'A'), 4_194_296),
+    ] {
+        let text = "-a-label".repeat(length / 8 + 1);
+        let text = &text[..length];
+        for form in [Form::Text, Form::Binary] {
+            let item = write(form, code, b"", text.as_bytes()).unwrap();
+            assert_eq!(read(form, &item, 0).unwrap().text(), Some(text));
+            assert_eq!(write_variable(form, b'A', text.as_bytes()), Ok(item));
         }
     }
     let refusal = write(Form::Text, cesr::Code::small(b'B'), b"", &[0; 12_286]).unwrap_err();
@@ -351,7 +388,7 @@ fn the_longest_values_are_read_and_written() {
 #[test]
 fn a_value_has_one_code() {
     let raw = Random::new(9).bytes(12_300);
-    for letter in *b"ABCDEFH" {
+    for letter in *b"BCDEFH" {
         for length in (0..40).chain(12_280..12_300) {
             for form in [Form::Text, Form::Binary] {
                 let raw = &raw[..length];
@@ -362,7 +399,7 @@ fn a_value_has_one_code() {
                     true => Code::large(letter),
                     false => Code::small(letter),
                 });
-                assert_eq!((found.head.code, &*found.raw), (code, raw));
+                assert_eq!((found.head.code, found.raw()), (code, raw));
                 let number = if large {
                     Number::UNFIT_LENGTH
                 } else {
@@ -379,14 +416,49 @@ fn a_value_has_one_code() {
             }
         }
     }
+}
+
+/// A letter that is no type, and one more than a large code holds.
+#[test]
+fn no_code_holds_it() {
     for (letter, length, number) in [
         (b'G', 0, Number::UNKNOWN_CODE),
         (b'G', 3_145_723, Number::UNKNOWN_CODE),
         (0, 12_286, Number::UNKNOWN_CODE),
         (b'B', 3_145_723, Number::UNFIT_LENGTH),
+        (b'A', 4_194_297, Number::UNFIT_LENGTH),
     ] {
         for form in [Form::Text, Form::Binary] {
             let refusal = write_variable(form, letter, &vec![0; length]).unwrap_err();
+            assert_eq!((refusal.number, refusal.place), (number, 0));
+        }
+    }
+}
+
+/// The same of texts: 16,380 characters with their fill are the most of a small
+/// code; the selector tells the fill.
+#[test]
+fn a_text_has_one_code() {
+    let text = "-a-label".repeat(2_050);
+    for length in (0..40).chain(16_370..16_390) {
+        for form in [Form::Text, Form::Binary] {
+            let text = &text[..length];
+            let item = write_variable(form, b'A', text.as_bytes()).unwrap();
+            let found = read(form, &item, 0).unwrap();
+            let large = length > 16_380;
+            let [code, other] = [large, !large].map(|large| match large {
+                true => Code::large(b'A'),
+                false => Code::small(b'A'),
+            });
+            assert_eq!((found.head.code, found.text()), (code, Some(text)));
+            assert_eq!(found.head.lead, [0, 2, 1, 0][length % 4]);
+            assert_eq!(found.size, item.len());
+            let number = if large {
+                Number::UNFIT_LENGTH
+            } else {
+                Number::NOT_SHORT
+            };
+            let refusal = write(form, other, b"", text.as_bytes()).unwrap_err();
             assert_eq!((refusal.number, refusal.place), (number, 0));
         }
     }

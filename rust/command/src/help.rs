@@ -32,7 +32,7 @@ convert   The whole stream in the other form, to standard output or --out FILE,
           which is replaced when all is written. It looks at no codes: a
           converted stream has not been judged.
 show      One item at an offset, as a stream by itself: code, name, raw value in
-          hexadecimal or tag characters; a group with the items inside.
+          hexadecimal, text or tag characters; a group with the items inside.
 manifest  A line for each FILE: SHA256 LENGTH FORM NAME. Names in a manifest are
           relative to its folder. It looks at no codes.
 compare   An expectation file held against a report's bytes (judge --report): how

@@ -92,6 +92,11 @@ const WORDS: &[(Number, &str, &str)] = &[
         "the offset of a group: its items stand behind its header",
     ),
     (
+        Number::TEXT_FILL,
+        "Text must be filled up in front with A, and may not start with A itself.",
+        "text filled up behind its end, or another selector than its length asks for",
+    ),
+    (
         Number::NOT_SHORT,
         "A large code stands where the small one has room.",
         "a writer that takes the large code for every size",

@@ -109,18 +109,22 @@ pub fn end_of(group: &Step) -> usize {
     group.offset.saturating_add(group.size)
 }
 
-/// What the library says to an item of this header with enough behind it. The
-/// prepad of a tag is `_`, and zeros are right everywhere else.
+/// What may stand behind a header: the prepad of a tag is `_`, a text starts
+/// with another character than the `A` that fill it up, and zeros are right
+/// everywhere else.
+const FRONTS: [&[u8]; 4] = [b"A", b"_", b"AA_", b"AAA_"];
+
+/// What the library says to an item of this header with enough behind it.
 fn size_in_text(header: &[u8]) -> Option<usize> {
-    let size = |length: usize, first: u8| {
-        let mut whole = [header, &[first]].concat();
+    let size = |length: usize, front: &[u8]| {
+        let mut whole = [header, front].concat();
         whole.resize(length, b'A');
         item_at(Form::Text, &whole, 0).ok().map(|step| step.size)
     };
     let mut tried = ENOUGH
         .iter()
-        .flat_map(|length| [(*length, b'A'), (*length, b'_')]);
-    tried.find_map(|(length, first)| size(length, first))
+        .flat_map(|length| FRONTS.map(|front| (*length, front)));
+    tried.find_map(|(length, front)| size(length, front))
 }
 
 #[cfg(test)]
@@ -171,6 +175,20 @@ mod tests {
         let said = "asks for 54 bytes, 6 bytes are left";
         assert_eq!(asked(Form::Binary, &cut).as_deref(), Some(said));
         assert_eq!(asked(Form::Text, b"MQAA"), None);
+    }
+
+    /// A text, which is none with zeros for its value: 4 + 4n, 8 + 4n.
+    #[test]
+    fn how_much_a_text_asks() {
+        for (part, size, left) in [
+            (&b"4AABA"[..], 8, 5),
+            (b"5AAC", 12, 4),
+            (b"6AABAAA", 8, 7),
+            (b"9AAAABAA", 16_392, 8),
+        ] {
+            let said = format!("asks for {size} characters, {left} characters are left");
+            assert_eq!(asked(Form::Text, part), Some(said));
+        }
     }
 
     /// The item at the place, and the groups that are open there.

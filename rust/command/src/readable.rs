@@ -238,6 +238,7 @@ pub fn note(input: &Input, number: Number, place: usize) -> Option<String> {
             ))
         }
         (Number::ORDINARY_BASE64, _) => Some(format!("{} at {place}", url_safe(byte)?)),
+        (Number::TEXT_FILL, form) => fill(form, input.bytes.get(place..)?),
         (Number::NOT_SHORT, form) => {
             let short = short_header(form, input.bytes.get(place..)?)?;
             Some(format!("the small code's header is {short}"))
@@ -247,6 +248,28 @@ pub fn note(input: &Input, number: Number, place: usize) -> Option<String> {
         }
         _ => None,
     }
+}
+
+/// The `A` in front of a text that its selector asks for, and what stands there.
+fn fill(form: Form, item: &[u8]) -> Option<String> {
+    let head = Head::of(form, item)?;
+    let header = match head.code {
+        Code::Small { .. } => form.unit(),
+        Code::Large { .. } => form.unit().saturating_mul(2),
+        _ => return None,
+    };
+    let value = item.get(header..)?.get(..form.unit())?;
+    let first = match form {
+        Form::Text => value.to_vec(),
+        Form::Binary => cesr::to_text(value).ok()?,
+    };
+    // 4 and 7 take off one, 5 and 8 two, 6 and 9 three.
+    let asked = "AAA".get(..usize::from(head.lead).saturating_add(1))?;
+    let there = first.get(..asked.len())?.escape_ascii().to_string();
+    Some(match there == asked {
+        true => format!("behind the fill {asked} the text starts with A"),
+        false => format!("the fill of {head} is {asked}, here stands {there}"),
+    })
 }
 
 /// The header that a large one stands for: the small code, and the last two

@@ -6,11 +6,14 @@ use crate::standing::Standing;
 use crate::terminal::{Paint, Progress};
 use crate::words::measured;
 use crate::{complain, readable};
-use cesr::{item_at, judge, read, Code, Head, Number, Primitive, Refusal, Report, Step, Walk};
+use cesr::{
+    item_at, judge, read, Code, Form, Head, Number, Primitive, Refusal, Report, Step, Value, Walk,
+};
 use std::io::{self, Write};
 
-/// Bytes of a raw value on a line.
+/// Bytes of a raw value, and characters of a text, on a line.
 const RAW: usize = 32;
+const TEXT: usize = 2 * RAW;
 
 /// Levels of a group that are shown by blanks; below them an item's line says
 /// how deep it stands.
@@ -76,19 +79,38 @@ fn named(out: &mut dyn Write, head: &Head) -> io::Result<()> {
     writeln!(out, "name     {}", head.name().unwrap_or_default())
 }
 
-/// The tag characters, or the raw value in hexadecimal.
+/// The tag characters, the text's, or the raw value in hexadecimal.
 fn value(out: &mut dyn Write, primitive: &Primitive) -> io::Result<()> {
     if !primitive.tag.as_bytes().is_empty() {
         return writeln!(out, "tag      {}", primitive.tag);
     }
-    let length = primitive.raw.len();
-    let mut lines = primitive.raw.chunks(RAW).map(hexadecimal);
-    let first = lines.next().unwrap_or_else(|| "(empty)".to_string());
-    writeln!(out, "raw      {first}")?;
+    let value = primitive.value.as_bytes();
+    let (word, form, lines): (_, _, Vec<String>) = match &primitive.value {
+        Value::Raw(raw) => (
+            "raw ",
+            Form::Binary,
+            raw.chunks(RAW).map(hexadecimal).collect(),
+        ),
+        Value::Text(_) => (
+            "text",
+            Form::Text,
+            value.chunks(TEXT).map(characters).collect(),
+        ),
+    };
+    let mut lines = lines.iter();
+    writeln!(
+        out,
+        "{word}     {}",
+        lines.next().map_or("(empty)", |first| first)
+    )?;
     for line in lines {
         writeln!(out, "         {line}")?;
     }
-    writeln!(out, "length   {}", measured(cesr::Form::Binary, length))
+    writeln!(out, "length   {}", measured(form, value.len()))
+}
+
+fn characters(text: &[u8]) -> String {
+    text.escape_ascii().to_string()
 }
 
 fn hexadecimal(bytes: &[u8]) -> String {
@@ -102,8 +124,8 @@ fn inside(out: &mut dyn Write, input: &Input, step: &Step) -> io::Result<Result<
     let item = input.bytes.get(step.offset..end).unwrap_or_default();
     if step.head.code == Code::GenusVersion {
         let text = match input.form {
-            cesr::Form::Text => item.to_vec(),
-            cesr::Form::Binary => cesr::to_text(item).unwrap_or_default(),
+            Form::Text => item.to_vec(),
+            Form::Binary => cesr::to_text(item).unwrap_or_default(),
         };
         let characters = text.get(2..).unwrap_or_default().escape_ascii();
         writeln!(out, "version  {characters}")?;

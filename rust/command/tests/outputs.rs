@@ -276,6 +276,55 @@ verdict  refused 18 at 4, large variable code or large group whose size fits the
     assert_eq!((ran.status, ran.text().as_str()), (1, told));
 }
 
+/// Type `A` in characters, of either form, where another type stays in
+/// hexadecimal: `ABCD` is 0, 1, 2, 3, so 00 10 83.
+#[test]
+fn a_text_is_shown_as_text() {
+    // 70 characters with `AA` before them are 18 units, `S`; 64 go on a line.
+    let long = format!("5AASAA{}{}", "-a-label".repeat(8), "-1-2-3");
+    let lines = format!("text     {}\n         -1-2-3\n", "-a-label".repeat(8));
+    for (item, told) in [
+        (
+            "4AADA-a-personal",
+            "text     -a-personal\nlength   11 characters\n",
+        ),
+        ("6AABAAA-", "text     -\nlength   1 character\n"),
+        ("4AABABCD", "text     BCD\nlength   3 characters\n"),
+        ("4AAA", "text     (empty)\nlength   0 characters\n"),
+        (&long, &(lines + "length   70 characters\n")),
+        ("4BABABCD", "raw      001083\nlength   3 bytes\n"),
+    ] {
+        let text = fed(&["show", "0", "--form", "text"], item.as_bytes());
+        let binary = fed(&["convert", "--to", "binary"], item.as_bytes()).out;
+        let binary = fed(&["show", "0", "--form", "binary"], &binary);
+        for ran in [text, binary] {
+            let value = format!("s\n{told}verdict  accepted\n");
+            assert!(ran.text().ends_with(&value), "{}", ran.text());
+            assert_eq!(ran.status, 0);
+        }
+    }
+}
+
+/// For 16 what stands in front of the text, in either form.
+#[test]
+fn the_fill_of_a_text_is_told() {
+    for (stream, note) in [
+        ("4AABAAAA", "behind the fill A the text starts with A"),
+        ("5AABAAAa", "behind the fill AA the text starts with A"),
+        ("-AAC6AABAAAA", "behind the fill AAA the text starts with A"),
+        ("5AABAB-a", "the fill of 5A is AA, here stands AB"),
+        ("MAAB6AABAAB-", "the fill of 6A is AAA, here stands AAB"),
+    ] {
+        let said = format!("        {note}\n");
+        let ran = fed(&["judge", "--form=text"], stream.as_bytes());
+        assert!(ran.text().contains(&said), "{}", ran.text());
+        assert!(ran.text().contains("refused 16 at "), "{}", ran.text());
+        let binary = fed(&["convert", "--to", "binary"], stream.as_bytes()).out;
+        let ran = fed(&["judge", "--form=binary"], &binary);
+        assert!(ran.text().contains(&said), "{}", ran.text());
+    }
+}
+
 /// So where one item is shown.
 #[test]
 fn what_was_not_looked_into_is_said_of_an_item() {

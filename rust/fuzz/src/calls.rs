@@ -4,7 +4,7 @@
 use crate::fence::{Edge, Fence, LONGEST};
 use crate::input::{Call, Front, Made, Room, LONG, LONG_UNITS};
 use crate::long;
-use proved::{Pause, Primitive, Refusal, State, Tag, STATE};
+use proved::{Info, Pause, Primitive, Refusal, State, Tag, INFO, INFO_TEXT, STATE};
 use std::cell::RefCell;
 use streams::Form;
 
@@ -139,27 +139,33 @@ fn convert(memory: &mut Memory, form: Form, room: Room, stream: &[u8]) {
     lent(memory, stream, room.of(asked), calls);
 }
 
+type Read = fn(&[u8], usize, &mut [u8], &mut Tag, &mut Info) -> Result<usize, Refusal>;
+
+/// The room asked is the value's length; of a binary a text's alone.
 fn read(memory: &mut Memory, form: Form, room: Room, stream: &[u8], at: usize) {
+    let [proved, oracle]: [Read; 2] = match form {
+        Form::Text => [proved::read_text, beside::read_text],
+        Form::Binary => [proved::read_binary, beside::read_binary],
+    };
     let edge = memory.edge;
     let source = placed(&mut memory.stream, edge, stream);
     let tag: &mut Tag = memory.tag.lend(edge, 11, HELD).try_into().unwrap();
-    let info = memory.numbers.numbers(edge, [NUMBER; 6]);
-    let (mut told_tag, mut told_info) = ([HELD; 11], [NUMBER; 6]);
-    if form == Form::Binary {
-        let ours = proved::read_binary(source, at, tag, info);
-        let told = beside::read_binary(stream, at, &mut told_tag, &mut told_info);
-        assert_eq!(ours, told);
-    } else {
-        let mut long = vec![0; stream.len()];
-        let asked = beside::read_text(stream, at, &mut long, &mut [0; 11], &mut [0; 6]);
-        let room = room.of(asked.unwrap_or(0));
-        let out = memory.out.lend(edge, room, HELD);
-        let mut told_out = vec![HELD; room];
-        let ours = proved::read_text(source, at, out, tag, info);
-        let told = beside::read_text(stream, at, &mut told_out, &mut told_tag, &mut told_info);
-        assert_eq!(ours, told);
-        assert_eq!(out, told_out);
-    }
+    let info = memory.numbers.numbers(edge, [NUMBER; INFO]);
+    let (mut told_tag, mut told_info) = ([HELD; 11], [0; INFO]);
+    let mut long = vec![0; stream.len() / form.unit() * 4];
+    let length = oracle(stream, at, &mut long, &mut told_tag, &mut told_info);
+    let asked = match form {
+        Form::Text => length.unwrap_or(0),
+        Form::Binary => told_info[INFO_TEXT],
+    };
+    (told_tag, told_info) = ([HELD; 11], [NUMBER; INFO]);
+    let room = room.of(asked);
+    let out = memory.out.lend(edge, room, HELD);
+    let mut told_out = vec![HELD; room];
+    let ours = proved(source, at, out, tag, info);
+    let told = oracle(stream, at, &mut told_out, &mut told_tag, &mut told_info);
+    assert_eq!(ours, told);
+    assert_eq!(out, told_out);
     assert_eq!((&*tag, &*info), (&told_tag, &told_info));
     assert_eq!(source, stream);
 }

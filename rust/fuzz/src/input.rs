@@ -5,7 +5,7 @@
 //! | 0 | call (bits 0 to 2), binary (bit 3), buffers against the page before them (bit 4), one too long (bits 5 to 7 all set), a comparison (bits 6 and 7 alone of these set) |
 //! | 1 | room: just enough, one less, none, nine more, or the number itself; of a walk the budget: without bound, 1, 0, 64, or the number itself; 255 just enough, and the stream is a long one |
 //! | then | comparison: how the two are made (bits 0 to 2 of byte 0), the number of verdicts expected, these, and a remainder's number, or the file's length and the file; read: two bytes of offset; walk from a state: the state; write: the primitive |
-//! | then | the stream, or the raw value; of a long stream the last unit is taken over and over |
+//! | then | the stream, or the raw value or text; of a long stream the last unit is taken over and over |
 
 use crate::fence::{Edge, LONGEST};
 use proved::{State, Tag, MAX_DEPTH, STATE, STATE_FIRST, STATE_OPEN, STATE_POSITION};
@@ -190,12 +190,14 @@ impl Front<'_> {
         (chars, letter, tags, std::array::from_fn(|_| self.byte()))
     }
 
-    /// The raw value: a length of two bytes, if not 0, over and over what is
-    /// left; else what is left. The highest lengths stand for those around
-    /// 12,285, the most that a small variable holds.
+    /// The raw value or text: a length of two bytes, if not 0, over and over what
+    /// is left; else what is left. The highest lengths stand for those around
+    /// 12,285 and 16,380, the most bytes and characters that a small variable
+    /// holds.
     pub fn raw(&mut self) -> Vec<u8> {
         let length = match u16::from_be_bytes([self.byte(), self.byte()]) {
             0 => return self.0.to_vec(),
+            near @ 0xFF80.. => 16_376 + usize::from(near & 7),
             near @ 0xFF00.. => 12_281 + usize::from(near & 7),
             length => usize::from(length),
         };

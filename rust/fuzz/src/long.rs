@@ -1,11 +1,12 @@
-//! Streams one element longer than the limit, and a raw value one byte longer
-//! than any. They are refused by their length alone, so one lot of zeros does
+//! Streams one element longer than the limit, and a raw value or text that is
+//! one longer than any. They are refused by their length alone, so one lot of zeros does
 //! for all, and nothing is copied.
 
 use crate::calls::{HELD, NUMBER};
 use crate::input::{Call, Front, Room};
-use proved::{Primitive, Refusal};
+use proved::{Primitive, Refusal, INFO};
 use std::sync::OnceLock;
+use streams::table::TEXT;
 use streams::Form;
 
 static ZEROS: OnceLock<Vec<u8>> = OnceLock::new();
@@ -48,7 +49,7 @@ fn lent(form: Form, stream: &[u8], room: usize) {
 }
 
 fn read(form: Form, stream: &[u8], room: usize, at: usize) {
-    let (mut out, mut tag, mut info) = (vec![HELD; room], [HELD; 11], [NUMBER; 6]);
+    let (mut out, mut tag, mut info) = (vec![HELD; room], [HELD; 11], [NUMBER; INFO]);
     let (mut told_out, mut told_tag, mut told_info) = (out.clone(), tag, info);
     let answers = match form {
         Form::Text => (
@@ -56,8 +57,8 @@ fn read(form: Form, stream: &[u8], room: usize, at: usize) {
             beside::read_text(stream, at, &mut told_out, &mut told_tag, &mut told_info),
         ),
         Form::Binary => (
-            proved::read_binary(stream, at, &mut tag, &mut info),
-            beside::read_binary(stream, at, &mut told_tag, &mut told_info),
+            proved::read_binary(stream, at, &mut out, &mut tag, &mut info),
+            beside::read_binary(stream, at, &mut told_out, &mut told_tag, &mut told_info),
         ),
     };
     assert_eq!(answers.0, answers.1);
@@ -85,12 +86,16 @@ fn walk(form: Form, stream: &[u8], mut front: Front, budget: usize) {
 
 fn write(form: Form, room: usize, mut front: Front) {
     let (chars, letter, tags, tag) = front.primitive();
+    let length = match letter {
+        TEXT => 4_194_297,
+        _ => 3_145_723,
+    };
     let item = Primitive {
         chars,
         letter,
         tag,
         tags,
-        raw: zeros(3_145_723),
+        raw: zeros(length),
     };
     let [ours, theirs] = match form {
         Form::Text => [proved::write_text, beside::write_text],

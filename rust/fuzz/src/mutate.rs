@@ -151,7 +151,9 @@ fn long_stream(random: &mut Random, form: Form, input: &mut [u8]) -> Option<usiz
     let item = stream(&[large_code(random, index, 1)]);
     let units = characters(4093 + random.below(6) as u32);
     let unit = *random.pick(&[*b"1AAK", *b"AAAA", *b"AQAA"]);
-    let text = [&item[..4], &units, &unit].concat();
+    // Its own first unit, which a text's fill stands in, or another.
+    let first = *random.pick(&[&item[8..], &unit]);
+    let text = [&item[..4], &units, first, &unit].concat();
     *input.get_mut(1)? = LONG;
     replaced(input, 2, &form.of_text(&text))
 }

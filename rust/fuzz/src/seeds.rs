@@ -9,7 +9,7 @@ use streams::expectation::{file, report};
 use streams::form::FORMS;
 use streams::generate::{large_code, nested, one_code, CODES, LARGE_CODES};
 use streams::item::{stream, Item};
-use streams::table::{Kind, FIXED, HEADS, TYPES};
+use streams::table::{Kind, FIXED, HEADS, TEXT, TYPES};
 use streams::{papers, Form, Random};
 
 /// The first byte of an input.
@@ -39,6 +39,15 @@ pub fn seeds() -> Vec<Vec<u8>> {
         for header in [&b"--JAABAA"[..], b"--AAAA__", b"7AABABAA", b"9AABAA__"] {
             let made = form.of_text(&[header, b"AAAA"].concat());
             seeds.push([&[choice(Call::All, form), LONG], &made[..]].concat());
+        }
+        for first in [&b"7AAAABAAA-ab"[..], b"8AAAABAAAA-a", b"9AAAABAAAAA-"] {
+            let made = form.of_text(&[first, b"BCDE"].concat());
+            for call in [Call::All, Call::ReadItems] {
+                seeds.push([&[choice(call, form), LONG], &made[..]].concat());
+            }
+        }
+        for text in [&b"A"[..], b"Ab", b"A!", b"-a=", b"-a b"] {
+            seeds.push(text_write(form, 5, [0, 0], text));
         }
     }
     seeds.extend(compares());
@@ -76,14 +85,25 @@ pub fn writes(form: Form) -> Vec<Vec<u8>> {
         let raw = vec![0x5A; raw];
         writes.push([&start[..], &head, b"ABCDEFGHIJK", &[0, 0], &raw].concat());
     }
-    // A length from FF00 on is one around 12,285: FF00 is 12,281, FF05 12,286.
-    for letter in TYPES {
+    // A length from FF00 on is one around 12,285: FF00 is 12,281, FF05 12,286;
+    // from FF80 on it is one around 16,380: FF80 is 16,376, FF85 16,381.
+    for letter in TYPES.iter().filter(|letter| **letter != TEXT) {
         for (chars, length) in [(5, [0, 0]), (5, [0xFF, 4]), (6, [0xFF, 5])] {
             let head = [chars, *letter, 0];
             writes.push([&start[..], &head, &[0; 11], &length, b"hello"].concat());
         }
     }
+    for text in [&b"-"[..], b"-a", b"-ab", b"-a-b", b"-label"] {
+        for (chars, length) in [(5, [0, 0]), (5, [0xFF, 0x84]), (6, [0xFF, 0x85])] {
+            writes.push(text_write(form, chars, length, text));
+        }
+    }
     writes
+}
+
+fn text_write(form: Form, chars: u8, length: [u8; 2], text: &[u8]) -> Vec<u8> {
+    let head = [choice(Call::Write, form), 0, chars, TEXT, 0];
+    [&head[..], &[0; 11], &length, text].concat()
 }
 
 /// Files and reports as bytes; verdicts with a stream's own report, right and

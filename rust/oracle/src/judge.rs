@@ -5,6 +5,8 @@
 //! judged; the first refusal stands, with number and place. An opaque group:
 //! 11, then 5."
 //!
+//! 02 c: 16 for type `A`, "Judged after 8".
+//!
 //! 02 h: "Large variable codes and large groups whose size fits the small code
 //! are refused with new number 18, judged directly after 11 for groups, in the
 //! walk too, and before 9 for primitives."
@@ -13,8 +15,11 @@
 
 use crate::form::Form;
 use crate::frame::{frame, require_genus_version, Frame};
-use crate::refusal::{Refusal, LEAD_WITHOUT_VALUE, NOT_SHORT, NOT_ZERO, PREPAD, TOO_DEEP};
+use crate::refusal::{
+    Refusal, LEAD_WITHOUT_VALUE, NOT_SHORT, NOT_ZERO, PREPAD, TEXT_FILL, TOO_DEEP,
+};
 use crate::registry::{Code, MOST_SMALL_COUNT};
+use crate::text;
 
 /// A group may stand within this many groups less one. 02 g: "Raise the limit
 /// from 16 to 64".
@@ -38,7 +43,7 @@ fn check_short(framed: &Frame) -> Result<(), Refusal> {
     Ok(())
 }
 
-/// 5 or 19 behind the header, 18, 9, 8, 10.
+/// 5 or 19 behind the header, 18, 9, 8, 10 of tags, 16 of text.
 pub fn judge_primitive(stream: &[u8], form: Form, framed: &Frame) -> Result<(), Refusal> {
     form.check_alphabet(stream, framed.behind_header(), framed.end())?;
     check_short(framed)?;
@@ -55,6 +60,12 @@ pub fn judge_primitive(stream: &[u8], form: Form, framed: &Frame) -> Result<(), 
         let behind_code = form.character(stream, framed.offset, row.code.len());
         if row.prepad && behind_code != Some(b'_') {
             return refuse(PREPAD);
+        }
+    }
+    if text::is_text(framed.code) {
+        let value = text::value(stream, form, framed);
+        if text::without_fill(framed.code.lead(), &value).is_none() {
+            return refuse(TEXT_FILL);
         }
     }
     Ok(())

@@ -22,6 +22,7 @@ pub mod primitive;
 pub mod refusal;
 pub mod registry;
 pub mod report;
+pub mod text;
 pub mod walk;
 
 pub use form::Form;

@@ -16,7 +16,7 @@ usage, with FORM = text or binary; the stream comes from standard input:
   oracle report FORM [--room N]       the report's bytes
   oracle convert to-binary [--room N] the stream's bytes in binary
   oracle convert to-text [--room N]   the stream's characters in text
-  oracle read FORM OFFSET [--room N]  one line: code=C tag=T raw=HEX size=N
+  oracle read FORM OFFSET [--room N]  one line: code=C tag=T raw=HEX text=T size=N
   oracle walk FORM                    one line an item: OFFSET SIZE DEPTH CODE
   oracle step FORM OPEN POSITION FIRST [END ...]
                                       one step from a given state, FIRST 0 or 1,
@@ -25,11 +25,12 @@ usage, with FORM = text or binary; the stream comes from standard input:
                                       the next state in the same order
 without a stream:
   oracle write FORM CODE [--tag S] [--raw HEX] [--room N]
-  oracle write FORM small|large TYPE [--raw HEX] [--room N]
-                                      the item's characters or bytes
+  oracle write FORM small|large TYPE [--raw HEX | --text S] [--room N]
+                                      the item's characters or bytes; type A
+                                      takes text
 
-N is the room lent, in bytes (of the raw value for read); without it the room
-is enough. In binary, read asks no room. Offsets and sizes are in characters
+N is the room lent, in bytes (for read of the raw value or the text); without it
+the room is enough. In binary, read asks room for text only. Offsets and sizes are in characters
 for text and bytes for binary. CODE names in answers: M 0A 1AAM 4B 7AAB -A --A -_
 
 exit 0: done. exit 1: refused, and `refused NUMBER PLACE` on standard error
@@ -118,6 +119,7 @@ impl Options {
                 b"--room" => options.room = Some(number(given()?)?),
                 b"--tag" => options.tag = given()?.to_vec(),
                 b"--raw" => options.raw = bytes_of_hex(given()?)?,
+                b"--text" => options.raw = given()?.to_vec(),
                 other => plain.push(other),
             }
         }
@@ -153,20 +155,26 @@ fn run_convert(way: &[u8], options: &Options) -> Answer {
 
 fn run_read(form: Form, offset: usize, options: &Options) -> Answer {
     let stream = standard_input()?;
+    // A binary's text has four characters for three bytes.
+    let mut out = options.buffer(stream.len() / 3 * 4 + 4);
     if form == Form::Binary {
-        let (found, raw) = primitive::read_binary(&stream, offset)?;
-        return Ok(read_line(&found, raw));
+        let (found, raw) = primitive::read_binary(&stream, offset, &mut out)?;
+        return Ok(read_line(&found, raw, &out[..found.text]));
     }
-    let mut out = options.buffer(stream.len());
     let found = primitive::read_text(&stream, offset, &mut out)?;
-    Ok(read_line(&found, &out[..found.raw]))
+    Ok(read_line(&found, &out[..found.raw], &out[..found.text]))
 }
 
-fn read_line(found: &Primitive, raw: &[u8]) -> Vec<u8> {
+fn read_line(found: &Primitive, raw: &[u8], text: &[u8]) -> Vec<u8> {
     let tag = String::from_utf8_lossy(&found.tag.characters[..found.tag.number]);
     let raw: String = raw.iter().map(|byte| format!("{byte:02x}")).collect();
+    let text = String::from_utf8_lossy(text);
     let code = found.code.characters();
-    format!("code={code} tag={tag} raw={raw} size={}\n", found.size).into()
+    format!(
+        "code={code} tag={tag} raw={raw} text={text} size={}\n",
+        found.size
+    )
+    .into()
 }
 
 fn run_write(form: Form, named: Named, options: &Options) -> Answer {

@@ -6,9 +6,10 @@ use crate::form::Form;
 use crate::frame::{frame, Frame};
 use crate::judge::judge_primitive;
 use crate::refusal::{
-    Refusal, NOT_A_PRIMITIVE, NOT_SHORT, PAST_END, ROOM, UNFIT_LENGTH, UNKNOWN_CODE,
+    Refusal, NOT_A_PRIMITIVE, NOT_SHORT, PAST_END, TEXT_FILL, UNFIT_LENGTH, UNKNOWN_CODE,
 };
 use crate::registry::{self, Code, Fixed};
+use crate::text::{self, MOST_LARGE_TEXT, MOST_SMALL_TEXT, TEXT_TYPE};
 
 /// Most tag characters that any code holds.
 pub const MOST_TAG: usize = 11;
@@ -43,35 +44,54 @@ impl Tag {
 }
 
 /// What a reader finds: the code, the tag characters, the item's size in the
-/// stream's own measure and the raw value's length in bytes.
+/// stream's own measure, the raw value's length in bytes and, of a text, the
+/// number of its characters. Text has no raw value.
 #[derive(Clone, Copy, Debug, PartialEq, Eq)]
 pub struct Primitive {
     pub code: Code,
     pub tag: Tag,
     pub size: usize,
     pub raw: usize,
+    pub text: usize,
 }
 
 /// Reads from text: 1, 4 at or past the end, framing (never 7), 14, judging,
-/// 3. The raw value is copied out to the start of `out`.
-pub fn read_text(text: &[u8], offset: usize, out: &mut [u8]) -> Result<Primitive, Refusal> {
-    let framed = accepted(text, Form::Text, offset)?;
-    let found = primitive(text, Form::Text, &framed);
-    if found.raw > out.len() {
-        return Err(Refusal::new(ROOM, 0));
+/// 3. The raw value, or the characters of a text, are copied out to the start
+/// of `out`.
+pub fn read_text(stream: &[u8], offset: usize, out: &mut [u8]) -> Result<Primitive, Refusal> {
+    let framed = accepted(stream, Form::Text, offset)?;
+    let found = primitive(stream, Form::Text, &framed);
+    if text::is_text(found.code) {
+        lend(&characters(stream, Form::Text, &framed), out)?;
+    } else {
+        let item = binary_of(&stream[framed.offset..framed.end()]);
+        lend(&item[item.len() - found.raw..], out)?;
     }
-    let item = binary_of(&text[framed.offset..framed.end()]);
-    lend(&item[item.len() - found.raw..], out)?;
     Ok(found)
 }
 
 /// Reads from binary. The raw value is the part of the stream where it lies,
-/// at the item's end; room is not asked (D28).
-pub fn read_binary(binary: &[u8], offset: usize) -> Result<(Primitive, &[u8]), Refusal> {
-    let framed = accepted(binary, Form::Binary, offset)?;
-    let found = primitive(binary, Form::Binary, &framed);
-    let part = &binary[framed.end() - found.raw..framed.end()];
+/// at the item's end; room is not asked (D28). 02 c: "Characters are copied out
+/// in both forms, with 3 when room is short".
+pub fn read_binary<'s>(
+    stream: &'s [u8],
+    offset: usize,
+    out: &mut [u8],
+) -> Result<(Primitive, &'s [u8]), Refusal> {
+    let framed = accepted(stream, Form::Binary, offset)?;
+    let found = primitive(stream, Form::Binary, &framed);
+    if text::is_text(found.code) {
+        lend(&characters(stream, Form::Binary, &framed), out)?;
+    }
+    let part = &stream[framed.end() - found.raw..framed.end()];
     Ok((found, part))
+}
+
+/// The characters of an accepted text.
+fn characters(stream: &[u8], form: Form, framed: &Frame) -> Vec<u8> {
+    let value = text::value(stream, form, framed);
+    let text = text::without_fill(framed.code.lead(), &value);
+    text.map_or(Vec::new(), <[u8]>::to_vec)
 }
 
 /// The orders common to both readers, up to judging.
@@ -90,20 +110,23 @@ fn accepted(stream: &[u8], form: Form, offset: usize) -> Result<Frame, Refusal> 
 }
 
 fn primitive(stream: &[u8], form: Form, framed: &Frame) -> Primitive {
-    let (tag, raw) = match framed.code {
-        Code::Fixed(row) => (tag_of(stream, form, framed, row), row.raw()),
-        // A lead is never longer than the value: n = 0 with a lead is 9.
-        code => (
-            Tag::NONE,
-            (3 * framed.count as usize).saturating_sub(code.lead()),
-        ),
-    };
-    Primitive {
+    let mut found = Primitive {
         code: framed.code,
-        tag,
+        tag: Tag::NONE,
         size: framed.size,
-        raw,
+        raw: 0,
+        text: 0,
+    };
+    match framed.code {
+        Code::Fixed(row) => {
+            found.tag = tag_of(stream, form, framed, row);
+            found.raw = row.raw();
+        }
+        code if text::is_text(code) => found.text = characters(stream, form, framed).len(),
+        // A lead is never longer than the value: n = 0 with a lead is 9.
+        code => found.raw = (3 * framed.count as usize).saturating_sub(code.lead()),
     }
+    found
 }
 
 /// The tag characters stand at the item's end, behind code and prepad.
@@ -124,9 +147,9 @@ pub enum Named<'a> {
     Variable { letter: u8, large: bool },
 }
 
-/// Writes one primitive to text or binary: 6, 12, 18, 5 or 19, 3, else the size
-/// written. 02 h: "the primitive writer refuses them directly after 12, with
-/// place 0".
+/// Writes one primitive to text or binary: 6, 12, 18, 5 or 19, 16, 3, else the
+/// size written. 02 h: "the primitive writer refuses them directly after 12,
+/// with place 0". For type `A` the characters stand where `raw` does.
 pub fn write(
     named: Named,
     tag: &Tag,
@@ -136,6 +159,7 @@ pub fn write(
 ) -> Result<usize, Refusal> {
     let item = match named {
         Named::Fixed(characters) => fixed_item(characters, tag, raw)?,
+        Named::Variable { letter, large } if letter == TEXT_TYPE => text_item(large, tag, raw)?,
         Named::Variable { letter, large } => variable_item(letter, large, tag, raw)?,
     };
     match form {
@@ -179,6 +203,40 @@ fn variable_item(letter: u8, large: bool, tag: &Tag, raw: &[u8]) -> Result<Vec<u
     }
     let lead = (3 - raw.len() % 3) % 3;
     let count = (lead + raw.len()) / 3;
+    let head = variable_head(letter, large, lead, count);
+    Ok(item(&head, lead, raw))
+}
+
+/// A text item's bytes: 12 by the text with its fill, 18, 5 or 19 (place: the
+/// index in the text), 16 (place 0).
+fn text_item(large: bool, tag: &Tag, given: &[u8]) -> Result<Vec<u8>, Refusal> {
+    let fill = text::fill(given.len());
+    let filled = fill + given.len();
+    let most = if large {
+        MOST_LARGE_TEXT
+    } else {
+        MOST_SMALL_TEXT
+    };
+    if tag.number != 0 || filled > most {
+        return Err(Refusal::new(UNFIT_LENGTH, 0));
+    }
+    if large && filled <= MOST_SMALL_TEXT {
+        return Err(Refusal::new(NOT_SHORT, 0));
+    }
+    if let Some((index, number)) = alphabet::first_stranger(given) {
+        return Err(Refusal::new(number, index));
+    }
+    if text::starts_with_fill(given) {
+        return Err(Refusal::new(TEXT_FILL, 0));
+    }
+    let mut characters = variable_head(TEXT_TYPE, large, text::lead(fill), filled / 4);
+    characters.extend(std::iter::repeat_n(b'A', fill));
+    characters.extend(given);
+    Ok(binary_of(&characters))
+}
+
+/// Selector, type and digits of n.
+fn variable_head(letter: u8, large: bool, lead: usize, count: usize) -> Vec<u8> {
     let mut head = Vec::new();
     if large {
         head.extend([b'7' + lead as u8, b'A', b'A', letter]);
@@ -187,7 +245,7 @@ fn variable_item(letter: u8, large: bool, tag: &Tag, raw: &[u8]) -> Result<Vec<u
         head.extend([b'4' + lead as u8, letter]);
         head.extend(digits(count, 2));
     }
-    Ok(item(&head, lead, raw))
+    head
 }
 
 /// A number in base 64, most significant digit first.
@@ -264,12 +322,12 @@ mod tests {
     fn binary_hands_back_the_part() {
         // `WGhp` is 58 68 69; an unaligned offset is read as it is (D26).
         let stream = [0xFF, 0x58, 0x68, 0x69];
-        let (found, part) = read_binary(&stream, 1).unwrap();
+        let (found, part) = read_binary(&stream, 1, &mut []).unwrap();
         assert_eq!((found.size, found.raw), (3, 2));
         assert!(std::ptr::eq(part, &stream[2..4]));
         // `0J_A`: the empty part at the item's end (D28).
         let stream = [0xD0, 0x9F, 0xC0, 0x00];
-        let (found, part) = read_binary(&stream, 0).unwrap();
+        let (found, part) = read_binary(&stream, 0, &mut []).unwrap();
         assert_eq!(found.tag, Tag::of(b"A"));
         assert!(std::ptr::eq(part, &stream[3..3]));
     }
@@ -317,6 +375,29 @@ mod tests {
         assert_eq!(refused, Err(Refusal::new(8, 0)));
         assert!(read_text(b"X___", 0, &mut []).is_ok());
         assert!(read_text(b"4BAA", 0, &mut []).is_ok());
+        assert!(read_binary(&[0x30, 0, 1], 0, &mut []).is_ok());
+    }
+
+    #[test]
+    fn text_asks_room_for_its_characters_in_both_forms() {
+        // `5AABAA-a`: 57 0 0 1, 0 0 62 26.
+        let binary = [0xE4, 0x00, 0x01, 0x00, 0x0F, 0x9A];
+        let mut out = [b'?'; 3];
+        let refused = read_text(b"5AABAA-a", 0, &mut out[..1]);
+        assert_eq!(refused, Err(Refusal::new(3, 0)));
+        let refused = read_binary(&binary, 0, &mut out[..1]);
+        assert_eq!(refused, Err(Refusal::new(3, 0)));
+        assert_eq!(&out, b"???");
+        let found = read_text(b"5AABAA-a", 0, &mut out).unwrap();
+        assert_eq!((found.raw, found.text, &out), (0, 2, b"-a?"));
+        out = [b'?'; 3];
+        let (found, part) = read_binary(&binary, 0, &mut out).unwrap();
+        assert_eq!((found.raw, found.text, &out), (0, 2, b"-a?"));
+        assert!(std::ptr::eq(part, &binary[6..]));
+        // Judged before the room is asked; the empty text asks none.
+        let refused = read_text(b"4AABAAAA", 0, &mut []);
+        assert_eq!(refused, Err(Refusal::new(16, 0)));
+        assert!(read_text(b"4AAA", 0, &mut []).is_ok());
     }
 
     #[test]
@@ -324,7 +405,7 @@ mod tests {
         let long = vec![b'A'; 4_194_305];
         let refused = read_text(&long, usize::MAX, &mut []);
         assert_eq!(refused, Err(Refusal::new(1, 0)));
-        let refused = read_binary(&long[..3_145_729], 0);
+        let refused = read_binary(&long[..3_145_729], 0, &mut []);
         assert_eq!(refused, Err(Refusal::new(1, 0)));
     }
 

@@ -41,6 +41,8 @@ pub const UNFIT_LENGTH: u8 = 12;
 pub const UNFIT_STATE: u8 = 13;
 /// Primitive asked for, group or genus/version found.
 pub const NOT_A_PRIMITIVE: u8 = 14;
+/// 02 c: Base64 text without its full fill, or that starts with `A`.
+pub const TEXT_FILL: u8 = 16;
 /// 02 h: large variable code or large group whose size fits the small code.
 pub const NOT_SHORT: u8 = 18;
 /// 02 j: `+`, `/` or `=` of the ordinary alphabet.
@@ -72,6 +74,6 @@ mod tests {
             NOT_A_PRIMITIVE,
         ];
         assert!(numbers.iter().copied().eq(1..=14));
-        assert_eq!([NOT_SHORT, ORDINARY_BASE64], [18, 19]);
+        assert_eq!([TEXT_FILL, NOT_SHORT, ORDINARY_BASE64], [16, 18, 19]);
     }
 }

@@ -125,9 +125,8 @@ fn d19_an_opaque_group_in_binary_is_accepted() {
 
 #[test]
 fn d18_values_are_not_read_further() {
-    // Type `H` "Decimal number string", `1AAG` a date, type `A` text.
+    // Type `H` "Decimal number string", `1AAG` a date.
     reads("4HAB____", "4H", "", "FFFFFF");
-    reads("4AABAAAA", "4A", "", "000000");
     reads(
         &format!("1AAG{}", "_".repeat(32)),
         "1AAG",

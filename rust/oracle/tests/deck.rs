@@ -4,7 +4,7 @@
 mod common;
 
 use common::papers::{DIGESTS_OF_001, NUMBER, POST_PADDED_OF_001, SAD_PATHS, SHORTS_OF_002};
-use common::{binary, bytes_of_report, hex, nested, reads, rows, rows_of};
+use common::{binary, bytes_of_report, hex, nested, reads, reads_text, rows, rows_of};
 use oracle::convert::to_binary;
 use oracle::form::Form;
 use oracle::primitive::{read_text, write, Named, Tag};
@@ -154,6 +154,168 @@ fn deck_64_nested_groups_accepted_65_refused_11() {
     }
 }
 
+/// What the writer makes of a text: an item, or number and place.
+fn written(text: &str, large: bool, form: Form) -> Result<Vec<u8>, (u8, usize)> {
+    let named = Named::Variable {
+        letter: b'A',
+        large,
+    };
+    let mut out = vec![0; text.len() + 16];
+    let size = write(named, &Tag::NONE, text.as_bytes(), form, &mut out);
+    let size = size.map_err(|refused| (refused.number, refused.place))?;
+    // 3 for a character or byte less.
+    let short = write(
+        named,
+        &Tag::NONE,
+        text.as_bytes(),
+        form,
+        &mut out[..size - 1],
+    );
+    assert_eq!(short.map_err(|r| (r.number, r.place)), Err((3, 0)));
+    out.truncate(size);
+    Ok(out)
+}
+
+/// 02 c: its examples of accepted texts; "the empty text is `4AAA`".
+#[test]
+fn deck_base64_text() {
+    for (item, code, text) in [
+        ("4AAB-4-5", "4A", "-4-5"),
+        ("4AADA-a-personal", "4A", "-a-personal"),
+        ("5AAEAA-4-5-legalName", "5A", "-4-5-legalName"),
+        ("6AAEAAA-a-personal-1", "6A", "-a-personal-1"),
+        ("4AAA", "4A", ""),
+        ("4AABABCD", "4A", "BCD"),
+        ("4AABBCDA", "4A", "BCDA"),
+    ] {
+        rows(item, &[(0, item.len(), 0)], &[], None);
+        reads_text(item, code, text);
+        assert_eq!(written(text, false, Form::Text), Ok(item.into()));
+    }
+}
+
+/// 02 c: 16 "as is a value without the full fill", after 8, at the item.
+#[test]
+fn deck_text_without_its_fill() {
+    let refused = |number, items: &[&str]| {
+        for item in items {
+            let (size, bytes) = (item.len(), binary(item));
+            rows(item, &[(0, size, number)], &[(0, number, 0)], None);
+            let items = &[(0, bytes.len(), number)];
+            rows_of(&bytes, Form::Binary, items, &[(0, number, 0)], None);
+        }
+    };
+    // Selectors 4, 5, 6: text that starts with `A`, then less than the fill.
+    refused(16, &["4AABAAAA", "4AABAACD", "4AACAAAABCDE"]);
+    refused(16, &["5AABAAAA", "5AABAAAD", "5AABABCD", "5AABAPCD"]);
+    refused(16, &["6AABAAAA", "6AABAABD", "6AABAADD"]);
+    // A lead byte that is not zero comes first; Q is 16 and E is 4.
+    refused(8, &["5AABBCDE", "5AABAQCD", "5AABBA-a", "5AABQAAA"]);
+    refused(8, &["6AABBAAA", "6AABABAA", "6AABAAED", "6AABAQAA"]);
+    refused(9, &["5AAA", "6AAA"]);
+    // Only the front is fill: `A` behind the first character is text.
+    reads_text("4AABAB-A", "4A", "B-A");
+    reads_text("5AABAA-A", "5A", "-A");
+    reads_text("6AACAAA-AAAA", "6A", "-AAAA");
+    // Other types stay bytes.
+    reads("4BABAAAA", "4B", "", "000000");
+    // 5 and 19 behind the header come before 16; places are the stream's.
+    rows("4AABAA!A", &[(0, 8, 5)], &[(0, 5, 6)], None);
+    rows("4AABAA=A", &[(0, 8, 19)], &[(0, 19, 6)], None);
+    let items = &[(0, 12, 16), (12, 4, 0)];
+    rows("-AAC4AABAACDMAAB", items, &[(0, 16, 4)], None);
+}
+
+/// The same under the large selectors: 18 below 4,096 units, then as above.
+#[test]
+fn deck_large_text() {
+    let large = |first: &str| format!("{first}{}", "BCDE".repeat(4095));
+    let text = |start: &str| format!("{start}{}", "BCDE".repeat(4095));
+    for (head, first, start) in [
+        ("7AAA", "-a-b", "-a-b"),
+        ("7AAA", "A-ab", "-ab"),
+        ("8AAA", "AA-a", "-a"),
+        ("9AAA", "AAA-", "-"),
+    ] {
+        let item = large(&format!("{head}ABAA{first}"));
+        rows(&item, &[(0, 16_392, 0)], &[], None);
+        reads_text(&item, head, &text(start));
+        assert_eq!(written(&text(start), true, Form::Text), Ok(item.into()));
+    }
+    for (number, first) in [
+        (16, "7AAAABAAAACD"),
+        (16, "8AAAABAAABCD"),
+        (16, "8AAAABAAAAAD"),
+        (8, "8AAAABAABACD"),
+        (16, "9AAAABAAAABD"),
+        (16, "9AAAABAAAAAA"),
+        (8, "9AAAABAAAAED"),
+    ] {
+        let refusals = &[(0, number, 0)];
+        rows(&large(first), &[(0, 16_392, number)], refusals, None);
+    }
+    // With few units it is 18, before 9, 8 and 16.
+    for few in ["7AAAAAAA", "8AAAAAAA", "7AAAAAABAAAA", "8AAAAAABBAAA"] {
+        rows(few, &[(0, few.len(), 18)], &[(0, 18, 0)], None);
+    }
+}
+
+/// 02 c: "The writer's order is 6, 12, 5 (place its index in the text), 16
+/// (place 0), 3", with 02 h's 18 directly after 12.
+#[test]
+fn deck_texts_that_are_not_written() {
+    for form in [Form::Text, Form::Binary] {
+        for (text, refused) in [
+            ("A", (16, 0)),
+            ("AB", (16, 0)),
+            ("A-a", (16, 0)),
+            ("ABCD", (16, 0)),
+            ("A!", (5, 1)),
+            ("A=", (19, 1)),
+            ("-a b", (5, 2)),
+            ("-+!", (19, 1)),
+            ("\u{e9}", (5, 0)),
+        ] {
+            assert_eq!(written(text, false, form), Err(refused), "{text}");
+            assert_eq!(written(text, true, form), Err((18, 0)), "{text}");
+        }
+        // Tag characters given for it are 12.
+        let named = Named::Variable {
+            letter: b'A',
+            large: false,
+        };
+        let tagged = write(named, &Tag::of(b"-"), b"-a", form, &mut [0; 8]);
+        assert_eq!(tagged.map_err(|r| (r.number, r.place)), Err((12, 0)));
+    }
+}
+
+/// "text with its fill is at most 16,380 characters small and 4,194,296 large."
+#[test]
+fn deck_lengths_of_texts() {
+    for form in [Form::Text, Form::Binary] {
+        // 16,379 characters have one of fill: 16,380. One more is none.
+        for (length, small, large) in [
+            (16_379, Ok(()), Err((18, 0))),
+            (16_380, Ok(()), Err((18, 0))),
+            (16_381, Err((12, 0)), Ok(())),
+        ] {
+            let text = "B".repeat(length);
+            assert_eq!(written(&text, false, form).map(|_| ()), small);
+            assert_eq!(written(&text, true, form).map(|_| ()), large);
+        }
+        // 12 before 5, 18 before 5.
+        assert_eq!(written(&"!".repeat(16_381), false, form), Err((12, 0)));
+        assert_eq!(written(&"!".repeat(16_380), true, form), Err((18, 0)));
+    }
+    let most = "B".repeat(4_194_296);
+    assert_eq!(
+        written(&most, true, Form::Text).map(|i| i.len()),
+        Ok(4_194_304)
+    );
+    let more = most + "B";
+    assert_eq!(written(&more, true, Form::Text), Err((12, 0)));
+}
+
 /// 02 h: "A large group below 4,096 units is thus 18, and `--AAABAA` with its
 /// 4,096 units still passes." The same of variable codes, by n; 4,095 units
 /// hold 12,285 raw bytes, 4,096 hold 12,286 with two lead bytes.
@@ -238,7 +400,7 @@ fn deck_the_wrong_base64() {
 fn one_spelling_for_a_value() {
     for length in (0..8).chain(12_280..12_292) {
         let raw: Vec<u8> = (0..length).map(|i| (7 * i + i / 256) as u8).collect();
-        for (letter, _) in registry::VARIABLE {
+        for letter in *b"BCDEFH" {
             for form in [Form::Text, Form::Binary] {
                 let spelt = [false, true].map(|large| {
                     let mut out = vec![0; 16_400];
@@ -247,6 +409,13 @@ fn one_spelling_for_a_value() {
                 });
                 assert_eq!(spelt, [length <= 12_285, length > 12_285]);
             }
+        }
+    }
+    for length in (0..8).chain(16_375..16_388) {
+        let text = "B".repeat(length);
+        for form in [Form::Text, Form::Binary] {
+            let spelt = [false, true].map(|large| written(&text, large, form).is_ok());
+            assert_eq!(spelt, [length <= 16_380, length > 16_380]);
         }
     }
 }
@@ -347,7 +516,7 @@ fn of_003_every_fixed_code() {
 #[test]
 fn of_003_every_variable_code() {
     // "Full codes expand as: 4X, 5X, 6X (small) and 7AAX, 8AAX, 9AAX (big)".
-    for letter in ["A", "B", "C", "D", "E", "F", "H"] {
+    for letter in ["B", "C", "D", "E", "F", "H"] {
         for (lead, raw) in [(0, 3), (1, 2), (2, 1)] {
             let small = format!("{}{letter}ABAAAA", 4 + lead);
             rows(&small, &[(0, 8, 0)], &[], None);
@@ -359,6 +528,7 @@ fn of_003_every_variable_code() {
             rows(&short, &[(0, 12, 18)], &[(0, 18, 0)], None);
         }
     }
+    // `A`, whose value is text, is in 02 c's tests above.
 }
 
 #[test]
@@ -437,16 +607,11 @@ fn of_002_short_numbers() {
 
 #[test]
 fn of_001_sad_paths() {
-    for (text, code, raw) in SAD_PATHS {
-        rows(text, &[(0, text.len(), 0)], &[], None);
-        reads(text, code, "", raw);
-        let named = Named::Variable {
-            letter: b'A',
-            large: false,
-        };
-        let mut out = vec![0; text.len()];
-        let size = write(named, &Tag::NONE, &hex(raw), Form::Text, &mut out);
-        assert_eq!((size, &out[..]), (Ok(text.len()), text.as_bytes()));
+    for (path, code, item) in SAD_PATHS {
+        rows(item, &[(0, item.len(), 0)], &[], None);
+        reads_text(item, code, path);
+        assert_eq!(written(path, false, Form::Text), Ok(item.into()));
+        assert_eq!(written(path, false, Form::Binary), Ok(binary(item)));
     }
 }
 

@@ -66,18 +66,26 @@ fn reads() {
     answered(
         &["read", "text", "4"],
         b"MAABWGhp",
-        b"code=W tag= raw=6869 size=4\n",
+        b"code=W tag= raw=6869 text= size=4\n",
     );
     answered(
         &["read", "text", "0"],
         b"0J_A",
-        b"code=0J tag=A raw= size=4\n",
+        b"code=0J tag=A raw= text= size=4\n",
     );
     answered(
         &["read", "binary", "0"],
         &[0x54, 0, 0x61],
-        b"code=V tag= raw=61 size=3\n",
+        b"code=V tag= raw=61 text= size=3\n",
     );
+    let label = b"code=5A tag= raw= text=-a size=8\n";
+    answered(&["read", "text", "0", "--room", "2"], b"5AABAA-a", label);
+    // 57 0 0 1, 0 0 62 26: E4 00 01 00 0F 9A.
+    let label = b"code=5A tag= raw= text=-a size=6\n";
+    answered(&["read", "binary", "0"], &hex("E40001 000F9A"), label);
+    let short = ["read", "binary", "0", "--room", "1"];
+    refused(&short, &hex("E40001 000F9A"), "", "3 0");
+    refused(&["read", "text", "0"], b"4AABAAAA", "", "16 0");
     refused(&["read", "text", "0"], b"-AAA", "", "14 0");
     refused(&["read", "text", "9"], b"MAAB", "", "4 9");
     refused(&["read", "text", "0", "--room", "1"], b"MAAB", "", "3 0");
@@ -93,6 +101,13 @@ fn writes() {
         b"",
         b"5BABAGhp",
     );
+    answered(
+        &["write", "text", "small", "A", "--text", "-a-personal"],
+        b"",
+        b"4AADA-a-personal",
+    );
+    let fill = ["write", "text", "small", "A", "--text", "Aa"];
+    refused(&fill, b"", "", "16 0");
     refused(&["write", "text", "large", "B"], b"", "", "18 0");
     refused(&["write", "text", "-A"], b"", "", "6 0");
     refused(&["write", "text", "small", "G"], b"", "", "6 0");

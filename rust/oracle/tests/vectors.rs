@@ -149,19 +149,22 @@ impl Record {
         line
     }
 
-    /// A read's line goes on with the tag places and the six numbers.
+    /// A read's line goes on with the tag places and the seven numbers.
     fn read_line(&self) -> String {
         let at = usize::from(u16::from_be_bytes([self.input[0], self.input[1]]));
         let stream = &self.input[2..];
         let mut out = vec![0xAA; self.room];
         let (found, unit) = match self.call {
             READ_TEXT => (primitive::read_text(stream, at, &mut out), 4),
-            _ => (primitive::read_binary(stream, at).map(|found| found.0), 3),
+            _ => {
+                let found = primitive::read_binary(stream, at, &mut out);
+                (found.map(|found| found.0), 3)
+            }
         };
-        let mut line = line(self.call, found.map(|item| item.raw), &out);
+        let mut line = line(self.call, found.map(|item| item.raw + item.text), &out);
         let (tag, numbers) = match found {
             Ok(item) => (item.tag.characters, numbers(&item, unit)),
-            Err(_) => ([0xAA; 11], [0xAA; 6]),
+            Err(_) => ([0xAA; 11], [0xAA; 7]),
         };
         write!(line, " {}", hex(&tag)).unwrap();
         for number in numbers {
@@ -183,9 +186,10 @@ fn hex(bytes: &[u8]) -> String {
     bytes.iter().map(|byte| format!("{byte:02x}")).collect()
 }
 
-/// An item's six numbers: the code's two, its units, where its raw value starts
-/// in bytes, the raw value's length, the number of tag characters.
-fn numbers(item: &Primitive, unit: usize) -> [usize; 6] {
+/// An item's seven numbers: the code's two, its units, where its raw value
+/// starts in bytes, the raw value's length, the number of tag characters, and of
+/// a text's characters.
+fn numbers(item: &Primitive, unit: usize) -> [usize; 7] {
     let (chars, letter) = match item.code {
         Code::Fixed(row) => named(row.code),
         Code::Variable { selector, letter } => (5 + u8::from(selector > b'6'), letter),
@@ -193,8 +197,8 @@ fn numbers(item: &Primitive, unit: usize) -> [usize; 6] {
     };
     let units = item.size / unit;
     let start = units * 3 - item.raw;
-    let tags = item.tag.number;
-    [chars.into(), letter.into(), units, start, item.raw, tags]
+    let (raw, tags, text) = (item.raw, item.tag.number, item.text);
+    [chars.into(), letter.into(), units, start, raw, tags, text]
 }
 
 /// An item's code in the walk: sort, letter, lead bytes.
@@ -267,7 +271,8 @@ fn named(code: &str) -> (u8, u8) {
     (code.len() as u8, code.as_bytes()[code.len() - 1])
 }
 
-/// A write as recorded: the code's two numbers, the tag characters, the raw value.
+/// A write as recorded: the code's two numbers, the tag characters, the raw value
+/// or a text's characters.
 fn write(input: &[u8], form: Form, out: &mut [u8]) -> Result<usize, Refusal> {
     let (chars, letter) = (input[0], input[1]);
     let tag = Tag {
@@ -557,19 +562,19 @@ fn write_both(records: &mut Vec<Record>, code: (u8, u8), tag: &[u8], raw: &[u8])
     if let Ok(size) = written {
         read_both(records, 0, raw.len() + 1, &text[..size]);
         if !raw.is_empty() {
-            let input = [&[0, 0], &text[..size]].concat();
-            records.push(Record::new(READ_TEXT, raw.len() - 1, &input));
+            read_both(records, 0, raw.len() - 1, &text[..size]);
         }
     }
 }
 
-/// A text read at an offset in characters, and its binary at the same unit.
+/// A stream of text read at an offset in characters, and its binary at the same
+/// unit, which asks room for the characters of a text alone.
 fn read_both(records: &mut Vec<Record>, at: u16, room: usize, text: &[u8]) {
     let input = [&at.to_be_bytes(), text].concat();
     records.push(Record::new(READ_TEXT, room, &input));
     if let Some(binary) = in_binary(text) {
         let input = [&(at / 4 * 3).to_be_bytes(), &binary[..]].concat();
-        records.push(Record::new(READ_BINARY, 1, &input));
+        records.push(Record::new(READ_BINARY, room, &input));
     }
 }
 
@@ -579,7 +584,7 @@ fn written(records: &mut Vec<Record>) {
         let tag = &b"Az9-_QwErTy"[..row.tag];
         write_both(records, named(row.code), tag, &raw(row.raw()));
     }
-    for (letter, _) in VARIABLE {
+    for (letter, _) in VARIABLE.into_iter().filter(|row| row.0 != b'A') {
         for chars in [5, 6] {
             for length in 0..=3 {
                 write_both(records, (chars, letter), b"", &raw(length));
@@ -589,6 +594,68 @@ fn written(records: &mut Vec<Record>) {
     write_both(records, (5, b'B'), b"", &raw(193));
     write_both(records, (6, b'H'), b"", &raw(194));
 }
+
+/// 02 c: texts of each length around a quadlet, and a longer one; what is not
+/// written, in the writer's order; what is read, with each selector's fill,
+/// without it, and with what stands before 16.
+fn texts(records: &mut Vec<Record>) {
+    let text = b"_zA-9AQw".repeat(33);
+    for length in (0..=9).chain([261, 262, 263, 264]) {
+        write_both(records, (5, b'A'), b"", &text[..length]);
+    }
+    for given in [
+        &b"A"[..],
+        b"AB",
+        b"A-a",
+        b"ABCD",
+        b"A!",
+        b"A=",
+        b"-a b",
+        b"-+!",
+        b"=",
+        b"-\xFF",
+    ] {
+        write_both(records, (5, b'A'), b"", given);
+        write_both(records, (6, b'A'), b"", given);
+    }
+    write_both(records, (6, b'A'), b"", b"-a-b");
+    write_both(records, (5, b'A'), b"-", b"!");
+    for item in TEXTS {
+        report_both(records, 35, item);
+        read_both(records, 0, 8, item);
+        walk_both(records, [0; STATE], item);
+    }
+}
+
+/// Values of type `A`: 02 c's examples, and such as tell its orders, accepted or
+/// not.
+const TEXTS: [&[u8]; 25] = [
+    b"4AAA",
+    b"4AAB-4-5",
+    b"4AABABCD",
+    b"4AABAAAA",
+    b"4AABAACD",
+    b"4AABA-AA",
+    b"4AACAAAABCDE",
+    b"5AAA",
+    b"5AABAA-a",
+    b"5AABAB-a",
+    b"5AABAP-a",
+    b"5AABAQ-a",
+    b"5AABBA-a",
+    b"5AABAAAa",
+    b"6AABAAA-",
+    b"6AABAAB-",
+    b"6AABAAE-",
+    b"6AABABA-",
+    b"6AABAAAA",
+    b"4AABAA!A",
+    b"4AABAA=A",
+    b"7AAAAAABAAAA",
+    b"8AAAAAAA",
+    b"-AAC4AABAACDMAAB",
+    b"-AAC5AABAA-aMAAB",
+];
 
 /// A writer's 6, 12 and 5, and their order.
 fn unwritten(records: &mut Vec<Record>) {
@@ -663,10 +730,10 @@ fn examples(records: &mut Vec<Record>) {
         read_both(records, 0, 33, text.as_bytes());
         write_both(records, (1, b'M'), b"", &common::hex(raw));
     }
-    for (text, _, raw) in SAD_PATHS {
-        read_both(records, 0, 33, text.as_bytes());
-        report_both(records, 35, text.as_bytes());
-        write_both(records, (5, b'A'), b"", &common::hex(raw));
+    for (path, _, item) in SAD_PATHS {
+        read_both(records, 0, 33, item.as_bytes());
+        report_both(records, 35, item.as_bytes());
+        write_both(records, (5, b'A'), b"", path.as_bytes());
     }
     let others = DIGESTS_OF_001.iter().chain(&POST_PADDED_OF_001);
     for text in others.chain(&[&NUMBER[4..]]) {
@@ -864,6 +931,7 @@ fn records() -> Vec<Record> {
     reports(&mut records);
     written(&mut records);
     unwritten(&mut records);
+    texts(&mut records);
     reads(&mut records);
     walks(&mut records);
     ordinary(&mut records);

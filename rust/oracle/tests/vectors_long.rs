@@ -1,5 +1,5 @@
-//! The recorded calls of `crates/vectors_long`: long raw values written, and
-//! read back. What the program there is fed and what it must write come from
+//! The recorded calls of `crates/vectors_long`: long raw values and texts
+//! written, and read back. What the program there is fed and what it must write come from
 //! this package, which shares nothing with the program. `VECTORS_WRITE=1 cargo
 //! test -p oracle --test vectors_long` writes the files anew; without it the
 //! files must be what they would be.
@@ -7,11 +7,13 @@
 use oracle::primitive::{read_binary, read_text, write, Named, Primitive, Tag};
 use oracle::primitive::{MOST_LARGE, MOST_SMALL};
 use oracle::registry::{Code, VARIABLE};
+use oracle::text::{MOST_LARGE_TEXT, MOST_SMALL_TEXT, TEXT_TYPE};
 use oracle::Form;
 use std::fmt::Write as _;
 use std::path::PathBuf;
 
-/// A write with the room lent. The raw value follows from length and seed.
+/// A write with the room lent. The raw value follows from length and seed; of
+/// type `A` it is small letters.
 struct Record {
     form: Form,
     letter: u8,
@@ -34,7 +36,11 @@ impl Record {
     }
 
     fn raw(&self) -> Vec<u8> {
-        let byte = |i: usize| (7 * i + i / 256 + usize::from(self.seed)) as u8;
+        let number = |i: usize| i % 65_536 * 7 + i / 256 % 256 + usize::from(self.seed);
+        let byte = |i: usize| match self.letter {
+            TEXT_TYPE => b'a' + (number(i) % 26) as u8,
+            _ => number(i) as u8,
+        };
         (0..self.length).map(byte).collect()
     }
 
@@ -75,12 +81,14 @@ impl Record {
         let (call, found, unit) = match self.form {
             Form::Text => (5, read_text(item, 0, &mut back).unwrap(), 4),
             Form::Binary => {
-                let (found, part) = read_binary(item, 0).unwrap();
-                back = part.to_vec();
+                let (found, part) = read_binary(item, 0, &mut back).unwrap();
+                if found.text == 0 {
+                    back = part.to_vec();
+                }
                 (6, found, 3)
             }
         };
-        let mut line = format!("{call} 0 {}", found.raw);
+        let mut line = format!("{call} 0 {}", found.raw + found.text);
         for number in numbers(&found, unit) {
             write!(line, " {number}").unwrap();
         }
@@ -90,15 +98,15 @@ impl Record {
 }
 
 /// The code's two numbers, its units, where its raw value starts in bytes, the
-/// raw value's length, the number of tag characters.
-fn numbers(item: &Primitive, unit: usize) -> [usize; 6] {
+/// raw value's length, the number of tag characters and of a text's.
+fn numbers(item: &Primitive, unit: usize) -> [usize; 7] {
     let Code::Variable { selector, letter } = item.code else {
         unreachable!("no variable code");
     };
     let units = item.size / unit;
     let start = units * 3 - item.raw;
     let chars = if selector > b'6' { 6 } else { 5 };
-    [chars, letter.into(), units, start, item.raw, 0]
+    [chars, letter.into(), units, start, item.raw, 0, item.text]
 }
 
 /// Digits of base 257, each one more than its byte, modulo the largest prime
@@ -108,7 +116,7 @@ fn checksum(bytes: &[u8]) -> u64 {
     bytes.iter().fold(0, more)
 }
 
-/// The most that a large text of 12,288 raw bytes takes, and a byte behind it.
+/// The most that a large item of 4,096 units takes, and a byte behind it.
 const MOST_ROOM: usize = 16_393;
 
 /// Each type, small and large, at the lengths around the small form's most,
@@ -118,25 +126,16 @@ const MOST_ROOM: usize = 16_393;
 fn records() -> Vec<Record> {
     let mut records = Vec::new();
     for (letter, _) in VARIABLE {
+        // A unit holds three bytes, or four characters.
+        let (small, large, unit) = match letter {
+            TEXT_TYPE => (MOST_SMALL_TEXT, MOST_LARGE_TEXT, 4),
+            _ => (MOST_SMALL, MOST_LARGE, 3),
+        };
         for form in [Form::Text, Form::Binary] {
-            for large in [false, true] {
-                for length in MOST_SMALL - 2..=MOST_SMALL + 3 {
-                    let record = |room| Record {
-                        form,
-                        letter,
-                        large,
-                        seed: letter.wrapping_mul(31) ^ length as u8,
-                        length,
-                        room,
-                    };
-                    let size = match form {
-                        Form::Text => 4 * (length.div_ceil(3) + 1 + usize::from(large)),
-                        Form::Binary => 3 * (length.div_ceil(3) + 1 + usize::from(large)),
-                    };
-                    records.extend([record(size + 1), record(size), record(size - 1)]);
-                }
+            for length in small + 1 - unit..=small + unit {
+                around_small(&mut records, form, letter, length, length.div_ceil(unit));
             }
-            for length in MOST_LARGE - 2..=MOST_LARGE + 1 {
+            for length in large + 1 - unit..=large + 1 {
                 records.push(Record {
                     form,
                     letter,
@@ -151,13 +150,29 @@ fn records() -> Vec<Record> {
     records
 }
 
+fn around_small(records: &mut Vec<Record>, form: Form, letter: u8, length: usize, units: usize) {
+    for large in [false, true] {
+        let size = form.unit() * (units + 1 + usize::from(large));
+        let seed = letter.wrapping_mul(31) ^ length as u8;
+        records.extend([size + 1, size, size - 1].map(|room| Record {
+            form,
+            letter,
+            large,
+            seed,
+            length,
+            room,
+        }));
+    }
+}
+
 fn file(name: &str) -> PathBuf {
     let top = PathBuf::from(env!("CARGO_MANIFEST_DIR")).join("../..");
     top.join("crates/vectors_long").join(name)
 }
 
 /// 01's table by hand: `4` with 4,095 triplets is `4B__` and 4 + 4 x 4,095
-/// characters; a large one counts on, and small ones end there.
+/// characters; a large one counts on, and small ones end there. Of a text so
+/// many units are 16,380 characters with its fill (02 c).
 #[test]
 fn heads_by_hand() {
     for (large, length, answer, head) in [
@@ -172,18 +187,36 @@ fn heads_by_hand() {
         (true, 12_287, (0, 16_392), b"8AABABAA"),
         (true, 12_288, (0, 16_392), b"7AABABAA"),
     ] {
-        let record = Record {
-            form: Form::Text,
-            letter: b'B',
-            large,
-            seed: 0x80,
-            length,
-            room: MOST_ROOM,
-        };
-        let mut out = vec![0xAA; MOST_ROOM];
-        assert_eq!(record.write(&record.raw(), &mut out), answer, "{length}");
-        assert_eq!(&out[..head.len()], head);
+        headed(b'B', large, length, answer, head);
     }
+    for (large, length, answer, head) in [
+        (false, 16_377, (0, 16_384), &b"6A__AAA"[..]),
+        (false, 16_378, (0, 16_384), b"5A__AA"),
+        (false, 16_379, (0, 16_384), b"4A__A"),
+        (false, 16_380, (0, 16_384), b"4A__"),
+        (false, 16_381, (12, 0), b""),
+        (true, 16_380, (18, 0), b""),
+        (true, 16_381, (0, 16_392), b"9AAAABAAAAA"),
+        (true, 16_382, (0, 16_392), b"8AAAABAAAA"),
+        (true, 16_383, (0, 16_392), b"7AAAABAAA"),
+        (true, 16_384, (0, 16_392), b"7AAAABAA"),
+    ] {
+        headed(b'A', large, length, answer, head);
+    }
+}
+
+fn headed(letter: u8, large: bool, length: usize, answer: (u8, usize), head: &[u8]) {
+    let record = Record {
+        form: Form::Text,
+        letter,
+        large,
+        seed: 0x80,
+        length,
+        room: MOST_ROOM,
+    };
+    let mut out = vec![0xAA; MOST_ROOM];
+    assert_eq!(record.write(&record.raw(), &mut out), answer, "{length}");
+    assert_eq!(&out[..head.len()], head);
 }
 
 #[test]

@@ -79,12 +79,20 @@ fn terms<'a>(words: &mut impl Iterator<Item = &'a str>) -> Vec<Term> {
     all
 }
 
-/// A code as the table tells it: `Group 3`, `Genus`, `Fixed ROW`.
-fn is_told(kind: &Term, head: usize, code: Code) -> bool {
+/// A code as the table tells it: `Group 3`, `Genus`, `Fixed ROW`, `Variable
+/// LETTER LEAD COUNT`, of an item of so many units.
+fn is_told(kind: &Term, head: usize, units: usize, code: Code) -> bool {
     let letter = |l: usize| b'A' + u8::try_from(l).expect("a letter");
     let told = match (kind.terms()[0].word(), code) {
         ("Genus", Code::Genus) => true,
         ("Group", Code::Group { letter: l, .. }) => l == letter(kind.terms()[1].number()),
+        ("Variable", Code::Variable { letter: l, .. }) => {
+            let [_, told, lead, count] = kind.terms() else {
+                panic!("{kind:?}")
+            };
+            l == letter(told.number())
+                && [code.lead(), units - head] == [lead.number(), count.number()]
+        }
         ("Fixed", Code::Fixed(row)) => {
             let [_, l, size, lead, tag] = kind.terms()[1].terms() else {
                 panic!("{kind:?}")
@@ -132,7 +140,7 @@ fn steps_of_the_table() {
                 },
             ) => {
                 [offset, size, depth] == [gives[1].number(), gives[2].number(), gives[3].number()]
-                    && is_told(&gives[4], gives[5].number(), code)
+                    && is_told(&gives[4], gives[5].number(), size / unit, code)
                     && next == gives[6].state(unit)
             }
             ("refuses", Found::Refused { number, place }) => {

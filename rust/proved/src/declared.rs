@@ -6,7 +6,19 @@ use crate::{Counts, Info, Item, State, Tag};
 /// length written if 0 is returned, else the place that goes with the number.
 pub type Call = unsafe extern "C" fn(*const u8, usize, *mut u8, usize, *mut usize) -> u8;
 
-/// Code, tag characters and their number, raw value, buffer and answer.
+/// Stream, its length, offset, buffer, its length, tag, info and answer.
+pub type Read = unsafe extern "C" fn(
+    *const u8,
+    usize,
+    usize,
+    *mut u8,
+    usize,
+    *mut Tag,
+    *mut Info,
+    *mut usize,
+) -> u8;
+
+/// Code, tag characters and their number, raw value or text, buffer and answer.
 pub type Write = unsafe extern "C" fn(
     u8,
     u8,
@@ -69,6 +81,8 @@ extern "C" {
         stream: *const u8,
         length: usize,
         at: usize,
+        out: *mut u8,
+        room: usize,
         tag: *mut Tag,
         info: *mut Info,
         answer: *mut usize,

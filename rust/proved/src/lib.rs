@@ -28,9 +28,15 @@ pub type Tag = [u8; 11];
 /// What a reader tells of a primitive: chars (1, 2 or 4 for a fixed code of so
 /// many characters, 5 for a small variable, 6 for a large one), the code's
 /// letter, the full size in units, where the raw value starts in bytes of the
-/// binary form from the item's start, its length, the number of tag
-/// characters.
-pub type Info = [usize; 6];
+/// binary form from the item's start, its length, the number of tag characters,
+/// and of type `A`, which has no raw value, the number of its text's.
+pub type Info = [usize; INFO];
+
+/// How many numbers that are, and where some of them stand.
+pub const INFO: usize = 7;
+pub const INFO_START: usize = 3;
+pub const INFO_RAW: usize = 4;
+pub const INFO_TEXT: usize = 6;
 
 /// Text to binary: 1, 2, 5 or 19, 3, else the number of bytes written.
 pub fn to_binary(text: &[u8], out: &mut [u8]) -> Result<usize, Refusal> {
@@ -68,10 +74,34 @@ fn lent(call: declared::Call, source: &[u8], out: &mut [u8]) -> Result<usize, Re
     answered(number, answer)
 }
 
-/// Reads a primitive of a text: the raw length, with the raw value at the
-/// start of `out`.
+/// Reads a primitive of a text: the length of its raw value or of type `A`'s
+/// text, which is copied to the start of `out`.
 pub fn read_text(
     text: &[u8],
+    at: usize,
+    out: &mut [u8],
+    tag: &mut Tag,
+    info: &mut Info,
+) -> Result<usize, Refusal> {
+    read(declared::cesr_read_text, text, at, out, tag, info)
+}
+
+/// Reads a primitive of a binary: the length of its raw value, which lies in
+/// the stream from `at` and info's start on, or of type `A`'s text, which is
+/// copied to the start of `out`.
+pub fn read_binary(
+    binary: &[u8],
+    at: usize,
+    out: &mut [u8],
+    tag: &mut Tag,
+    info: &mut Info,
+) -> Result<usize, Refusal> {
+    read(declared::cesr_read_binary, binary, at, out, tag, info)
+}
+
+fn read(
+    call: declared::Read,
+    stream: &[u8],
     at: usize,
     out: &mut [u8],
     tag: &mut Tag,
@@ -81,9 +111,9 @@ pub fn read_text(
     // SAFETY: as in `lent`; tag and info are places of their own, of the
     // lengths that the library writes.
     let number = unsafe {
-        declared::cesr_read_text(
-            text.as_ptr(),
-            text.len(),
+        call(
+            stream.as_ptr(),
+            stream.len(),
             at,
             out.as_mut_ptr(),
             out.len(),
@@ -95,24 +125,8 @@ pub fn read_text(
     answered(number, answer)
 }
 
-/// Reads a primitive of a binary: the raw length; the raw value lies in the
-/// stream from `at` and info's start on.
-pub fn read_binary(
-    binary: &[u8],
-    at: usize,
-    tag: &mut Tag,
-    info: &mut Info,
-) -> Result<usize, Refusal> {
-    let mut answer = 0;
-    // SAFETY: as in `read_text`.
-    let number = unsafe {
-        declared::cesr_read_binary(binary.as_ptr(), binary.len(), at, tag, info, &mut answer)
-    };
-    answered(number, answer)
-}
-
 /// A primitive to write: its code as in `Info`, the tag characters and how
-/// many of them count, and the raw value.
+/// many of them count, and the raw value or, of type `A`, the text.
 #[derive(Clone, Copy, Debug)]
 pub struct Primitive<'a> {
     pub chars: u8,
@@ -122,13 +136,13 @@ pub struct Primitive<'a> {
     pub raw: &'a [u8],
 }
 
-/// Writes a primitive as text: 6, 12, 18, 5 or 19, 3, else the length
+/// Writes a primitive as text: 6, 12, 18, 5 or 19, 16, 3, else the length
 /// written.
 pub fn write_text(item: &Primitive, out: &mut [u8]) -> Result<usize, Refusal> {
     write(declared::cesr_write_text, item, out)
 }
 
-/// Writes a primitive as binary: 6, 12, 18, 5 or 19, 3, else the length
+/// Writes a primitive as binary: 6, 12, 18, 5 or 19, 16, 3, else the length
 /// written.
 pub fn write_binary(item: &Primitive, out: &mut [u8]) -> Result<usize, Refusal> {
     write(declared::cesr_write_binary, item, out)

@@ -4,8 +4,8 @@
 #![allow(clippy::ptr_arg)]
 
 use crate::form::{characters, Form};
-use crate::generate::MOST_GROUPS;
-use crate::item::group_header;
+use crate::generate::{any_fill, front_unit, MOST_GROUPS};
+use crate::item::{group_header, stream_in};
 use crate::random::Random;
 use crate::table::{GROUPS, HEADS, MOST_SMALL};
 
@@ -13,7 +13,7 @@ use crate::table::{GROUPS, HEADS, MOST_SMALL};
 pub type Operator = fn(&mut Random, Form, &mut Vec<u8>);
 
 /// All of them, with a name for messages.
-pub const OPERATORS: [(&str, Operator); 16] = [
+pub const OPERATORS: [(&str, Operator); 17] = [
     ("flip a bit", flip_bit),
     ("any byte", any_byte),
     ("wrong alphabet", wrong_alphabet),
@@ -28,6 +28,7 @@ pub const OPERATORS: [(&str, Operator); 16] = [
     ("another count", another_count),
     ("large code", large_code),
     ("genus code", genus_code),
+    ("another fill", another_fill),
     ("wrap", wrap),
     ("flip a header's bit", flip_header_bit),
 ];
@@ -237,6 +238,29 @@ fn large_code(random: &mut Random, form: Form, stream: &mut Vec<u8>) {
     insert(stream, (offset + form.unit()).min(stream.len()), &second);
 }
 
+/// Another first unit for a value of type `A`; where none stands, such an item
+/// before any unit.
+fn another_fill(random: &mut Random, form: Form, stream: &mut Vec<u8>) {
+    let unit = form.unit();
+    let offsets = (0..stream.len().saturating_sub(unit)).step_by(unit);
+    // `4A` to `6A`, and `7AAA` to `9AAA` with a second unit.
+    let value = |offset: usize| match form.bits(stream, offset) {
+        0xEC_0000 | 0xF0_0000 | 0xF4_0000 => Some(offset + 2 * unit),
+        bits if matches!(bits >> 12, 0xE00 | 0xE40 | 0xE80) => Some(offset + unit),
+        _ => None,
+    };
+    let values: Vec<usize> = offsets.filter_map(value).collect();
+    if values.is_empty() || random.once_in(4) {
+        let item = stream_in(&[any_fill(random)], form);
+        let offset = unit_offset(random, form, stream);
+        insert(stream, offset, &item);
+        return;
+    }
+    let first = form.of_text(&front_unit(random));
+    let bits = form.bits(&first, 0);
+    form.put(stream, *random.pick(&values), bits);
+}
+
 /// The genus/version that is read, and others that differ from it.
 pub const GENUS_CODES: [&str; 5] = ["-_AAACAA", "-_AAABAA", "-_BAACAA", "-_AAACAB", "-_ABACAA"];
 
@@ -293,6 +317,30 @@ mod tests {
                     operator(&mut random, form, &mut stream);
                 }
             }
+        }
+    }
+
+    #[test]
+    fn another_fill_finds_the_texts() {
+        let mut random = Random::new(6);
+        // `4A` at 4 and, behind it, `8AAA` with 4,096 units at 12.
+        let mut text = b"MAAB4AAB-a-b8AAAABAAAA-a".to_vec();
+        text.extend(b"BCDE".repeat(4095));
+        for form in FORMS {
+            let before = form.of_text(&text);
+            let mut seen = Vec::new();
+            for _ in 0..200 {
+                let mut stream = before.clone();
+                another_fill(&mut random, form, &mut stream);
+                if stream.len() == before.len() {
+                    let units = (0..before.len()).step_by(form.unit());
+                    let changed = |at: &usize| form.bits(&stream, *at) != form.bits(&before, *at);
+                    seen.extend(units.filter(changed).map(|at| at / form.unit()));
+                }
+            }
+            seen.sort();
+            seen.dedup();
+            assert_eq!(seen, [2, 5]);
         }
     }
 

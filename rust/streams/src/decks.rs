@@ -1,10 +1,11 @@
 //! The long text decks that are timed. Each fills a size as far as whole
 //! top-level items go.
 
+use crate::form::{characters, ALPHABET};
 use crate::generate::{any_item, fixed, nested, TOP};
 use crate::item::{stream, Item};
 use crate::random::Random;
-use crate::table::FIXED;
+use crate::table::{FIXED, TEXT};
 
 /// 44-character digests `E` with any value.
 pub fn digests(random: &mut Random, size: usize) -> Vec<u8> {
@@ -27,6 +28,29 @@ pub fn nests(random: &mut Random, size: usize) -> Vec<u8> {
 /// three deep.
 pub fn mixed(random: &mut Random, size: usize) -> Vec<u8> {
     fill(size, || any_item(random, TOP, 3))
+}
+
+/// Labels and locations: texts of type `A` of 1 to 22 characters, as 001's table
+/// of paths has them, and so of all small selectors.
+pub fn labels(random: &mut Random, size: usize) -> Vec<u8> {
+    fill(size, || label(random, TEXT))
+}
+
+/// The same values as bytes of type `B`: from one seed all sizes, selectors and
+/// characters are those of `labels`.
+pub fn small_bytes(random: &mut Random, size: usize) -> Vec<u8> {
+    fill(size, || label(random, b'B'))
+}
+
+fn label(random: &mut Random, letter: u8) -> Item {
+    let length = 1 + random.below(22);
+    let mut text = random.characters(length);
+    text[0] = *random.pick(&ALPHABET[1..]);
+    let front = (4 - text.len() % 4) % 4;
+    let digits = characters((text.len() + front) as u32 / 4);
+    let selector = b'4' + front.saturating_sub(1) as u8;
+    let head = [selector, letter, digits[2], digits[3]];
+    Item::Primitive([&head[..], &b"AAA"[..front], &text].concat())
 }
 
 fn fill(size: usize, mut item: impl FnMut() -> Item) -> Vec<u8> {
@@ -52,5 +76,23 @@ mod tests {
         assert_eq!(deck.len(), 968);
         assert!(deck.starts_with(b"-JAK-AAJ-CAI-DAH-IAG-JAF-AAE-CAD-DAC-IABM"));
         assert!(mixed(&mut random, 100_000).len() > 90_000);
+    }
+
+    #[test]
+    fn labels_and_bytes_differ_in_their_type_alone() {
+        let made = [labels, small_bytes].map(|make| make(&mut Random::new(3), 10_000));
+        let [labels, bytes] = &made;
+        assert_eq!(labels.len(), bytes.len());
+        let (mut at, mut selectors) = (0, Vec::new());
+        while at < labels.len() {
+            assert_eq!((labels[at + 1], bytes[at + 1]), (b'A', b'B'));
+            assert_eq!(labels[at + 2..at + 8], bytes[at + 2..at + 8]);
+            selectors.push(labels[at]);
+            at += 4 * (1 + usize::from(labels[at + 3] - b'A'));
+        }
+        assert_eq!(at, labels.len());
+        selectors.sort();
+        selectors.dedup();
+        assert_eq!(selectors, b"456");
     }
 }

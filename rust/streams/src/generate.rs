@@ -1,11 +1,11 @@
 //! Items that 01 accepts, of every code, selector and nesting.
 
-use crate::form::characters;
+use crate::form::{characters, ALPHABET};
 use crate::item::{stream, Item};
 use crate::random::Random;
 use crate::table::{
     is_opaque, is_overrideable, Fixed, Kind, FIXED, GENUS_VERSION, GROUPS, LARGE, MOST_SMALL,
-    SMALL, TYPES,
+    SMALL, TEXT, TYPES,
 };
 
 /// Groups that may stand within each other.
@@ -25,8 +25,8 @@ pub fn fixed(random: &mut Random, (code, full, kind): Fixed) -> Item {
     Item::Primitive(text)
 }
 
-/// An item of a variable code with `n` units of any value; of a small one with
-/// lead bytes one at least. It is accepted where the code is the shortest one
+/// An item of a variable code with `n` units of any value, of type `A` of any
+/// text; of a small one with lead bytes one at least. It is accepted where the code is the shortest one
 /// that counts so far.
 pub fn variable(random: &mut Random, selector: u8, letter: u8, n: usize) -> Item {
     let lead = usize::from((selector - b'4') % 3);
@@ -40,14 +40,66 @@ pub fn variable(random: &mut Random, selector: u8, letter: u8, n: usize) -> Item
     };
     let header = text.len();
     text.extend(random.characters(4 * n));
-    // One lead byte: `A` and 2 zero bits; two: `AA` and 4 zero bits.
-    let zeros: &[u8] = match lead.min(n) {
-        0 => &[],
-        _ if lead == 1 => &[b'A', b'A' + random.below(16) as u8],
-        _ => &[b'A', b'A', b'A' + random.below(4) as u8],
-    };
-    text[header..header + zeros.len()].copy_from_slice(zeros);
+    if n > 0 {
+        let front = match letter {
+            TEXT => fill(random, lead),
+            _ => lead_bytes(random, lead),
+        };
+        text[header..header + front.len()].copy_from_slice(&front);
+    }
     Item::Primitive(text)
+}
+
+/// One lead byte: `A` and 2 zero bits; two: `AA` and 4 zero bits.
+fn lead_bytes(random: &mut Random, lead: usize) -> Vec<u8> {
+    match lead {
+        0 => Vec::new(),
+        1 => vec![b'A', b'A' + random.below(16) as u8],
+        _ => vec![b'A', b'A', b'A' + random.below(4) as u8],
+    }
+}
+
+/// What a text opens with: of 4 and 7 one `A` or none, of 5 and 8 two, of 6 and
+/// 9 three; then another character.
+fn fill(random: &mut Random, lead: usize) -> Vec<u8> {
+    let fill = match lead {
+        0 => random.below(2),
+        _ => lead + 1,
+    };
+    let mut front = vec![b'A'; fill];
+    front.push(*random.pick(&ALPHABET[1..]));
+    front
+}
+
+/// A value of type `A` that may be no text: of any small selector, in front as
+/// many `A` as there may be or some more or less.
+pub fn any_fill(random: &mut Random) -> Item {
+    let (selector, n) = (*random.pick(SMALL), random.below(4));
+    let digits = characters(n as u32);
+    let mut text = vec![selector, TEXT, digits[2], digits[3]];
+    let header = text.len();
+    text.extend(random.characters(4 * n));
+    if n > 0 {
+        text[header..header + 4].copy_from_slice(&front_unit(random));
+    }
+    Item::Primitive(text)
+}
+
+/// A first unit for a value of type `A`: so many `A`, then characters that may
+/// be one too or have few bits, so that they are lead bits that are zero.
+pub fn front_unit(random: &mut Random) -> [u8; 4] {
+    let fill = random.below(5);
+    std::array::from_fn(|place| match random.below(3) {
+        _ if place < fill => b'A',
+        0 => *random.pick(b"ABDEPQ"),
+        _ => random.character(),
+    })
+}
+
+/// The same at some place in a deck, at top level or within groups.
+pub fn any_fill_deck(random: &mut Random) -> Vec<Item> {
+    let item = any_fill(random);
+    placed(random, item)
 }
 
 /// A group of any letter: opaque ones with any units for `body`'s items.
@@ -178,10 +230,15 @@ pub fn not_short(random: &mut Random) -> Item {
 
 /// The same at some place in a deck, at top level or within groups.
 pub fn not_short_deck(random: &mut Random) -> Vec<Item> {
+    let item = not_short(random);
+    placed(random, item)
+}
+
+fn placed(random: &mut Random, item: Item) -> Vec<Item> {
     let mut items = any_deck(random, 3);
     let within = *random.pick(&[0, 0, 1, 1, 2, 3, MOST_GROUPS - 1, MOST_GROUPS]);
     let mut core = any_deck(random, 1);
-    core.insert(random.below(core.len() + 1), not_short(random));
+    core.insert(random.below(core.len() + 1), item);
     let place = random.below(items.len() + 1);
     let letters = [*random.pick(b"ABCDJZac"), *random.pick(b"ABCDJZac")];
     items.splice(place..place, nested(&letters, within, core));
@@ -324,7 +381,6 @@ fn around(random: &mut Random, large: bool, body: Vec<Item>) -> Item {
 #[cfg(test)]
 mod tests {
     use super::*;
-    use crate::form::ALPHABET;
 
     #[test]
     fn everything_is_whole_units_in_the_alphabet() {
@@ -366,6 +422,43 @@ mod tests {
                 let text = stream(&[large_code(&mut random, index, units)]);
                 assert_eq!(text.len(), 8 + 4 * units);
                 assert!(text.starts_with(b"--") || LARGE.contains(&text[0]));
+            }
+        }
+    }
+
+    /// The `A` in front of a value, under its selector.
+    fn fronts(items: impl Iterator<Item = Item>) -> Vec<(u8, usize)> {
+        let front = |item: Item| {
+            let text = stream(&[item]);
+            let header = if text[0] < b'7' { 4 } else { 8 };
+            let fill = text[header..].iter().take_while(|c| **c == b'A').count();
+            (text[0], fill)
+        };
+        let mut seen: Vec<_> = items.map(front).collect();
+        seen.sort();
+        seen.dedup();
+        seen
+    }
+
+    #[test]
+    fn texts_have_their_fill() {
+        let mut random = Random::new(9);
+        let texts = (0..600).map(|round| {
+            let selector = b"456789"[round % 6];
+            variable(&mut random, selector, TEXT, 1 + round % 3)
+        });
+        let four = [(b'4', 0), (b'4', 1), (b'5', 2), (b'6', 3)];
+        let seven = four.map(|(selector, fill)| (selector + 3, fill));
+        assert_eq!(fronts(texts), [four, seven].concat());
+    }
+
+    #[test]
+    fn any_fill_stands_on_both_sides() {
+        let mut random = Random::new(10);
+        let seen = fronts((0..4000).map(|_| any_fill(&mut random)));
+        for selector in *b"456" {
+            for fill in 0..4 {
+                assert!(seen.contains(&(selector, fill)), "{selector} {fill}");
             }
         }
     }

@@ -1,10 +1,11 @@
 //! Seeded CESR streams for tests and benchmarks.
 //!
 //! `generate` makes items that are accepted, of every code, selector and
-//! nesting, and such that only their spelling is refused; `decks` the long streams that are timed; `damage` changes a stream
-//! in the ways that streams go wrong; `noise` makes streams that were never
-//! right; `expectation` makes expected verdicts and reports to compare them
-//! with; `papers` are the papers' own; `shrink` makes a failing stream small.
+//! nesting, and such that only their spelling or the fill of a text may be
+//! refused; `decks` the long streams that are timed; `damage` changes a stream in
+//! the ways that streams go wrong; `noise` makes streams that were never right;
+//! `expectation` makes expected verdicts and reports to compare them with;
+//! `papers` are the papers' own; `shrink` makes a failing stream small.
 //! The codes are typed in from 003 (`table`), so nothing here is shared with
 //! the programs it tries.
 //!

@@ -35,8 +35,9 @@ pub const FIXED: [Fixed; 58] = [
     ("1AAM", 4, Raw), ("1AAN", 12, Tag), ("1AAO", 4, Raw), ("1AAP", 4, Raw),
 ];
 
-/// Types of variable values.
+/// Types of variable values, and the one whose value is text.
 pub const TYPES: &[u8] = b"ABCDEFH";
+pub const TEXT: u8 = b'A';
 
 /// Selectors of variable values by lead bytes: of small codes, of large ones.
 pub const SMALL: &[u8] = b"456";
@@ -63,11 +64,12 @@ pub const GENUS_VERSION: [u8; 6] = *b"AAACAA";
 /// First units worth putting somewhere: a known one of every table, and the
 /// unknown and reserved ones next to them.
 #[rustfmt::skip]
-pub const HEADS: [&str; 64] = [
+pub const HEADS: [&str; 70] = [
     "MAAB", "MQAA", "MP__", "EAAA", "EPAA", "EQAA", "VABh", "VAEA", "VBAA", "VQAA", "WGhp",
     "X___", "Y___", "Z___", "aAAA", "bAAA", "zAAA", "0AAA", "0AD_", "0AEA", "0HD_", "0HEA",
     "0J_A", "0JAA", "0J-_", "0K__", "0L_A", "0N9A", "0O__", "0PAA", "0SAA", "0aAA", "1AAA",
     "1AAK", "1AAP", "1AAQ", "1AB_", "1BAA", "2AAA", "3AAB", "4BAA", "4BAB", "4GAB", "5BAA",
     "5BAB", "6HAB", "6IAB", "7AAB", "7AAG", "7ABB", "8AAH", "9AAA", "9BAA", "-AAA", "-AAB",
-    "-KAB", "-cAC", "-dAA", "-0AA", "--AA", "--KA", "--dA", "-_AA", "_AAA",
+    "-KAB", "-cAC", "-dAA", "-0AA", "--AA", "--KA", "--dA", "-_AA", "_AAA", "4AAA", "4AAB",
+    "5AAB", "6AAB", "7AAA", "8AAA",
 ];

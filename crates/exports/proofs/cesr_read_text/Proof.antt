@@ -13,6 +13,9 @@ enum-known-found c = search needs
 info-of-requires : tie.Need-info-of-requires
 info-of-requires c κs = search needs
 
+value-size-requires : tie.Need-value-size-requires
+value-size-requires c κs = search needs
+
 enum-known-found-2 : tie.Need-enum-known-found-2
 enum-known-found-2 c = search needs
 
@@ -22,9 +25,10 @@ same-length c = search needs
 returns : tie.Need-returns
 unfolding textFoundNumber textFoundValue textTagLeft textInfoLeft
 returns c =
-    let t = c .before .before .before .before .before .before .before .read-text in
-    let g = c .before .before .found .given .1 in
-    rw (← (t .ensures .0)) (rw g, (rw g, (t .ensures .1, (rw g, rw g (c .info-of .ensures)))))
+    let f = c .before .before .before in
+    let t = f .before .before .before .before .before .read-text in
+    let g = f .found .given .1 in
+    rw (← (t .ensures .0)) (rw g, (rw g (c .value-size .ensures), (t .ensures .1, (rw g, rw g (c .before .info-of .ensures)))))
 
 same-length-2 : tie.Need-same-length-2
 same-length-2 c = search needs
@@ -43,6 +47,7 @@ cesr-read-text-spec =
     read-text-requires
     enum-known-found
     info-of-requires
+    value-size-requires
     enum-known-found-2
     same-length
     returns

@@ -10,6 +10,7 @@ use Rattle.judging_header.proofs.variable_checks.Lts as lts
 use Rattle.judging_header.proofs.has_lead.Reads as has-lead-reads
 use Rattle.judging_header.proofs.is_shortest.Reads as is-shortest-reads
 use Rattle.judging_header.proofs.lead_zero.Reads as lead-zero-reads
+use Rattle.judging_header.proofs.text_filled.Reads as text-filled-reads
 
 is-shortest-requires : tie.Need-is-shortest-requires
 is-shortest-requires c κs = search needs
@@ -42,16 +43,43 @@ returns-3 c =
       sym (c .before .lead-zero .ensures) ∙ not-true _ (c .if3 .taken),
     )
 
+text-filled-requires : tie.Need-text-filled-requires
+text-filled-requires c κs = search needs
+
 returns-4 : tie.Need-returns-4
 unfolding variableChecks andThen unless
 returns-4 c =
-    let e = c .before .before .before in
+    let l = c .before .before in
+    let e = l .before .before .before in
     rw (
       sym (e .before .before .is-shortest .ensures) ∙ not-false _ (e .before .if1 .left),
-      sym (e .has-lead .ensures) ∙ not-false _ (c .before .before .if2 .left),
-      sym (c .before .lead-zero .ensures) ∙ not-false _ (c .if3 .left),
+      sym (e .has-lead .ensures) ∙ not-false _ (l .before .before .if2 .left),
+      sym (l .before .lead-zero .ensures) ∙ not-false _ (l .if3 .left),
+      sym (c .before .text-filled .ensures) ∙ not-true _ (c .if4 .taken),
+    )
+
+returns-5 : tie.Need-returns-5
+unfolding variableChecks andThen unless
+returns-5 c =
+    let l = c .before .before in
+    let e = l .before .before .before in
+    rw (
+      sym (e .before .before .is-shortest .ensures) ∙ not-false _ (e .before .if1 .left),
+      sym (e .has-lead .ensures) ∙ not-false _ (l .before .before .if2 .left),
+      sym (l .before .lead-zero .ensures) ∙ not-false _ (l .if3 .left),
+      sym (c .before .text-filled .ensures) ∙ not-false _ (c .if4 .left),
     )
 
 pub variable-checks-spec : {M : Type 1} → statement M
 variable-checks-spec =
-    tie.close (tie.spec is-shortest-requires returns has-lead-requires returns-2 lead-zero-requires returns-3 returns-4)
+    tie.close
+    (tie.spec
+    is-shortest-requires
+    returns
+    has-lead-requires
+    returns-2
+    lead-zero-requires
+    returns-3
+    text-filled-requires
+    returns-4
+    returns-5)

@@ -1,4 +1,4 @@
--- `reading_binary::binary_found` meets its contract: what primitive_of and tag_of say holds, since the part is read. Assumes nothing.
+-- `reading_binary::binary_found` meets its contract: what reading_item says holds, since the part is read. Assumes nothing.
 use Rattle.reading_binary.proofs.Answers.{binary-item}
 use borrow.Author.Needs.{needs}
 use Rattle.reading_binary.proofs.binary_found.Statement.{statement}
@@ -9,9 +9,8 @@ use Rattle.framing_head.proofs.binary_head.Reads as binary-head-reads
 use Rattle.framing_head.proofs.within.Reads as within-reads
 use Rattle.reading_item.proofs.primitive_of.Reads as primitive-of-reads
 use Rattle.reading_item.proofs.tag_of.Reads as tag-of-reads
-
-primitive-of-requires : tie.Need-primitive-of-requires
-primitive-of-requires c κs = search needs
+use Rattle.reading_item.proofs.text_size.Reads as text-size-reads
+use Rattle.reading_item.proofs.text_start.Reads as text-start-reads
 
 binary-head-requires : tie.Need-binary-head-requires
 binary-head-requires c κs = search needs
@@ -19,16 +18,32 @@ binary-head-requires c κs = search needs
 within-requires : tie.Need-within-requires
 within-requires c κs = search needs
 
+text-start-requires : tie.Need-text-start-requires
+text-start-requires c κs = search needs
+
+text-size-requires : tie.Need-text-size-requires
+text-size-requires c κs = search needs
+
+primitive-of-requires : tie.Need-primitive-of-requires
+primitive-of-requires c κs = search needs
+
 tag-of-requires : tie.Need-tag-of-requires
 tag-of-requires c κs = search needs
 
 returns : tie.Need-returns
 returns c =
-    let p = c .before .before .before in
-    let s = p .before .before in
-    binary-item (s .args .part .now) _ _ _ (s .pre .0) (s .pre .1) _ _ _ _ (p .primitive-of .ensures) (c .before .before .binary-head .ensures) (c .before .within .ensures) (c .tag-of .ensures)
+    let t = c .before .before .before in
+    let s = t .before .before .before .before in
+    binary-item (s .args .part .now) _ _ _ (s .pre .0) (s .pre .1) _ _ _ _ _ _ (t .before .before .binary-head .ensures) (t .before .within .ensures) (t .text-start .ensures) (c .before .before .text-size .ensures) (c .before .primitive-of .ensures) (c .tag-of .ensures)
 
 pub binary-found-spec : {M : Type 1} → statement M
 binary-found-spec =
     tie.close
-    (tie.spec primitive-of-requires binary-head-requires within-requires tag-of-requires returns)
+    (tie.spec
+    binary-head-requires
+    within-requires
+    text-start-requires
+    text-size-requires
+    primitive-of-requires
+    tag-of-requires
+    returns)

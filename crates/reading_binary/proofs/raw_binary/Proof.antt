@@ -11,10 +11,10 @@ use Rattle.reading_binary.proofs.raw_binary.Statement.{statement}
 use Rattle.reading_binary.proofs.raw_binary.Tie as tie
 use Rattle.reading_binary.proofs.raw_binary.Reads as reads
 use Rattle.reading_binary.proofs.raw_binary.Lts as lts
-use Rattle.reading_binary.proofs.read_binary.Reads as read-binary-reads
+use Rattle.reading_binary.proofs.found_at.Reads as found-at-reads
 
-read-binary-requires : tie.Need-read-binary-requires
-read-binary-requires c κs = search needs
+found-at-requires : tie.Need-found-at-requires
+found-at-requires c κs = search needs
 
 enum-told : tie.Need-enum-told
 enum-told c = search needs
@@ -27,11 +27,11 @@ enum-known-found c = search needs
 
 add-start : tie.Need-add-start
 add-start c =
-    let a = c .before .before .before .before .before .before .args in omega (arith, found-inside (a .s .now) (a .at .0) _ (ap (λ (r : BinaryRead). r .found) (sym (c .before .before .before .before .read-binary .ensures)) ∙ c .before .before .found .given .1))
+    let a = c .before .before .before .before .before .before .args in omega (arith, found-inside (a .s .now) (a .at .0) _ (ap (λ (r : BinaryRead). r .found) (sym (c .before .before .before .before .found-at .ensures)) ∙ c .before .before .found .given .1))
 
 add-end : tie.Need-add-end
 add-end c =
-    let a = c .before .before .before .before .before .before .before .args in omega (arith, found-inside (a .s .now) (a .at .0) _ (ap (λ (r : BinaryRead). r .found) (sym (c .before .before .before .before .before .read-binary .ensures)) ∙ c .before .before .before .found .given .1))
+    let a = c .before .before .before .before .before .before .before .args in omega (arith, found-inside (a .s .now) (a .at .0) _ (ap (λ (r : BinaryRead). r .found) (sym (c .before .before .before .before .before .found-at .ensures)) ∙ c .before .before .before .found .given .1))
 
 sub-result : tie.Need-sub-result
 sub-result c = search needs
@@ -41,12 +41,12 @@ part-result-start c = search needs
 
 part-result-end : tie.Need-part-result-end
 part-result-end c =
-    let a = c .before .before .before .before .before .before .before .args in omega (arith, found-inside (a .s .now) (a .at .0) _ (ap (λ (r : BinaryRead). r .found) (sym (c .before .before .before .before .before .read-binary .ensures)) ∙ c .before .before .before .found .given .1))
+    let a = c .before .before .before .before .before .before .before .args in omega (arith, found-inside (a .s .now) (a .at .0) _ (ap (λ (r : BinaryRead). r .found) (sym (c .before .before .before .before .before .found-at .ensures)) ∙ c .before .before .before .found .given .1))
 
 returns : tie.Need-returns
 unfolding partAt partStart
 returns c =
-    let e = ap (λ (r : BinaryRead). r .found) (sym (c .before .before .before .read-binary .ensures)) ∙ c .before .enum-told .given .1 in
+    let e = ap (λ (r : BinaryRead). r .found) (sym (c .before .before .before .found-at .ensures)) ∙ c .before .enum-told .given .1 in
     (rw e, rw e (ap (λ (n : ℕ). (c .before .before .before .before .before .args .s .ptr .0, n)) (sym (zero-add _))))
 
 returns-2 : tie.Need-returns-2
@@ -55,14 +55,14 @@ returns-2 c =
     let a = c .before .before .before .before .before .before .before .before .args in
     let p = c .before .before .before .before .found .given .0 .0 in
     let z : a .at .0 + p .start .0 + p .raw - (a .at .0 + p .start .0) ≡ p .raw = omega arith in
-    let e = ap (λ (r : BinaryRead). r .found) (sym (c .before .before .before .before .before .before .read-binary .ensures)) ∙ c .before .before .before .before .found .given .1 in
+    let e = ap (λ (r : BinaryRead). r .found) (sym (c .before .before .before .before .before .before .found-at .ensures)) ∙ c .before .before .before .before .found .given .1 in
     (rw (z, e), rw e)
 
 pub raw-binary-spec : {M : Type 1} → statement M
 raw-binary-spec =
     tie.close
     (tie.spec
-    read-binary-requires
+    found-at-requires
     enum-told
     slice-aggregate-result
     enum-known-found

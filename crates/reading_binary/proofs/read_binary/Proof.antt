@@ -1,93 +1,79 @@
--- `reading_binary::read_binary` meets its contract: case by case, and the found item by its part. Assumes nothing.
-use mathlib.Core.Path.{sym, _∙_}
-use Rattle.judging.proofs.Laws.{to-end}
-use Rattle.reading_binary.proofs.Answers.{binary-long, binary-past, binary-refused, binary-found}
+-- `reading_binary::read_binary` meets its contract: what is found, and 3 or its text. Assumes nothing.
+use mathlib.Core.Path.{_≡_, ap, sym, _∙_}
+use Rattle.format.specs.declared.BinaryRead.{BinaryRead}
+use Rattle.format.specs.Reading.{charsLeft}
+use Rattle.reading_binary.proofs.Answers.{found-of, found-start, item-inside, text-inside, no-room, some-room, refused-anyway, chars-are}
 use borrow.Author.Needs.{needs}
 use Rattle.reading_binary.proofs.read_binary.Statement.{statement}
 use Rattle.reading_binary.proofs.read_binary.Tie as tie
 use Rattle.reading_binary.proofs.read_binary.Reads as reads
 use Rattle.reading_binary.proofs.read_binary.Lts as lts
-use Rattle.reading_binary.proofs.binary_found.Reads as binary-found-reads
+use Rattle.reading_binary.proofs.copy_text.Reads as copy-text-reads
+use Rattle.reading_binary.proofs.found_at.Reads as found-at-reads
 use Rattle.reading_binary.proofs.no_binary.Reads as no-binary-reads
-use Rattle.reading_part.proofs.of_binary.Reads as of-binary-reads
+
+found-at-requires : tie.Need-found-at-requires
+found-at-requires c κs = search needs
+
+enum-told : tie.Need-enum-told
+enum-told c = search needs
+
+enum-known-found : tie.Need-enum-known-found
+enum-known-found c = search needs
 
 no-binary-requires : tie.Need-no-binary-requires
 no-binary-requires c κs = search needs
 
 returns : tie.Need-returns
-returns c = c .no-binary .ensures ∙ binary-long _ _ (search needs)
+unfolding charsLeft
+returns c =
+    let f = c .before .before .before .before in
+    let a = f .before .before .before .before .before .args in
+    let e = ap (λ (r : BinaryRead). r .found) (sym (f .before .before .found-at .ensures)) ∙ f .found .given .1 in
+    (c .no-binary .ensures ∙ no-room (a .s .now) (a .at .0) _ _ (found-of (a .s .now) (a .at .0) _ e) (c .before .if1 .taken), rw (c .no-binary .ensures))
 
-no-binary-requires-2 : tie.Need-no-binary-requires-2
-no-binary-requires-2 c κs = search needs
+copy-text-requires : tie.Need-copy-text-requires
+copy-text-requires c κs =
+    let f = c .before .before .before .before in
+    let a = f .before .before .before .before .before .args in
+    let e = ap (λ (r : BinaryRead). r .found) (sym (f .before .before .found-at .ensures)) ∙ f .found .given .1 in
+    let w = found-of (a .s .now) (a .at .0) _ e in
+    let st = found-start (a .s .now) (a .at .0) _ _ e in
+    (item-inside (a .s .now) (a .at .0) _ w st, w .short, text-inside (a .s .now) (a .at .0) _ w st, search needs)
 
 returns-2 : tie.Need-returns-2
-returns-2 c = c .no-binary2 .ensures ∙ binary-past _ _ (search needs) (search needs)
+unfolding charsLeft
+returns-2 c =
+    let a = c .before .before .before .before .before .args in
+    let q = c .before .before .found-at .ensures in
+    let e = ap (λ (r : BinaryRead). r .found) (sym q) ∙ c .enum-told .given .1 in
+    (q ∙ refused-anyway (a .s .now) (a .at .0) _ _ _ e, rw (c .enum-told .given .1))
 
-sub-part : tie.Need-sub-part
-sub-part c = search needs
-
-part-part-start : tie.Need-part-part-start
-part-part-start c = search needs
-
-part-part-end : tie.Need-part-part-end
-part-part-end c = search needs
-
-of-binary-requires : tie.Need-of-binary-requires
-of-binary-requires c κs = search needs
-
-enum-known-number : tie.Need-enum-known-number
-enum-known-number c = search needs
-
-mul-no-binary : tie.Need-mul-no-binary
-mul-no-binary c = search needs
-
-add-no-binary : tie.Need-add-no-binary
-add-no-binary c = search needs
-
-add-no-binary-2 : tie.Need-add-no-binary-2
-add-no-binary-2 c = search needs
-
-no-binary-requires-3 : tie.Need-no-binary-requires-3
-no-binary-requires-3 c κs = search needs
-
-enum-known-kind : tie.Need-enum-known-kind
-enum-known-kind c = search needs
-
-binary-found-requires : tie.Need-binary-found-requires
-binary-found-requires c κs = (sym (c .before .before .before .of-binary .ensures) ∙ c .before .kind .given .1, search needs)
+same-length : tie.Need-same-length
+same-length c = search needs
 
 returns-3 : tie.Need-returns-3
 returns-3 c =
-    let q = c .before .before .before .before in
-    let a = q .before .before .before .before .before .args in
-    c .no-binary3 .ensures
-    ∙ binary-refused (a .s .now) (a .at .0) (search needs) _ _ (rw (to-end (a .s .now) (a .at .0)) at (sym (q .of-binary .ensures) ∙ c .before .before .number .given .1))
-
-returns-4 : tie.Need-returns-4
-returns-4 c =
-    let q = c .before .before .before .before in
-    let a = q .before .before .before .before .before .args in
-    let e = rw (to-end (a .s .now) (a .at .0)) at (sym (q .of-binary .ensures) ∙ c .before .before .kind .given .1) in
-    binary-found (a .s .now) (a .at .0) (search needs) _ _ _ e _ (rw (to-end (a .s .now) (a .at .0)) at (c .binary-found .ensures))
+    let f = c .before .before .before .before .before .before .before in
+    let a = f .before .before .before .before .before .args in
+    let q = f .before .before .found-at .ensures in
+    let e = ap (λ (r : BinaryRead). r .found) (sym q) ∙ f .found .given .1 in
+    let w = found-of (a .s .now) (a .at .0) _ e in
+    let st = found-start (a .s .now) (a .at .0) _ _ e in (
+      q ∙ some-room (a .s .now) (a .at .0) _ _ w (c .before .before .before .before .if1 .left),
+      c .before .before .copy-text .ensures ∙ chars-are (a .s .now) (a .at .0) _ w st (a .out .now) ∙ rw (f .found .given .1),
+    )
 
 pub read-binary-spec : {M : Type 1} → statement M
 read-binary-spec =
     tie.close
     (tie.spec
+    found-at-requires
+    enum-told
+    enum-known-found
     no-binary-requires
     returns
-    no-binary-requires-2
+    copy-text-requires
     returns-2
-    sub-part
-    part-part-start
-    part-part-end
-    of-binary-requires
-    enum-known-number
-    mul-no-binary
-    add-no-binary
-    add-no-binary-2
-    no-binary-requires-3
-    enum-known-kind
-    binary-found-requires
-    returns-3
-    returns-4)
+    same-length
+    returns-3)

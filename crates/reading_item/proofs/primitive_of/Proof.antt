@@ -16,11 +16,11 @@ use Rattle.reading_item.proofs.tags_of.Reads as tags-of-reads
 at-most-requires : tie.Need-at-most-requires
 at-most-requires c κs = search needs
 
-raw-start-requires : tie.Need-raw-start-requires
-raw-start-requires c κs = search needs
-
 at-most-requires-2 : tie.Need-at-most-requires-2
 at-most-requires-2 c κs = search needs
+
+raw-start-requires : tie.Need-raw-start-requires
+raw-start-requires c κs = search needs
 
 mul-left : tie.Need-mul-left
 mul-left c = search needs
@@ -37,20 +37,21 @@ tags-of-requires c κs = search needs
 returns : tie.Need-returns
 unfolding primitiveOf
 returns c =
-    let s = c .before .before .before .before in
-    let a = s .before .before .args in
-    λ few small.
-    let h : s .before .at-most .result ≡ a .h = omega (arith, s .before .at-most .ensures) in
-    let n : c .before .before .before .at-most2 .result ≡ a .n = omega (arith, c .before .before .before .at-most2 .ensures) in
-    rw (c .tags-of .ensures, c .before .code-of .ensures, c .before .before .left .ensures, s .raw-start .ensures .0, h, n)
+    let s = c .before .before .before in
+    let a = s .before .before .before .args in
+    λ few small shape.
+    let h : s .before .before .at-most .result ≡ a .h = omega (arith, s .before .before .at-most .ensures) in
+    let n : s .before .at-most2 .result ≡ a .n = omega (arith, s .before .at-most2 .ensures) in
+    let r = s .raw-start .ensures (rw (h, n) shape) in
+    rw (c .tags-of .ensures, c .before .code-of .ensures, c .before .before .left .ensures, r, h, n)
 
 pub primitive-of-spec : {M : Type 1} → statement M
 primitive-of-spec =
     tie.close
     (tie.spec
     at-most-requires
-    raw-start-requires
     at-most-requires-2
+    raw-start-requires
     mul-left
     left-requires
     code-of-requires

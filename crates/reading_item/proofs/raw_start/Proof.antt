@@ -1,8 +1,17 @@
--- `raw_start` meets its contract. Assumes nothing.
+-- `reading_item::raw_start` meets its contract: of a text it is the item's end, since its units are all that is behind the header.
+-- Assumes nothing.
+use Prim.Native.Nat.{_+_, _*_}
+use native.Mathlib.Omega.{arith}
+use borrow.Author.Tests.{eq-eqb, ne-eqb}
+use Rattle.format.specs.Registry.{isText}
 use Rattle.format.specs.Values.{rawStart}
 use borrow.Author.Needs.{needs}
 use Rattle.reading_item.proofs.raw_start.Statement.{statement}
 use Rattle.reading_item.proofs.raw_start.Tie as tie
+use Rattle.reading_item.proofs.raw_start.Reads as reads
+use Rattle.reading_item.proofs.raw_start.Lts as lts
+use Rattle.reading_item.proofs.fixed_start.Reads as fixed-start-reads
+use Rattle.reading_item.proofs.wide.Reads as wide-reads
 
 enum-known-kind : tie.Need-enum-known-kind
 enum-known-kind c = search needs
@@ -13,42 +22,49 @@ fixed-start-requires c κs = search needs
 enum-known-kind-2 : tie.Need-enum-known-kind-2
 enum-known-kind-2 c = search needs
 
-mul-t6 : tie.Need-mul-t6
-mul-t6 c = search needs
-
-wide-requires : tie.Need-wide-requires
-wide-requires c κs = search needs
-
-add-t8 : tie.Need-add-t8
-add-t8 c = search needs
-
-enum-told : tie.Need-enum-told
-enum-told c = search needs
-
 mul-t9 : tie.Need-mul-t9
 mul-t9 c = search needs
 
-enum-told-2 : tie.Need-enum-told-2
-enum-told-2 c = search needs
+returns : tie.Need-returns
+unfolding rawStart isText
+returns c = λ shape. let k = c .before .before .kind2 .given .1 in let z = rw k at shape in rw (k, eq-eqb _ _ (c .if1 .taken)) (omega (arith, z .1))
 
 mul-t10 : tie.Need-mul-t10
 mul-t10 c = search needs
 
-returns : tie.Need-returns
-unfolding rawStart
-returns c = (rw (c .before .before .kind .given .1) (c .fixed-start .ensures .0), search needs)
+wide-requires : tie.Need-wide-requires
+wide-requires c κs = search needs
+
+add-t12 : tie.Need-add-t12
+add-t12 c = search needs
+
+enum-told : tie.Need-enum-told
+enum-told c = search needs
+
+mul-t13 : tie.Need-mul-t13
+mul-t13 c = search needs
+
+enum-told-2 : tie.Need-enum-told-2
+enum-told-2 c = search needs
+
+mul-t14 : tie.Need-mul-t14
+mul-t14 c = search needs
 
 returns-2 : tie.Need-returns-2
-unfolding rawStart
-returns-2 c = (rw (c .before .before .kind2 .given .1, c .wide .ensures .0), search needs)
+unfolding rawStart isText
+returns-2 c = λ _. rw (c .before .before .kind .given .1) (c .fixed-start .ensures .0)
 
 returns-3 : tie.Need-returns-3
-unfolding rawStart
-returns-3 c = (rw (c .enum-told .given .1), search needs)
+unfolding rawStart isText
+returns-3 c = λ _. rw (c .before .before .before .kind2 .given .1, ne-eqb _ _ (c .before .if1 .left), c .wide .ensures .0)
 
 returns-4 : tie.Need-returns-4
-unfolding rawStart
-returns-4 c = (rw (c .enum-told2 .given .1), search needs)
+unfolding rawStart isText
+returns-4 c = λ _. rw (c .enum-told .given .1)
+
+returns-5 : tie.Need-returns-5
+unfolding rawStart isText
+returns-5 c = λ _. rw (c .enum-told2 .given .1)
 
 pub raw-start-spec : {M : Type 1} → statement M
 raw-start-spec =
@@ -57,14 +73,16 @@ raw-start-spec =
     enum-known-kind
     fixed-start-requires
     enum-known-kind-2
-    mul-t6
-    wide-requires
-    add-t8
-    enum-told
     mul-t9
-    enum-told-2
-    mul-t10
     returns
+    mul-t10
+    wide-requires
+    add-t12
+    enum-told
+    mul-t13
+    enum-told-2
+    mul-t14
     returns-2
     returns-3
-    returns-4)
+    returns-4
+    returns-5)

@@ -1,7 +1,7 @@
 -- `reading_text::read_text` meets its contract: case by case, and the found item by its part. Assumes nothing.
 use mathlib.Core.Path.{sym, _∙_}
 use native.Mathlib.Omega.{arith}
-use Rattle.format.specs.Reading.{rawLeft}
+use Rattle.format.specs.Reading.{valueLeft}
 use Rattle.judging.proofs.Laws.{to-end}
 use Rattle.reading_text.proofs.Answers.{text-long, text-past, text-refused, text-found, text-place, left-from}
 use borrow.Author.Needs.{needs}
@@ -17,14 +17,14 @@ no-text-requires : tie.Need-no-text-requires
 no-text-requires c κs = search needs
 
 returns : tie.Need-returns
-unfolding rawLeft
+unfolding valueLeft
 returns c = (c .no-text .ensures ∙ text-long _ _ _ (search needs), rw (c .no-text .ensures))
 
 no-text-requires-2 : tie.Need-no-text-requires-2
 no-text-requires-2 c κs = search needs
 
 returns-2 : tie.Need-returns-2
-unfolding rawLeft
+unfolding valueLeft
 returns-2 c = (c .no-text2 .ensures ∙ text-past _ _ _ (search needs) (search needs), rw (c .no-text2 .ensures))
 
 sub-part : tie.Need-sub-part
@@ -58,7 +58,7 @@ text-found-requires : tie.Need-text-found-requires
 text-found-requires c κs = (sym (c .before .before .before .before .of-text .ensures) ∙ c .before .before .kind .given .1, search needs)
 
 returns-3 : tie.Need-returns-3
-unfolding rawLeft
+unfolding valueLeft
 returns-3 c =
     let q = c .before .before .before .before in
     let a = q .before .before .before .before .before .before .args in

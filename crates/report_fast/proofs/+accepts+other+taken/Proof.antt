@@ -1,10 +1,11 @@
--- The loop over a group's items, the step that takes the next one, and the same of an item that its first unit does not tell; both steps
+-- The loop over a group's items, the step that takes the next one, and the same of an item that its first units do not tell; both steps
 -- go to the loop for a group's contents, one level further in. Assumes nothing.
 use Prim.Native.Nat.{ℕ, _+_, _-_, _*_, _<_}
+use mathlib.Core.Bool.{false}
 use native.Mathlib.Omega.{arith}
 use native.Mathlib.Nat.{pos-of-ne-zero}
 use borrow.Author.Needs.{needs}
-use Rattle.report_fast.proofs.Laws.{Going, going-start, going-reach, going-plain, going-taken, going-less, going-end, no-pass, inner-reach, inner-falls, by-contents, by-own, group-inner, group-falls, by-inner, nothing}
+use Rattle.report_fast.proofs.Laws.{Going, going-start, going-reach, going-plain, going-taken, going-valued, going-less, going-end, no-pass, inner-reach, inner-falls, by-contents, by-own, group-inner, group-falls, by-inner, nothing}
 use Rattle.report_found.proofs.Laws.{inner-levels, head-fits, size-fits}
 use borrow.Fn.Kinds.{In}
 use borrow.Fn.PlainCycle.{Measures, is, falls, and}
@@ -21,6 +22,7 @@ use Rattle.report_first.proofs.group.Reads as group-reads
 use Rattle.report_first.proofs.marks.Reads as marks-reads
 use Rattle.report_first.proofs.plain.Reads as plain-reads
 use Rattle.report_found.proofs.found.Reads as found-reads
+use Rattle.report_fast.proofs.valued.Reads as valued-reads
 use Rattle.report_next.proofs.is_entered.Reads as is-entered-reads
 use Rattle.report_next.proofs.is_ruled.Reads as is-ruled-reads
 use Rattle.report_fast.proofs.+accepts+other+taken.{statement}
@@ -67,7 +69,7 @@ pub +accepts+other+taken-spec : {M : Type 1} → statement M
     μ-other
     μ-taken
     (λ t. accepts-lts.spec
-    (plain-reads.Asked, plain-reads.Learnt, taken-below t, taken.Post)
+    (plain-reads.Asked, plain-reads.Learnt, valued-reads.Asked, valued-reads.Learnt, taken-below t, taken.Post)
     (accepts-at t)
     accepts.Post
     accepts-Inv-loop
@@ -79,6 +81,10 @@ pub +accepts+other+taken-spec : {M : Type 1} → statement M
     (λ c. let h = c .if2 .left in search needs)
     (λ c. omega (arith, c .before .if1 .taken, c .before .before .before .loop-test .taken))
     (λ c. search going-plain)
+    (λ c κs. search (going-reach, needs))
+    (λ c. let h = c .before .valued .ensures 0 false .few in search needs)
+    (λ c. let h = c .before .valued .ensures 0 false .few in omega (arith, c .if3 .taken, c .before .before .before .before .loop-test .taken))
+    (λ c. search going-valued)
     (λ c κs. search (going-reach, needs))
     (λ c. search no-pass)
     (λ c. let h = c .before .taken .ensures .few in search needs)

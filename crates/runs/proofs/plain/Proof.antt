@@ -35,12 +35,12 @@ returns-3 : tie.Need-returns-3
 unfolding plainOf
 returns-3 c = rw (le-ltb _ _ (c .before .before .before .before .if1 .left), ne-eqb _ _ (c .before .before .before .if2 .left), eq-eqb _ _ (c .before .before .if3 .taken), ← (c .before .row-aa .ensures .0)) (c .limited3 .ensures)
 
-typed-requires : tie.Need-typed-requires
-typed-requires c κs = search needs
+not-text-requires : tie.Need-not-text-requires
+not-text-requires c κs = search needs
 
 returns-4 : tie.Need-returns-4
 unfolding plainOf
-returns-4 c = rw (le-ltb _ _ (c .before .before .before .before .if1 .left), ne-eqb _ _ (c .before .before .before .if2 .left), ne-eqb _ _ (c .before .before .if3 .left), eq-eqb _ _ (c .before .if4 .taken)) (c .typed .ensures)
+returns-4 c = rw (le-ltb _ _ (c .before .before .before .before .if1 .left), ne-eqb _ _ (c .before .before .before .if2 .left), ne-eqb _ _ (c .before .before .if3 .left), eq-eqb _ _ (c .before .if4 .taken)) (c .not-text .ensures)
 
 returns-5 : tie.Need-returns-5
 unfolding plainOf
@@ -59,6 +59,6 @@ plain-spec =
     row-aa-requires
     limited-requires-3
     returns-3
-    typed-requires
+    not-text-requires
     returns-4
     returns-5)

@@ -8,10 +8,10 @@ use Rattle.vectors_long.proofs.agreeing.Lts as lts
 use Rattle.vectors_long.proofs.byte_at.Reads as byte-at-reads
 
 abbrev Inv-loop : tie.InvT-loop
-Inv-loop raw seed i₀ i = i ≤ length raw
+Inv-loop raw letter seed i₀ i = i ≤ length raw
 
 abbrev μ-loop : tie.MeasureT-loop
-μ-loop raw seed i₀ i = length raw - i
+μ-loop raw letter seed i₀ i = length raw - i
 
 -- src/main.rt:35:5
 loop-holds : tie.Need-loop-holds Inv-loop μ-loop

@@ -10,10 +10,10 @@ use Rattle.vectors_long.proofs.fill.Lts as lts
 use Rattle.vectors_long.proofs.byte_at.Reads as byte-at-reads
 
 abbrev Inv-loop : tie.InvT-loop
-Inv-loop raw₀ seed i₀ raw i = (i ≤ length raw) × (length raw ≡ length raw₀)
+Inv-loop raw₀ letter seed i₀ raw i = (i ≤ length raw) × (length raw ≡ length raw₀)
 
 abbrev μ-loop : tie.MeasureT-loop
-μ-loop raw₀ seed i₀ raw i = length raw - i
+μ-loop raw₀ letter seed i₀ raw i = length raw - i
 
 -- src/main.rt:26:5
 loop-holds : tie.Need-loop-holds Inv-loop μ-loop

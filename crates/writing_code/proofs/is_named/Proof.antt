@@ -1,3 +1,4 @@
+-- `writing_code::is_named` meets its contract: by the kind of the code. Assumes nothing.
 use Rattle.format.specs.Writing.{isNamed}
 use Rattle.writing_code.specs.Names.{asNamed}
 use borrow.Author.Needs.{needs}
@@ -15,6 +16,9 @@ enum-told-2 c = search needs
 enum-told-3 : tie.Need-enum-told-3
 enum-told-3 c = search needs
 
+enum-told-4 : tie.Need-enum-told-4
+enum-told-4 c = search needs
+
 returns : tie.Need-returns
 unfolding isNamed asNamed
 returns c = rw (c .enum-told .given .1)
@@ -27,5 +31,11 @@ returns-3 : tie.Need-returns-3
 unfolding isNamed asNamed
 returns-3 c = rw (c .enum-told3 .given .1)
 
+returns-4 : tie.Need-returns-4
+unfolding isNamed asNamed
+returns-4 c = rw (c .enum-told4 .given .1)
+
 pub is-named-spec : {M : Type 1} → statement M
-is-named-spec = tie.close (tie.spec enum-told enum-told-2 enum-told-3 returns returns-2 returns-3)
+is-named-spec =
+    tie.close
+    (tie.spec enum-told enum-told-2 enum-told-3 enum-told-4 returns returns-2 returns-3 returns-4)

@@ -1,5 +1,9 @@
-use mathlib.Core.Path.{sym, _∙_}
+-- `writing_code::type_of` meets its contract: `A` is a text. Assumes nothing.
 use Rattle.writing_code.specs.Names.{asNamed}
+use Rattle.format.specs.Writing.{namedVariable}
+use Rattle.format.specs.Registry.{isText}
+use borrow.Author.Tests.{eq-eqb, ne-eqb}
+use mathlib.Core.Path.{sym, _∙_}
 use borrow.Author.Needs.{needs}
 use Rattle.writing_code.proofs.type_of.Statement.{statement}
 use Rattle.writing_code.proofs.type_of.Tie as tie
@@ -15,12 +19,16 @@ is-type-requires : tie.Need-is-type-requires
 is-type-requires c κs = search needs
 
 returns : tie.Need-returns
-unfolding asNamed
-returns c = rw (← (c .before .before .sextet .ensures), sym (c .before .is-type .ensures) ∙ c .if1 .taken)
+unfolding namedVariable isText asNamed
+returns c = rw (← (c .before .before .before .sextet .ensures), sym (c .before .before .is-type .ensures) ∙ c .before .if1 .taken, eq-eqb _ _ (c .if2 .taken))
 
 returns-2 : tie.Need-returns-2
-unfolding asNamed
-returns-2 c = rw (← (c .before .before .sextet .ensures), sym (c .before .is-type .ensures) ∙ c .if1 .left)
+unfolding namedVariable isText asNamed
+returns-2 c = rw (← (c .before .before .before .sextet .ensures), sym (c .before .before .is-type .ensures) ∙ c .before .if1 .taken, ne-eqb _ _ (c .if2 .left))
+
+returns-3 : tie.Need-returns-3
+unfolding namedVariable isText asNamed
+returns-3 c = rw (← (c .before .before .sextet .ensures), sym (c .before .is-type .ensures) ∙ c .if1 .left)
 
 pub type-of-spec : {M : Type 1} → statement M
-type-of-spec = tie.close (tie.spec sextet-requires is-type-requires returns returns-2)
+type-of-spec = tie.close (tie.spec sextet-requires is-type-requires returns returns-2 returns-3)

@@ -1,7 +1,8 @@
 -- `writing_head::head_of` meets its contract: by the kind of the code. Assumes nothing.
-use mathlib.Core.Path.{refl}
-use Rattle.writing_code.specs.Names.{asNamed, Able}
+use Rattle.writing_head.proofs.Heads.{raw-count, text-count}
 use Rattle.writing_head.specs.Heads.{headSextets, padTo}
+use Rattle.writing_code.specs.Names.{asNamed, Able}
+use mathlib.Core.Path.{refl}
 use borrow.Author.Needs.{needs}
 use Rattle.writing_head.proofs.head_of.Statement.{statement}
 use Rattle.writing_head.proofs.head_of.Tie as tie
@@ -9,6 +10,10 @@ use Rattle.writing_head.proofs.head_of.Reads as reads
 use Rattle.writing_head.proofs.head_of.Lts as lts
 use Rattle.writing_head.proofs.row_head.Reads as row-head-reads
 use Rattle.writing_head.proofs.variable_head.Reads as variable-head-reads
+use Rattle.writing_sizes.proofs.count_for.Reads as count-for-reads
+use Rattle.writing_sizes.proofs.lead_for.Reads as lead-for-reads
+use Rattle.writing_sizes.proofs.text_count.Reads as text-count-reads
+use Rattle.writing_sizes.proofs.text_lead.Reads as text-lead-reads
 
 enum-told : tie.Need-enum-told
 enum-told c = search needs
@@ -22,8 +27,26 @@ row-head-requires c κs = search needs
 enum-known-n-2 : tie.Need-enum-known-n-2
 enum-known-n-2 c = search needs
 
+lead-for-requires : tie.Need-lead-for-requires
+lead-for-requires c κs = search needs
+
+count-for-requires : tie.Need-count-for-requires
+count-for-requires c κs = search needs
+
 variable-head-requires : tie.Need-variable-head-requires
 variable-head-requires c κs = search needs
+
+enum-known-n-3 : tie.Need-enum-known-n-3
+enum-known-n-3 c = search needs
+
+text-lead-requires : tie.Need-text-lead-requires
+text-lead-requires c κs = search needs
+
+text-count-requires : tie.Need-text-count-requires
+text-count-requires c κs = search needs
+
+variable-head-requires-2 : tie.Need-variable-head-requires-2
+variable-head-requires-2 c κs = search needs
 
 returns : tie.Need-returns
 unfolding headSextets asNamed padTo
@@ -35,7 +58,17 @@ returns-2 c = rw (c .before .before .n .given .1) (λ p. c .row-head .ensures (p
 
 returns-3 : tie.Need-returns-3
 unfolding headSextets asNamed Able
-returns-3 c = rw (c .before .before .n2 .given .1) (λ p. c .variable-head .ensures (p .3))
+returns-3 c =
+    let l = c .before .before .lead-for .ensures .0 in
+    let n = c .before .count-for .ensures .0 in
+    rw (c .before .before .before .before .n2 .given .1, ← l, ← n) (λ p. c .variable-head .ensures (λ e. rw n (raw-count _ (p .3 e))))
+
+returns-4 : tie.Need-returns-4
+unfolding headSextets asNamed Able
+returns-4 c =
+    let l = c .before .before .text-lead .ensures .0 in
+    let n = c .before .text-count .ensures .0 in
+    rw (c .before .before .before .before .n3 .given .1, ← l, ← n) (λ p. c .variable-head2 .ensures (λ e. rw n (text-count _ (p .3 e))))
 
 pub head-of-spec : {M : Type 1} → statement M
 head-of-spec =
@@ -45,7 +78,14 @@ head-of-spec =
     enum-known-n
     row-head-requires
     enum-known-n-2
+    lead-for-requires
+    count-for-requires
     variable-head-requires
+    enum-known-n-3
+    text-lead-requires
+    text-count-requires
+    variable-head-requires-2
     returns
     returns-2
-    returns-3)
+    returns-3
+    returns-4)

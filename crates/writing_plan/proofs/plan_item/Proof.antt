@@ -6,8 +6,8 @@ use Rattle.writing_plan.proofs.plan_item.Tie as tie
 use Rattle.writing_plan.proofs.plan_item.Reads as reads
 use Rattle.writing_plan.proofs.plan_item.Lts as lts
 use Rattle.writing_code.proofs.name_of.Reads as name-of-reads
-use Rattle.writing_code.proofs.units_of.Reads as units-of-reads
 use Rattle.writing_head.proofs.head_bytes.Reads as head-bytes-reads
+use Rattle.writing_plan.proofs.planned_of.Reads as planned-of-reads
 use Rattle.writing_plan.proofs.refusal_of.Reads as refusal-of-reads
 
 name-of-requires : tie.Need-name-of-requires
@@ -19,18 +19,19 @@ refusal-of-requires c κs = search needs
 returns : tie.Need-returns
 returns c = plan-refused _ _ _ _ _ (rw (c .before .before .before .name-of .ensures) at (c .before .before .refusal-of .ensures)) (c .if1 .taken)
 
-units-of-requires : tie.Need-units-of-requires
-units-of-requires c κs = search needs
+planned-of-requires : tie.Need-planned-of-requires
+planned-of-requires c κs = search needs
 
 head-bytes-requires : tie.Need-head-bytes-requires
 head-bytes-requires c κs = search needs
 
 returns-2 : tie.Need-returns-2
 returns-2 c =
-    let n = c .before .before .before .before .before .name-of .ensures in
-    let r = rw n at (c .before .before .before .before .refusal-of .ensures) in
+    let q = c .before .before .before .before in
+    let n = q .before .name-of .ensures in
+    let r = rw n at (q .refusal-of .ensures) in
     let z = c .before .before .if1 .left in
-    rw (rw n at (c .before .units-of .ensures), (rw n at (c .head-bytes .ensures)) (unrefused-able _ _ _ _ (rw r at z))) (plan-made _ _ _ _ _ r z)
+    rw (rw n at (c .before .planned-of .ensures), (rw n at (c .head-bytes .ensures)) (unrefused-able _ _ _ _ (rw r at z))) (plan-made _ _ _ _ _ r z)
 
 pub plan-item-spec : {M : Type 1} → statement M
 plan-item-spec =
@@ -39,6 +40,6 @@ plan-item-spec =
     name-of-requires
     refusal-of-requires
     returns
-    units-of-requires
+    planned-of-requires
     head-bytes-requires
     returns-2)

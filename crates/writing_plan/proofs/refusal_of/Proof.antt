@@ -1,19 +1,16 @@
 -- `writing_plan::refusal_of` meets its contract: the first test that fails. Assumes nothing.
-use Prim.Native.Nat.{ℕ}
-use mathlib.Core.Path.{ap, sym, _∙_}
+use Rattle.writing_plan.proofs.Refusals.{is-unknown, is-unfit, is-long, is-short}
 use borrow.Author.Tests.{not-true, not-false}
-use Rattle.writing_plan.specs.Plan.{refusal}
-use Rattle.writing_plan.proofs.Refusals.{is-unknown, is-unfit, is-long, is-strange, is-none}
+use mathlib.Core.Path.{sym, _∙_}
 use borrow.Author.Needs.{needs}
 use Rattle.writing_plan.proofs.refusal_of.Statement.{statement}
 use Rattle.writing_plan.proofs.refusal_of.Tie as tie
 use Rattle.writing_plan.proofs.refusal_of.Reads as reads
 use Rattle.writing_plan.proofs.refusal_of.Lts as lts
-use Rattle.alphabet.proofs.number_at.Reads as number-at-reads
 use Rattle.writing_code.proofs.is_fit.Reads as is-fit-reads
 use Rattle.writing_code.proofs.is_named.Reads as is-named-reads
 use Rattle.writing_code.proofs.is_short.Reads as is-short-reads
-use Rattle.writing_plan.proofs.tag_stranger.Reads as tag-stranger-reads
+use Rattle.writing_plan.proofs.chars_refusal.Reads as chars-refusal-reads
 
 is-named-requires : tie.Need-is-named-requires
 is-named-requires c κs = search needs
@@ -37,31 +34,16 @@ returns-3 c =
     is-long _ _ _ _ (sym (b .before .before .is-named .ensures) ∙ not-false _ (b .before .if1 .left))
     (sym (b .is-fit .ensures) ∙ not-false _ (c .before .before .if2 .left)) (sym (c .before .is-short .ensures) ∙ not-true _ (c .if3 .taken))
 
-tag-stranger-requires : tie.Need-tag-stranger-requires
-tag-stranger-requires c κs = search needs
-
-slice-aggregate-number-at : tie.Need-slice-aggregate-number-at
-slice-aggregate-number-at c = search needs
-
-number-at-requires : tie.Need-number-at-requires
-number-at-requires c κs = search needs
+chars-refusal-requires : tie.Need-chars-refusal-requires
+chars-refusal-requires c κs = search needs
 
 returns-4 : tie.Need-returns-4
 returns-4 c =
     let d = c .before .before in
-    let b = d .before .before .before .before .before in
-    ap (λ (m : ℕ). refusal m (d .before .tag-stranger .result)) (c .number-at .ensures)
-    ∙ is-strange _ _ _ _ (sym (b .before .before .is-named .ensures) ∙ not-false _ (b .before .if1 .left))
-    (sym (b .is-fit .ensures) ∙ not-false _ (d .before .before .before .before .if2 .left))
-    (sym (d .before .before .before .is-short .ensures) ∙ not-false _ (d .before .before .if3 .left)) _ (d .before .tag-stranger .ensures)
-    (d .if4 .taken)
-
-returns-5 : tie.Need-returns-5
-returns-5 c =
-    let b = c .before .before .before .before .before in
-    is-none _ _ _ _ (sym (b .before .before .is-named .ensures) ∙ not-false _ (b .before .if1 .left))
-    (sym (b .is-fit .ensures) ∙ not-false _ (c .before .before .before .before .if2 .left))
-    (sym (c .before .before .before .is-short .ensures) ∙ not-false _ (c .before .before .if3 .left)) _ (c .before .tag-stranger .ensures) (c .if4 .left)
+    let b = d .before .before in
+    c .chars-refusal .ensures
+    ∙ is-short _ _ _ _ (sym (b .before .before .is-named .ensures) ∙ not-false _ (b .before .if1 .left))
+    (sym (b .is-fit .ensures) ∙ not-false _ (d .before .if2 .left)) (sym (d .is-short .ensures) ∙ not-false _ (c .before .if3 .left))
 
 pub refusal-of-spec : {M : Type 1} → statement M
 refusal-of-spec =
@@ -73,8 +55,5 @@ refusal-of-spec =
     returns-2
     is-short-requires
     returns-3
-    tag-stranger-requires
-    slice-aggregate-number-at
-    number-at-requires
-    returns-4
-    returns-5)
+    chars-refusal-requires
+    returns-4)

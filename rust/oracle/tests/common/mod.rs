@@ -78,9 +78,41 @@ pub fn reads(text: &str, code: &str, tag: &str, raw: &str) {
     let found = read_text(text.as_bytes(), 0, &mut out).unwrap();
     assert_eq!(found.code.characters(), code, "{text}");
     assert_eq!(&found.tag.characters[..found.tag.number], tag.as_bytes());
-    assert_eq!((out, found.size), (hex(raw), text.len()), "{text}");
+    assert_eq!((&out, found.size), (&hex(raw), text.len()), "{text}");
+    assert_eq!((found.raw, found.text), (out.len(), 0), "{text}");
     let stream = binary(text);
-    let (same, part) = read_binary(&stream, 0).unwrap();
+    let (same, part) = read_binary(&stream, 0, &mut []).unwrap();
     assert_eq!((same.code, same.tag), (found.code, found.tag));
-    assert_eq!((part, same.size), (&hex(raw)[..], stream.len()), "{text}");
+    assert_eq!((part, same.size), (&out[..], stream.len()), "{text}");
+}
+
+/// The same of a text: its code and its characters, copied out in both forms
+/// where there is room for just so many.
+pub fn reads_text(item: &str, code: &str, text: &str) {
+    let stream = binary(item);
+    for form in [Form::Text, Form::Binary] {
+        let mut out = vec![b'?'; text.len() + 1];
+        let (found, size) = match form {
+            Form::Text => (read_text(item.as_bytes(), 0, &mut out).unwrap(), item.len()),
+            Form::Binary => {
+                let (found, part) = read_binary(&stream, 0, &mut out).unwrap();
+                // Text is handed back in no part of the stream.
+                assert!(std::ptr::eq(part, &stream[stream.len()..]));
+                (found, stream.len())
+            }
+        };
+        assert_eq!((found.code.characters(), found.size), (code.into(), size));
+        assert_eq!((found.raw, found.text), (0, text.len()), "{item}");
+        assert_eq!(out, [text.as_bytes(), b"?"].concat(), "{item}");
+        let Some(short) = text.len().checked_sub(1) else {
+            continue;
+        };
+        let mut out = vec![b'?'; short];
+        let refused = match form {
+            Form::Text => read_text(item.as_bytes(), 0, &mut out).map(|_| ()),
+            Form::Binary => read_binary(&stream, 0, &mut out).map(|_| ()),
+        };
+        assert_eq!(refused.map_err(|r| (r.number, r.place)), Err((3, 0)));
+        assert_eq!(out, vec![b'?'; short]);
+    }
 }

@@ -7,24 +7,24 @@ pub const SHORTS_OF_002: [(&str, &str, &str); 3] = [
     ("FFFF", "MP__", "30FFFF"),
 ];
 
-/// 001, "SAD Path Examples", Table 1, and the paths of the signature groups:
-/// the encoding, its code and its raw value.
+/// 001, "SAD Path Examples": Table 1's nine paths, then those of its two
+/// signature groups. The path, its code and its encoding.
 pub const SAD_PATHS: [(&str, &str, &str); 11] = [
-    ("6AABAAA-", "6A", "3E"),
-    ("4AADA-a-personal", "4A", "03E6BE A5EAEC A276A5"),
-    ("4AAB-4-5", "4A", "FB8FB9"),
-    ("5AAEAA-4-5-legalName", "5A", "0FB8 FB9FA5 7A06A5 35A99E"),
-    ("6AAEAAA-a-personal-1", "6A", "3E 6BEA5E AECA27 6A5FB5"),
-    ("4AAB-p-1", "4A", "FA9FB5"),
-    ("5AACAA-a-LEI", "5A", "0F9A F8B108"),
-    ("4AAC-p-0-0-d", "4A", "FA9FB4 FB4F9D"),
+    ("-", "6A", "6AABAAA-"),
+    ("-a-personal", "4A", "4AADA-a-personal"),
+    ("-4-5", "4A", "4AAB-4-5"),
+    ("-4-5-legalName", "5A", "5AAEAA-4-5-legalName"),
+    ("-a-personal-1", "6A", "6AAEAAA-a-personal-1"),
+    ("-p-1", "4A", "4AAB-p-1"),
+    ("-a-LEI", "5A", "5AACAA-a-LEI"),
+    ("-p-0-0-d", "4A", "4AAC-p-0-0-d"),
     (
-        "5AAGAA-p-0-certifiedLender-i",
+        "-p-0-certifiedLender-i",
         "5A",
-        "0FA9 FB4F9C 7ABB62 7E279D 2DE9DD 7ABFA2",
+        "5AAGAA-p-0-certifiedLender-i",
     ),
-    ("6AAEAAA-a-credential", "6A", "3E 6BE72B 79D7A7 B626A5"),
-    ("5AABAA-a", "5A", "0F9A"),
+    ("-a-credential", "6A", "6AAEAAA-a-credential"),
+    ("-a", "5A", "5AABAA-a"),
 ];
 
 /// 001's digests, keys and signature whose second (third) character is `Q` or

@@ -38,6 +38,13 @@ pub const TOLD: &[Told] = &[
     ("-KAB_A=!", &[[0, 8, 19]], &[[0, 19, 6]], &[]),
     ("8AABAAAAMAAB", &[[0, 8, 18], [8, 4, 0]], &[[0, 18, 0]], &[]),
     ("-AAC--JAAAAA", &[[0, 12, 18]], &[[0, 18, 4]], &[]),
+    ("4AAA", &[[0, 4, 0]], &[], &[]),
+    ("4AABAAAA", &[[0, 8, 16]], &[[0, 16, 0]], &[]),
+    ("4AAB-4-5", &[[0, 8, 0]], &[], &[]),
+    ("4AADA-a-personal", &[[0, 16, 0]], &[], &[]),
+    ("5AAEAA-4-5-legalName", &[[0, 20, 0]], &[], &[]),
+    ("6AAEAAA-a-personal-1", &[[0, 20, 0]], &[], &[]),
+    ("-AAC4AABAAAAMAAB", &[[0, 12, 16], [12, 4, 0]], &[[0, 16, 4]], &[]),
 ];
 
 /// 01's raw values: the text and what is read of it.
@@ -49,6 +56,20 @@ pub const RAW: &[(&str, &[u8])] = &[
     ("4BAA", &[]),
     ("5BABAGhp", &[0x68, 0x69]),
     ("6BABAABh", &[0x61]),
+];
+
+/// 001's table of paths, and 02's empty text: the item and its characters.
+pub const TEXTS: &[(&str, &str)] = &[
+    ("6AABAAA-", "-"),
+    ("4AADA-a-personal", "-a-personal"),
+    ("4AAB-4-5", "-4-5"),
+    ("5AAEAA-4-5-legalName", "-4-5-legalName"),
+    ("6AAEAAA-a-personal-1", "-a-personal-1"),
+    ("4AAB-p-1", "-p-1"),
+    ("5AACAA-a-LEI", "-a-LEI"),
+    ("4AAC-p-0-0-d", "-p-0-0-d"),
+    ("5AAGAA-p-0-certifiedLender-i", "-p-0-certifiedLender-i"),
+    ("4AAA", ""),
 ];
 
 /// 01: the report of `-AAB0AAAMAAB`, 39 bytes; room 53.

@@ -5,7 +5,9 @@ use std::panic::{catch_unwind, resume_unwind, AssertUnwindSafe};
 use std::sync::atomic::{AtomicU64, Ordering};
 use streams::damage::{cross, damage};
 use streams::form::FORMS;
-use streams::generate::{any_deck, deep, every_code, not_short_deck, one_code, CODES};
+use streams::generate::{
+    any_deck, any_fill_deck, deep, every_code, not_short_deck, one_code, CODES,
+};
 use streams::item::stream;
 use streams::noise::noise;
 use streams::{Form, Random};
@@ -42,10 +44,11 @@ fn generated(random: &mut Random, form: Form, kind: u64) -> (Vec<u8>, bool) {
         }
         11 => noise(random, form, 200),
         12 => form.of_text(&stream(&[deep(random)])),
+        14 => form.of_text(&stream(&any_fill_deck(random))),
         _ => neighbours(random, form),
     };
     let whole = matches!(kind, 0..=2 | 13);
-    let left = whole || matches!(kind, 11 | 12) || kind == 9 && random.once_in(2);
+    let left = whole || matches!(kind, 11 | 12) || matches!(kind, 9 | 14) && random.once_in(2);
     if !left {
         damage(random, form, &mut made);
     }
@@ -149,7 +152,7 @@ fn every_number_is_met() {
             .for_each(|row| remainders[row[1]] += 1);
     }
     for number in 0..20 {
-        let is_verdict = matches!(number, 0 | 4..=11 | 18 | 19);
+        let is_verdict = matches!(number, 0 | 4..=11 | 16 | 18 | 19);
         assert_eq!(
             verdicts[number] > 20,
             is_verdict,

@@ -128,29 +128,29 @@ fn both(name: &str, stream: &[u8], size: usize, [proved, oracle]: [Call; 2]) -> 
 }
 
 /// Tag and info as they are before a read.
-const BEFORE: (proved::Tag, proved::Info) = ([0xAA; 11], [0xAA; 6]);
+const BEFORE: (proved::Tag, proved::Info) = ([0xAA; 11], [0xAA; proved::INFO]);
 
+pub type Read = fn(
+    &[u8],
+    usize,
+    &mut [u8],
+    &mut proved::Tag,
+    &mut proved::Info,
+) -> Result<usize, proved::Refusal>;
+
+/// By both, into every room. Out of a binary only a text is copied; where a raw
+/// value lies, info says.
 pub fn read(stream: &[u8], form: Form, at: usize) -> Check {
-    match form {
-        Form::Text => read_text(stream, at),
-        Form::Binary => read_binary(stream, at),
-    }
-}
-
-/// The room that a read asks for.
-fn raw_length(text: &[u8], at: usize) -> usize {
-    let framed = oracle::frame::frame(text, oracle::Form::Text, at, text.len());
-    let mut long = vec![0; framed.map_or(0, |framed| framed.size)];
-    oracle::primitive::read_text(text, at, &mut long).map_or(0, |found| found.raw)
-}
-
-fn read_text(stream: &[u8], at: usize) -> Check {
-    for room in rooms(raw_length(stream, at)) {
+    let [proved, oracle]: [Read; 2] = match form {
+        Form::Text => [proved::read_text, beside::read_text],
+        Form::Binary => [proved::read_binary, beside::read_binary],
+    };
+    for room in rooms(asked(stream, form, at)) {
         let (mut ours, mut theirs) = (vec![0xAA; room], vec![0xAA; room]);
         let (mut tag, mut info) = BEFORE;
         let (mut told_tag, mut told_info) = BEFORE;
-        let answer = proved::read_text(stream, at, &mut ours, &mut tag, &mut info);
-        let told = beside::read_text(stream, at, &mut theirs, &mut told_tag, &mut told_info);
+        let answer = proved(stream, at, &mut ours, &mut tag, &mut info);
+        let told = oracle(stream, at, &mut theirs, &mut told_tag, &mut told_info);
         same(
             "read",
             (by_proved(answer), tag, info, ours),
@@ -161,16 +161,18 @@ fn read_text(stream: &[u8], at: usize) -> Check {
     Ok(())
 }
 
-/// Nothing is copied out of binary; info says where the raw value lies.
-fn read_binary(stream: &[u8], at: usize) -> Check {
-    let (mut tag, mut info) = BEFORE;
-    let (mut told_tag, mut told_info) = BEFORE;
-    let answer = proved::read_binary(stream, at, &mut tag, &mut info);
-    let told = beside::read_binary(stream, at, &mut told_tag, &mut told_info);
-    same(
-        "read",
-        (by_proved(answer), tag, info),
-        (by_proved(told), told_tag, told_info),
-    )
-    .map_err(|why| format!("at {at}, {why}"))
+/// The room that a read asks for.
+fn asked(stream: &[u8], form: Form, at: usize) -> usize {
+    let form = oracle_form(form);
+    let framed = oracle::frame::frame(stream, form, at, stream.len());
+    // A unit has at most four characters.
+    let units = framed.map_or(0, |framed| framed.size / form.unit());
+    let mut long = vec![0; 4 * units];
+    match form {
+        oracle::Form::Text => oracle::primitive::read_text(stream, at, &mut long)
+            .map_or(0, |found| found.raw + found.text),
+        oracle::Form::Binary => {
+            oracle::primitive::read_binary(stream, at, &mut long).map_or(0, |found| found.0.text)
+        }
+    }
 }

@@ -7,7 +7,13 @@ use streams::{decks, Form, Random};
 #[test]
 fn lengths_around_the_limits() {
     let mut random = Random::new(0x1141);
-    let makers = [decks::digests, decks::nests, decks::mixed, units];
+    let makers = [
+        decks::digests,
+        decks::nests,
+        decks::mixed,
+        decks::labels,
+        units,
+    ];
     for (index, maker) in makers.into_iter().enumerate() {
         let long = maker(&mut random, 4_200_000);
         for form in FORMS {
@@ -75,7 +81,7 @@ fn conversion(made: &[u8], form: Form) {
 #[test]
 fn one_item_of_the_limit() {
     let units = (1 << 20) - 2;
-    for head in [&b"--AA"[..], b"--KA", b"--JA", b"7AAB"] {
+    for head in [&b"--AA"[..], b"--KA", b"--JA", b"7AAB", b"7AAA", b"8AAA"] {
         for count in [units, units + 1] {
             let mut text = head.to_vec();
             text.extend(characters(count as u32));

@@ -41,7 +41,7 @@ fn sixty_four_bytes_have_a_value() {
 
 /// Headers of one and two units, values, tags, and what groups hold, told by a
 /// first unit or not.
-const TEXTS: [&str; 12] = [
+const TEXTS: [&str; 15] = [
     "MAABMAAB",
     "EAAAAAAAAAAAAAAAAAAAAAAAAAAAAAAAAAAAAAAAAAAB",
     "0HAAAAAB",
@@ -54,6 +54,9 @@ const TEXTS: [&str; 12] = [
     "-CAC-_AAACAA",
     "--AAAAABMAAB",
     "-KACAAAAAAAA",
+    "4AABA-ab",
+    "5AABAA-a",
+    "6AABAAA-",
 ];
 
 /// Report, conversion, reads and walk.
@@ -85,6 +88,27 @@ fn every_byte_for_a_tag_character() {
                 raw: &[],
             };
             writes::alike(&item).unwrap();
+        }
+    }
+}
+
+/// And of a text, whose first one must not be `A`.
+#[test]
+fn every_byte_for_a_text_character() {
+    for place in 0..8 {
+        for byte in 0..=255 {
+            let mut text = *b"-a-label";
+            text[place] = byte;
+            for length in place + 1..=text.len() {
+                let item = proved::Primitive {
+                    chars: 5,
+                    letter: b'A',
+                    tag: [0; 11],
+                    tags: 0,
+                    raw: &text[..length],
+                };
+                writes::alike(&item).unwrap();
+            }
         }
     }
 }

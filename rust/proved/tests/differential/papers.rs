@@ -171,15 +171,45 @@ fn sizes_of_02_h() {
 #[test]
 fn raw_values_of_01() {
     for (text, raw) in deck::RAW {
-        let (mut out, mut tag, mut info) = ([0xAA; 4], [0; 11], [0; 6]);
+        let (mut out, mut tag, mut info) = ([0xAA; 4], [0; 11], [0; proved::INFO]);
         let read = proved::read_text(text.as_bytes(), 0, &mut out, &mut tag, &mut info);
         assert_eq!(read, Ok(raw.len()), "{text}");
         assert_eq!(&out[..raw.len()], *raw, "{text}");
         let binary = Form::Binary.of_text(text.as_bytes());
-        assert_eq!(
-            proved::read_binary(&binary, 0, &mut tag, &mut info),
-            Ok(raw.len())
-        );
-        assert_eq!(&binary[info[3]..], *raw, "{text}");
+        let read = proved::read_binary(&binary, 0, &mut [], &mut tag, &mut info);
+        assert_eq!(read, Ok(raw.len()), "{text}");
+        assert_eq!(&binary[info[proved::INFO_START]..], *raw, "{text}");
+        assert_eq!(info[proved::INFO_TEXT], 0, "{text}");
+    }
+}
+
+type Write = fn(&proved::Primitive, &mut [u8]) -> Result<usize, proved::Refusal>;
+
+/// Read out of both forms, and written to both.
+#[test]
+fn texts_of_001_and_02() {
+    for (item, text) in deck::TEXTS {
+        for form in FORMS {
+            let made = form.of_text(item.as_bytes());
+            let (read, write): (judges::Read, Write) = match form {
+                Form::Text => (proved::read_text, proved::write_text),
+                Form::Binary => (proved::read_binary, proved::write_binary),
+            };
+            let (mut out, mut tag, mut info) = ([0xAA; 23], [0; 11], [0; proved::INFO]);
+            let length = read(&made, 0, &mut out, &mut tag, &mut info);
+            assert_eq!(length, Ok(text.len()), "{item}");
+            assert_eq!(&out[..text.len()], text.as_bytes(), "{item}");
+            assert_eq!(info[proved::INFO_RAW..], [0, 0, text.len()], "{item}");
+            let primitive = proved::Primitive {
+                chars: 5,
+                letter: b'A',
+                tag,
+                tags: 0,
+                raw: text.as_bytes(),
+            };
+            let mut out = vec![0xAA; made.len()];
+            assert_eq!(write(&primitive, &mut out), Ok(made.len()), "{item}");
+            assert_eq!(out, made);
+        }
     }
 }

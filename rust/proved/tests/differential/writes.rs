@@ -4,7 +4,7 @@ use crate::judges::{by_oracle, by_proved, lent, Check};
 use oracle::primitive::{write, Named};
 use proved::{Primitive, Tag};
 use streams::damage::{ORDINARY, STRANGERS};
-use streams::table::{FIXED, TYPES};
+use streams::table::{FIXED, TEXT, TYPES};
 use streams::Random;
 
 /// The code's characters; none where the numbers name no fixed code.
@@ -61,28 +61,33 @@ pub fn any(random: &mut Random) -> Check {
     if random.once_in(6) {
         item.1 = random.byte();
     }
-    let (chars, letter, tags, raw) = item;
+    let (chars, letter, tags, length) = item;
     let tag = any_tag(random);
     alike(&Primitive {
         chars,
         letter,
         tag,
         tags: unfit(random, tags),
-        raw: &raw_of(random, raw),
+        raw: &value(random, letter, length),
     })
 }
 
-/// chars, letter, number of tag characters, raw length.
+/// chars, letter, number of tag characters, length of the raw value or text.
 type Shape = (u8, u8, usize, usize);
 
 fn variable(random: &mut Random) -> Shape {
     let chars = 5 + random.below(2) as u8;
+    let letter = match random.below(3) {
+        0 => TEXT,
+        _ => *random.pick(TYPES),
+    };
     // Around the most that a small one holds, or short.
-    let length = match random.below(8) {
-        0 => 12_270 + random.below(32),
+    let length = match (random.below(8), letter) {
+        (0, TEXT) => 16_365 + random.below(32),
+        (0, _) => 12_270 + random.below(32),
         _ => random.below(40),
     };
-    (chars, *random.pick(TYPES), 0, length)
+    (chars, letter, 0, length)
 }
 
 fn fixed_code(random: &mut Random) -> Shape {
@@ -102,13 +107,32 @@ fn unfit(random: &mut Random, number: usize) -> usize {
     }
 }
 
-fn raw_of(random: &mut Random, length: usize) -> Vec<u8> {
+fn value(random: &mut Random, letter: u8, length: usize) -> Vec<u8> {
     let length = match random.below(10) {
         0 => length + 1,
         1 => length.saturating_sub(1),
         _ => length,
     };
-    random.bytes(length)
+    match letter {
+        TEXT if !random.once_in(10) => any_text(random, length),
+        _ => random.bytes(length),
+    }
+}
+
+/// Characters, now and then with `A` first, or with strangers among them.
+fn any_text(random: &mut Random, length: usize) -> Vec<u8> {
+    let mut text = random.characters(length);
+    if random.once_in(4) {
+        let fill = random.below(4);
+        text.iter_mut().take(fill).for_each(|first| *first = b'A');
+    }
+    for strangers in [STRANGERS, ORDINARY] {
+        let place = random.below(length);
+        if let Some(there) = text.get_mut(place).filter(|_| random.once_in(6)) {
+            *there = *random.pick(strangers);
+        }
+    }
+    text
 }
 
 /// In the alphabet, or with strangers among them.
@@ -131,10 +155,14 @@ fn any_tag(random: &mut Random) -> Tag {
 /// item of the most is a stream of the limit.
 #[test]
 fn every_type_at_the_limits() {
-    let raw = Random::new(0x1318).bytes(3_145_723);
-    let small = 12_283..=12_288;
-    let large = 3_145_720..=3_145_723;
+    let bytes = Random::new(0x1318).bytes(3_145_723);
+    let mut text = Random::new(0x1316).characters(4_194_297);
+    text[0] = b'-';
     for &letter in TYPES {
+        let (raw, small, large) = match letter {
+            TEXT => (&text, 16_377..=16_384, 4_194_293..=4_194_297),
+            _ => (&bytes, 12_283..=12_288, 3_145_720..=3_145_723),
+        };
         for chars in [5, 6] {
             for length in small.clone().chain(large.clone()) {
                 let item = Primitive {
@@ -145,6 +173,34 @@ fn every_type_at_the_limits() {
                     raw: &raw[..length],
                 };
                 alike(&item).unwrap();
+            }
+        }
+    }
+}
+
+/// Every writer's refusal of a text, alone and before the next one: a stranger
+/// in each place, `A` first, and both.
+#[test]
+fn texts_that_are_refused() {
+    for text in [
+        "", "-", "-a", "-a-", "-a-b", "A", "Aa", "Aa-", "Aa-b", "AAAA",
+    ] {
+        for place in 0..=text.len() {
+            for stranger in *b"!=" {
+                let mut given = text.as_bytes().to_vec();
+                if let Some(there) = given.get_mut(place) {
+                    *there = stranger;
+                }
+                for (chars, tags) in [(5, 0), (6, 0), (5, 1)] {
+                    let item = Primitive {
+                        chars,
+                        letter: TEXT,
+                        tag: *b"!!!!!!!!!!!",
+                        tags,
+                        raw: &given,
+                    };
+                    alike(&item).unwrap();
+                }
             }
         }
     }

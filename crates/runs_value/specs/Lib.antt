@@ -1,0 +1,3 @@
+pub mod Values
+pub mod Right
+pub mod Taken

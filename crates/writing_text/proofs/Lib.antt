@@ -1,0 +1,4 @@
+pub mod Filled
+pub mod Buffers
+pub mod Parts
+pub mod Answers
