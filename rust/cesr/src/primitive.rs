@@ -1,8 +1,10 @@
 //! One primitive: read from a stream, or written as an item.
 
 use crate::{Code, Form, Head, Number, Refusal};
-use std::borrow::Cow;
-use std::fmt;
+use alloc::borrow::Cow;
+use alloc::vec;
+use alloc::vec::Vec;
+use core::fmt;
 
 /// The most tag characters that an item holds.
 const MOST_TAGS: usize = 11;
@@ -64,8 +66,12 @@ pub struct Primitive<'a> {
     pub raw: Cow<'a, [u8]>,
 }
 
-/// Reads the primitive at an offset: refused 1, 4 at or past the end, as it is
-/// framed (never 7), 14 for a group or genus/version, then as it is judged.
+/// Reads the primitive at an offset.
+///
+/// # Errors
+///
+/// 1, 4 at or past the end, as it is framed (never 7), 14 for a group or
+/// genus/version, then as it is judged.
 ///
 /// ```
 /// use cesr::{read, Form, Number};
@@ -77,7 +83,7 @@ pub struct Primitive<'a> {
 /// assert_eq!(tag.tag.as_bytes(), b"A");
 ///
 /// let refusal = read(Form::Text, b"-AABMAAB", 0).unwrap_err();
-/// assert_eq!(refusal.number, Number::NOT_A_PRIMITIVE);
+/// assert_eq!(refusal.number, Number::NotAPrimitive);
 /// # Ok::<(), cesr::Refusal>(())
 /// ```
 pub fn read(form: Form, stream: &[u8], at: usize) -> Result<Primitive<'_>, Refusal> {
@@ -87,7 +93,7 @@ pub fn read(form: Form, stream: &[u8], at: usize) -> Result<Primitive<'_>, Refus
     let mut out = vec![0; FIXED_ROOM];
     let first = read_text_into(stream, at, &mut out).map(Primitive::into_parts);
     let parts = match first {
-        Err(refusal) if refusal.number == Number::ROOM => {
+        Err(refusal) if refusal.number == Number::Room => {
             let left = Form::Text.units(stream.len().saturating_sub(at));
             out = vec![0; Form::Binary.room(left)];
             read_text_into(stream, at, &mut out).map(Primitive::into_parts)
@@ -111,8 +117,12 @@ impl Primitive<'_> {
 }
 
 /// Reads the primitive of a text; the raw value is copied to the start of
-/// `out`. Refused as [`read`], then 3 if the room is below the raw length.
-/// Refused, `out` stays as it was.
+/// `out`.
+///
+/// # Errors
+///
+/// As [`read`], then 3 if the room is below the raw length. Refused, `out`
+/// stays as it was.
 pub fn read_text_into<'o>(
     text: &[u8],
     at: usize,
@@ -126,6 +136,10 @@ pub fn read_text_into<'o>(
 
 /// Reads the primitive of a binary; the raw value is the part of the stream
 /// where it lies.
+///
+/// # Errors
+///
+/// As [`read`].
 ///
 /// ```
 /// use cesr::read_binary;
@@ -152,28 +166,28 @@ fn told(form: Form, characters: [u8; MOST_TAGS], info: proved::Info, raw: &[u8])
         _ => 0,
     };
     Primitive {
-        head: Head {
-            code,
-            lead: u8::try_from(lead).unwrap_or(0),
-        },
+        head: Head::answered(code, lead),
         size: units.saturating_mul(form.unit()),
         tag: Tag { characters, count },
         raw: Cow::Borrowed(raw),
     }
 }
 
-/// Writes a primitive: refused 6 for a code that is no primitive's, 12 for a
-/// raw length or number of tag characters unfit for the code, 18 for a large
-/// code where the small one holds the raw value, 5 or 19 for a tag character,
-/// its place the index among them. For variables [`write_variable`] takes the code
-/// that fits.
+/// Writes a primitive. For variables [`write_variable`] takes the code that
+/// fits.
+///
+/// # Errors
+///
+/// 6 for a code that is no primitive's, 12 for a raw length or number of tag
+/// characters unfit for the code, 18 for a large code where the small one holds
+/// the raw value, 5 or 19 for a tag character, its place the index among them.
 ///
 /// ```
 /// use cesr::{write, Code, Form, Number};
 /// assert_eq!(write(Form::Text, Code::small(b'B'), b"", b"hi")?, b"5BABAGhp");
 /// assert_eq!(write(Form::Text, "0J".parse()?, b"A", b"")?, b"0J_A");
 /// let refusal = write(Form::Text, "M".parse()?, b"", b"one").unwrap_err();
-/// assert_eq!(refusal.number, Number::UNFIT_LENGTH);
+/// assert_eq!(refusal.number, Number::UnfitLength);
 /// # Ok::<(), Box<dyn std::error::Error>>(())
 /// ```
 pub fn write(form: Form, code: Code, tag: &[u8], raw: &[u8]) -> Result<Vec<u8>, Refusal> {
@@ -183,9 +197,13 @@ pub fn write(form: Form, code: Code, tag: &[u8], raw: &[u8]) -> Result<Vec<u8>, 
     Ok(out)
 }
 
-/// Writes a primitive at the start of `out`: refused as [`write()`], then 3 if
-/// the room is below the item's size, else the length written. Refused, `out`
-/// stays as it was. A second item goes into the rest of the buffer.
+/// Writes a primitive at the start of `out`: the length written. A second item
+/// goes into the rest of the buffer.
+///
+/// # Errors
+///
+/// As [`write()`], then 3 if the room is below the item's size. Refused, `out`
+/// stays as it was.
 pub fn write_into(
     form: Form,
     code: Code,
@@ -210,8 +228,11 @@ pub fn write_into(
 }
 
 /// Writes a variable value of a type with the one code that holds it: the
-/// small one, or the large one where it does not fit there. Refused 6 for a
-/// letter that is no type, 12 beyond 3,145,722 raw bytes.
+/// small one, or the large one where it does not fit there.
+///
+/// # Errors
+///
+/// 6 for a letter that is no type, 12 beyond 3,145,722 raw bytes.
 ///
 /// ```
 /// use cesr::{read, write_variable, Form, Number};
@@ -226,7 +247,7 @@ pub fn write_into(
 /// assert_eq!(&*read(Form::Text, &large, 0)?.raw, &raw);
 ///
 /// let refusal = write_variable(Form::Text, b'G', b"hi").unwrap_err();
-/// assert_eq!(refusal.number, Number::UNKNOWN_CODE);
+/// assert_eq!(refusal.number, Number::UnknownCode);
 /// # Ok::<(), cesr::Refusal>(())
 /// ```
 pub fn write_variable(form: Form, letter: u8, raw: &[u8]) -> Result<Vec<u8>, Refusal> {
@@ -236,9 +257,12 @@ pub fn write_variable(form: Form, letter: u8, raw: &[u8]) -> Result<Vec<u8>, Ref
     Ok(out)
 }
 
-/// Writes a variable value at the start of `out`: refused as
-/// [`write_variable`], then 3 if the room is below the item's size, else the
-/// length written. Refused, `out` stays as it was.
+/// Writes a variable value at the start of `out`: the length written.
+///
+/// # Errors
+///
+/// As [`write_variable`], then 3 if the room is below the item's size. Refused,
+/// `out` stays as it was.
 ///
 /// ```
 /// use cesr::{write_variable_into, Form, Number};
@@ -247,7 +271,7 @@ pub fn write_variable(form: Form, letter: u8, raw: &[u8]) -> Result<Vec<u8>, Ref
 /// let second = write_variable_into(Form::Text, b'B', b"a", &mut out[first..])?;
 /// assert_eq!(&out[..first + second], b"5BABAGhp6BABAABh");
 /// let refusal = write_variable_into(Form::Text, b'B', b"hi", &mut out[16..]).unwrap_err();
-/// assert_eq!(refusal.number, Number::ROOM);
+/// assert_eq!(refusal.number, Number::Room);
 /// # Ok::<(), cesr::Refusal>(())
 /// ```
 pub fn write_variable_into(
@@ -258,7 +282,7 @@ pub fn write_variable_into(
 ) -> Result<usize, Refusal> {
     // The library says what a small code does not hold.
     match write_into(form, Code::small(letter), b"", raw, out) {
-        Err(refusal) if refusal.number == Number::UNFIT_LENGTH => {
+        Err(refusal) if refusal.number == Number::UnfitLength => {
             write_into(form, Code::large(letter), b"", raw, out)
         }
         answer => answer,

@@ -184,7 +184,7 @@ pub fn asked(
     part: Range<usize>,
     refusal: Refusal,
 ) -> io::Result<()> {
-    if refusal.number != Number::PAST_END {
+    if refusal.number != Number::PastEnd {
         return Ok(());
     }
     let start = part.start;
@@ -231,18 +231,18 @@ pub fn note(input: &Input, number: Number, place: usize) -> Option<String> {
         _ if place == 0 && input.bytes.starts_with(b"\xEF\xBB\xBF") => {
             Some("the stream opens with a byte order mark, which is no part of it".to_string())
         }
-        (Number::CHARACTER, _) => {
+        (Number::Character, _) => {
             let kind = kind_of(byte);
             Some(format!(
                 "the byte at {place} is {byte:02X} hexadecimal{kind}"
             ))
         }
-        (Number::ORDINARY_BASE64, _) => Some(format!("{} at {place}", url_safe(byte)?)),
-        (Number::NOT_SHORT, form) => {
+        (Number::OrdinaryBase64, _) => Some(format!("{} at {place}", url_safe(byte)?)),
+        (Number::NotShort, form) => {
             let short = short_header(form, input.bytes.get(place..)?)?;
             Some(format!("the small code's header is {short}"))
         }
-        (Number::PAST_END | Number::NOT_WHOLE_UNITS, Form::Text) if ends_line && last => {
+        (Number::PastEnd | Number::NotWholeUnits, Form::Text) if ends_line && last => {
             Some("the stream ends with a line feed, which is no character of it".to_string())
         }
         _ => None,
@@ -253,7 +253,7 @@ pub fn note(input: &Input, number: Number, place: usize) -> Option<String> {
 /// digits, which the others are zeros before.
 fn short_header(form: Form, item: &[u8]) -> Option<String> {
     let head = Head::of(form, item)?;
-    let code = match head.code {
+    let code = match head.code() {
         Code::Large { letter } => Code::Small { letter },
         Code::LargeGroup { letter } => Code::SmallGroup { letter },
         _ => return None,
@@ -263,7 +263,8 @@ fn short_header(form: Form, item: &[u8]) -> Option<String> {
         Form::Binary => cesr::to_text(item.get(..6)?).ok()?,
     };
     let digits = header.get(6..)?.escape_ascii();
-    Some(format!("{}{digits}", Head { code, ..head }))
+    let short = Head::new(code, head.lead())?;
+    Some(format!("{short}{digits}"))
 }
 
 /// Strangers that are often met.
