@@ -32,8 +32,11 @@ fn blocks(page: &str, language: &str) -> Vec<String> {
     found
 }
 
-/// A folder with the samples, and what a linker needs.
+/// A folder with the samples, and what a linker needs, which is made here.
 fn place() -> Folder {
+    let mut make = Command::new("make");
+    make.args(["--silent", "lib"]).current_dir(top());
+    assert_eq!(finished(make, b"").status, 0, "make lib");
     let folder = Folder::new();
     let samples = folder.path().join("samples");
     fs::create_dir(&samples).expect("a folder");
@@ -79,6 +82,23 @@ fn commands_of_the_guide_print_what_it_shows() {
     folder.file("judge.c", programs[0].as_bytes());
     for block in blocks {
         assert_eq!(ran(&block, folder.path()), block);
+    }
+}
+
+/// The guide's programs in Python, over the library that is built.
+#[test]
+fn programs_of_the_guide_run_in_python() {
+    let (guide, folder) = (page("docs/GUIDE.md"), place());
+    let programs = blocks(&guide, "python");
+    assert_eq!(programs.len(), 1);
+    let library = format!("target/install/libcesr.so.{}", cesr::VERSION);
+    for program in programs {
+        let mut python = Command::new("python3");
+        python.args(["-c", &program]).current_dir(folder.path());
+        python.env("PYTHONPATH", top().join("python"));
+        python.env("CESR_LIBRARY", &library);
+        let ran = finished(python, b"");
+        assert_eq!((ran.status, ran.err.as_str()), (0, ""));
     }
 }
 
