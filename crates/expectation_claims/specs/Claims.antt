@@ -100,6 +100,8 @@ pub record PassedClaims : Type 0 where
   -- of any report, whoever made it: "no refusal can be taken for a pass", no remainder either, and nothing judged is no pass
   pub nothing-refused : (rep vs over : List ℕ) → reported rep ≡ verdicts vs over → passedIn rep .passed ≡ true
       → (over ≡ []) × (0 < length vs) × ((i : ℕ) → i < length vs → getD vs i 0 ≡ 0)
+  -- three counts and the items' rows are all there is: no row of a refusal
+  pub no-row : (rep vs over : List ℕ) → reported rep ≡ verdicts vs over → passedIn rep .passed ≡ true → length rep ≡ 12 + 9 * length vs
 
 -- of the judge's own: "every byte of the stream lies in an accepted item", and there is one
 pub record OwnPass (d : Domain) : Type 0 where

@@ -77,6 +77,10 @@ nothing-refused rep vs over e p =
     let f = facts (length rep) vs over (rw e at p) in
     (f .none-left, f .some, all-zero vs (f .all))
 
+pub no-row : (rep vs over : List ℕ) → reported rep ≡ verdicts vs over → passedIn rep .passed ≡ true → length rep ≡ 12 + 9 * length vs
+unfolding passedIn
+no-row rep vs over e p = facts (length rep) vs over (rw e at p) .long
+
 pub bad-report : (rep : List ℕ) → reported rep ≡ malformed → passedIn rep ≡ record { number = 20; passed = false }
 unfolding passedIn passedBy
 bad-report rep e = rw e

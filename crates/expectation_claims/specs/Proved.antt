@@ -21,7 +21,7 @@ use Rattle.expectation_claims.specs.Words.{fileOf, SameCounts}
 use Rattle.expectation_claims.specs.Answers.{sums}
 use Rattle.expectation_claims.specs.Malformed.{twenty, only-twenty, wider, report-told, told-bad, bad-told}
 use Rattle.expectation_claims.specs.Own.{sees-by, reads, file-one-off, compares-by, own-by, one-off-by}
-use Rattle.expectation_claims.specs.Passed.{bad-report, read-report, nothing-refused, passes-only, passes-if, own-number}
+use Rattle.expectation_claims.specs.Passed.{bad-report, read-report, nothing-refused, no-row, passes-only, passes-if, own-number}
 use Rattle.expectation_claims.specs.Claims.{OwnClaims, OwnPass, ExpectationClaims}
 
 -- ---- verdicts
@@ -114,6 +114,7 @@ proved = record {
     twenty = λ rep b. bad-report rep (told-bad (report-told rep) b);
     only-twenty = λ rep n e. bad-told (report-told rep) (read-report rep n e);
     nothing-refused = nothing-refused;
+    no-row = no-row;
   };
   text-passes = own-pass text text-reader text-demand3 (omega arith);
   binary-passes = own-pass binary binary-reader binary-demand3 (omega arith);

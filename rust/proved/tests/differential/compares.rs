@@ -13,8 +13,8 @@ pub fn alike(expected: &[u8], report: &[u8]) -> Result<(u8, proved::Counts), Str
     let answer = by_proved(proved::compare(expected, report, &mut counts));
     let other = by_proved(beside::compare(expected, report, &mut told));
     same("compare", (answer, counts), (other, told))?;
-    let passed = proved::passed(report).ok();
-    same("passed", passed, oracle::compare::passed(report))?;
+    let passed = by_proved(proved::passed(report));
+    same("passed", passed, by_proved(beside::passed(report)))?;
     Ok((answer.err().map_or(0, |refused| refused.0), counts))
 }
 
