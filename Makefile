@@ -6,8 +6,8 @@
 #   make dist                 target/dist/cesr-VERSION.tar.gz, which builds with a C compiler and cargo alone; equal sources, equal bytes
 #   make check                what is installed and packed, tried as people use it
 #
-# Assumes GNU make, a C compiler and cargo. The proved library is taken from proof/, where a release has it; where there is none, ./cesr proves
-# and builds it, which asks for rt.
+# Assumes GNU make, a C compiler and cargo. ./cesr builds the command, and proves and builds the library, which asks for rt, unless proof/ has it,
+# as in a release.
 PREFIX ?= /usr/local
 CC ?= cc
 AR ?= ar
@@ -24,16 +24,12 @@ at = $(DESTDIR)$(PREFIX)
 
 all: lib command
 
-ifneq ($(wildcard proof/libexports.a),)
-archive := proof/libexports.a
-command:
-	CARGO_TARGET_DIR=rust/target cargo build --quiet --offline --release --manifest-path rust/Cargo.toml -p command
-else
-archive := target/staticlib/libexports.a
-command:
-	./cesr --version > /dev/null
+archive := $(firstword $(wildcard proof/libexports.a) target/staticlib/libexports.a)
 $(archive): | command
-endif
+
+# Who installs may be somebody else, with no cargo: then it is what was built before.
+command:
+	if command -v cargo > /dev/null; then ./cesr --version > /dev/null; else test -x $(command); fi
 
 # ---- the library
 

@@ -1,10 +1,10 @@
 /* CESR streams, judged: the calls of the proved library (crates/exports), and readers of its report and words beside it (c/), which decide
  * nothing.
  *
- * Terms. T is text, in characters of URL-safe Base64; B is binary, in bytes. A unit is 4 characters in T, 3 bytes in B. Every call
+ * Terms. T is text, in characters of URL-safe Base64; B is binary, in bytes. A unit is 4 characters in T, 3 bytes in B. Every proved call
  * returns a number: 0 for accepted, or one of the numbers below for refused. A refused call writes to no buffer, tag, info, item or
- * state: it writes only the place behind `answer`, and a comparison its five zeros; a walk in instalments that is refused on the way has
- * taken the items before it. An accepted call writes its answer from the buffer's start; bytes behind it stay. The place is the character
+ * state: it writes only the place behind `answer`, a comparison its five zeros and cesr_passed its 0; a walk in instalments that is refused
+ * on the way has taken the items before it. An accepted call writes its answer from the buffer's start; bytes behind it stay. The place is the character
  * for 5 and 19, else the item's start; 0 for 1, 2, 3, 12, 13, 20 and for a writer's 6 and 18, and for a writer's 5 and 19 the index among
  * the tag characters. Places, offsets and lengths count characters in T and bytes in B. Where 5 stands in the order of a call, the first
  * character outside the alphabet gives 5 or 19.
@@ -84,8 +84,8 @@ uint8_t cesr_report_binary(const uint8_t *stream, size_t stream_len, uint8_t *ou
  * no refusal and no remainder. */
 uint8_t cesr_passed(const uint8_t *report, size_t report_len, size_t *passed);
 
-/* A report's rows. The readers answer 1, or 0 where there is no such row, and then the row stays; the counts are 0 for bytes that are no
- * report. Rows are counted from 0. */
+/* A report's rows, counted from 0. The readers answer 1, or 0 where there is no such row, and then the row stays. A count is 0 where not all
+ * of its rows are there. */
 struct cesr_item_row {
     size_t offset, size;
     uint8_t verdict; /* CESR_ACCEPTED, or the number of its refusal */

@@ -38,6 +38,7 @@ make --silent -C "$place/cesr-$version" install PREFIX="$prefix"
 if "$prefix/bin/cesr" judge samples/first.cesr > /dev/null; then
   fail "the command of the release passes a refusal"
 fi
+(cd "$place/cesr-$version" && ./cesr judge samples/clean.cesr > /dev/null) || fail "./cesr of the release does not pass a clean stream"
 
 # The record is of this library and of these sources.
 cd "$place/cesr-$version"

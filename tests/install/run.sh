@@ -75,10 +75,13 @@ same "bash: a form behind =" "binary" "$(offered show --form = b)"
 same "bash: files are left to bash" "" "$(offered judge --all sa)"
 same "bash: no options behind --" "" "$(offered judge -- --f)"
 
-# Every option of the help stands in the man page and in each completion, and no other.
+# Every option of the help stands in the man page, in its synopsis and by itself, and in each completion; and no other does.
 "$prefix/bin/cesr" --help | grep -o -- '--[a-z][a-z]*' | sort -u | grep -v -x -e --version > "$place/options"
-for file in man/cesr.1 completions/cesr.bash completions/_cesr completions/cesr.fish; do
-  sed -e 's/\\-/-/g' -e 's/ -l \([a-z]\)/ --\1/g' "$file" | grep -o -- '--[a-z][a-z]*' | sort -u | grep -v -x -e --version > "$place/found"
+for part in SYNOPSIS OPTIONS; do
+  sed -n "/^\.SH $part/,/^\.SH [DE]/p" man/cesr.1 | sed 's/\\-/-/g' > "$place/$part"
+done
+for file in "$place/SYNOPSIS" "$place/OPTIONS" completions/cesr.bash completions/_cesr completions/cesr.fish; do
+  sed 's/ -l \([a-z]\)/ --\1/g' "$file" | grep -o -- '--[a-z][a-z]*' | sort -u | grep -v -x -e --version > "$place/found"
   diff "$place/options" "$place/found" || fail "$file has not the options of the help"
 done
 
