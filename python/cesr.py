@@ -19,8 +19,16 @@ from collections import namedtuple
 
 __version__ = "0.2.0"
 
-LIMIT = {"text": 4194304, "binary": 3145728}
-UNIT = {"text": 4, "binary": 3}
+
+class _Forms(dict):
+    """Something for each form, and an error for what is none."""
+
+    def __missing__(self, form):
+        raise ValueError(f"a form is text or binary, not {form!r}")
+
+
+LIMIT = _Forms(text=4194304, binary=3145728)
+UNIT = _Forms(text=4, binary=3)
 
 # Lengths of what the library is lent, as in cesr.h.
 _TAG, _INFO, _ITEM, _COMPARED, _STATE = 11, 6, 6, 5, 67
@@ -71,14 +79,14 @@ def _declared(name, *arguments, answers=_byte):
 
 def _both(name, *arguments):
     """A call's two forms."""
-    return {form: _declared(f"cesr_{name}_{form}", *arguments) for form in UNIT}
+    return _Forms((form, _declared(f"cesr_{name}_{form}", *arguments)) for form in UNIT)
 
 
 _words = _declared("cesr_words", _byte, answers=_bytes)
-_to = {
-    "binary": _declared("cesr_text_to_binary", _bytes, _size, _bytes, _size, _sizes),
-    "text": _declared("cesr_binary_to_text", _bytes, _size, _bytes, _size, _sizes),
-}
+_to = _Forms(
+    binary=_declared("cesr_text_to_binary", _bytes, _size, _bytes, _size, _sizes),
+    text=_declared("cesr_binary_to_text", _bytes, _size, _bytes, _size, _sizes),
+)
 _report = _both("report", _bytes, _size, _bytes, _size, _sizes)
 _passed = _declared("cesr_passed", _bytes, _size, _sizes)
 _compare = _declared("cesr_compare", _bytes, _size, _bytes, _size, _sizes)
@@ -193,7 +201,7 @@ def _named(code):
 
 def read(form, stream, at=0):
     """The primitive at an offset."""
-    stream, tag = bytes(stream), ctypes.create_string_buffer(_TAG)
+    stream, unit, tag = bytes(stream), UNIT[form], ctypes.create_string_buffer(_TAG)
     info, answer = (_size * _INFO)(), _size()
     if form == "text":
         # No raw value is longer than what is left of the stream.
@@ -206,7 +214,7 @@ def read(form, stream, at=0):
     chars, letter, units, start, length, tags = info[:6]
     raw = out.raw[:length] if form == "text" else stream[at + start : at + start + length]
     lead = start - 3 * (chars - 4) if chars in (5, 6) else 0
-    return Primitive(_spelt(chars, letter, lead), units * UNIT[form], tag.raw[:tags].decode("ascii"), raw)
+    return Primitive(_spelt(chars, letter, lead), units * unit, tag.raw[:tags].decode("ascii"), raw)
 
 
 def _written(form, chars, letter, tag, raw):

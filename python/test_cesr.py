@@ -156,6 +156,11 @@ class Said(unittest.TestCase):
             self.assertEqual(cesr.words(int(number)), words)
         self.assertEqual([cesr.words(number) for number in (15, 200, -1, 256)], [""] * 4)
 
+    def test_what_is_no_form(self):
+        for call in [cesr.judge, cesr.convert, cesr.read, lambda form, stream: list(cesr.walk(form, stream)), lambda form, _: cesr.write(form, "M", b"ab")]:
+            with self.assertRaisesRegex(ValueError, "a form is text or binary, not 'T'"):
+                call("T", b"MAAB")
+
     def test_the_version(self):
         self.assertEqual(cesr.version(), cesr.__version__)
 

@@ -26,6 +26,7 @@ mkdir "$place/bin"
 for tool in cargo rustc; do
   ln -s "$(rustup which "$tool" 2> /dev/null || command -v "$tool")" "$place/bin/$tool"
 done
+ln -s "$(python3 -c 'import sys; print(sys.executable)')" "$place/bin/python3"
 PATH=$place/bin:/usr/bin:/bin
 if command -v rt; then
   fail "a prover is found"
@@ -47,6 +48,10 @@ grep -q "^library  $digest  libexports.a$" proof/RECORD || fail "the record is o
 sed '1,/^SHA-256 of what was proved:$/d' proof/RECORD > "$place/sums"
 sha256sum --quiet --check "$place/sums" || fail "the record is of other sources"
 grep -q "^  fn exports::cesr_report_text: proved$" proof/RECORD || fail "the record has no verdict on the report"
+
+# It packs itself again, with what was built beside it.
+make --silent dist > /dev/null
+cmp "$place/first.tar.gz" "target/dist/cesr-$version.tar.gz" || fail "the release packs another one"
 
 # A project of somebody else, with the crates copied beside it: no workspace, no std, and the installed library.
 mkdir -p "$place/user/src"
