@@ -106,6 +106,11 @@ def version():
     return _library.cesr_version().decode()
 
 
+def _plain(data):
+    """Bytes of anything that holds bytes; an error for a number or a string."""
+    return data if isinstance(data, bytes) else memoryview(data).tobytes()
+
+
 def _within(form, length):
     """Units that room is lent for: no more than those of the longest stream."""
     return min(length, LIMIT[form]) // UNIT[form]
@@ -125,7 +130,7 @@ def _filled(call, room, *given):
 
 def convert(to, stream):
     """A whole stream in the form `to`, from the other one. It looks at no codes."""
-    stream, other = bytes(stream), "binary" if to == "text" else "text"
+    stream, other = _plain(stream), "binary" if to == "text" else "text"
     return _filled(_to[to], _within(other, len(stream)) * UNIT[to], stream, len(stream))
 
 
@@ -133,7 +138,7 @@ class Report:
     """What the library says of a stream: items in order, a row for each refusal, and the remainder, or None."""
 
     def __init__(self, data):
-        self.bytes = bytes(data)
+        self.bytes = _plain(data)
         passed = _size()
         number = _passed(self.bytes, len(self.bytes), ctypes.byref(passed))
         if number:
@@ -153,6 +158,9 @@ class Report:
         behind = at + 4 + count * struct.calcsize(shape)
         return list(struct.iter_unpack(shape, self.bytes[at + 4 : behind])), behind
 
+    def __bool__(self):
+        raise TypeError("a report is no pass: ask report.passed")
+
     def __str__(self):
         accepted = sum(item.verdict == 0 for item in self.items)
         rest = self.remainder
@@ -163,13 +171,13 @@ class Report:
 
 def judge(form, stream):
     """The report of a stream. A report is no pass: ask `passed`."""
-    stream = bytes(stream)
+    stream = _plain(stream)
     return Report(_filled(_report[form], 17 + 18 * _within(form, len(stream)), stream, len(stream)))
 
 
 def compare(expected, report):
     """An expectation file's bytes held against those of a report."""
-    expected, report, answer = bytes(expected), bytes(report), (_size * _COMPARED)()
+    expected, report, answer = _plain(expected), _plain(report), (_size * _COMPARED)()
     number = _compare(expected, len(expected), report, len(report), answer)
     if number:
         raise Refused(number, 0)
@@ -201,7 +209,7 @@ def _named(code):
 
 def read(form, stream, at=0):
     """The primitive at an offset."""
-    stream, unit, tag = bytes(stream), UNIT[form], ctypes.create_string_buffer(_TAG)
+    stream, unit, tag = _plain(stream), UNIT[form], ctypes.create_string_buffer(_TAG)
     info, answer = (_size * _INFO)(), _size()
     if form == "text":
         # No raw value is longer than what is left of the stream.
@@ -218,7 +226,7 @@ def read(form, stream, at=0):
 
 
 def _written(form, chars, letter, tag, raw):
-    raw, tag = bytes(raw), tag.encode("latin-1")
+    raw, tag = _plain(raw), tag.encode("latin-1")
     room = UNIT[form] * (len(raw) // 3 + 6)
     return _filled(_write[form], room, chars, letter, tag[:_TAG].ljust(_TAG, b"\0"), len(tag), raw, len(raw))
 
@@ -243,7 +251,7 @@ def write_variable(form, letter, raw):
 
 def walk(form, stream):
     """Items at all depths, outer before inner, up to the end. The first refusal is raised in its turn."""
-    stream, state = bytes(stream), (_size * _STATE)()
+    stream, state = _plain(stream), (_size * _STATE)()
     item, place = (_size * _ITEM)(), _size()
     while True:
         number = _walk[form](stream, len(stream), state, item, ctypes.byref(place))

@@ -156,6 +156,16 @@ class Said(unittest.TestCase):
             self.assertEqual(cesr.words(int(number)), words)
         self.assertEqual([cesr.words(number) for number in (15, 200, -1, 256)], [""] * 4)
 
+    def test_a_report_is_no_pass(self):
+        with self.assertRaisesRegex(TypeError, "a report is no pass"):
+            bool(cesr.judge("text", b"MAAB"))
+
+    def test_what_is_no_stream(self):
+        for stream in [4, "MAAB", None, [77]]:
+            self.assertRaises(TypeError, cesr.judge, "text", stream)
+        for stream in [bytearray(b"MAAB"), memoryview(b"MAAB")]:
+            self.assertTrue(cesr.judge("text", stream).passed)
+
     def test_what_is_no_form(self):
         for call in [cesr.judge, cesr.convert, cesr.read, lambda form, stream: list(cesr.walk(form, stream)), lambda form, _: cesr.write(form, "M", b"ab")]:
             with self.assertRaisesRegex(ValueError, "a form is text or binary, not 'T'"):
