@@ -6,8 +6,8 @@
 #   make dist                 target/dist/cesr-VERSION.tar.gz, which builds with a C compiler and cargo alone; equal sources, equal bytes
 #   make check                what is installed and packed, tried as people use it
 #
-# Assumes GNU make, a C compiler and cargo. ./cesr builds the command, and proves and builds the library, which asks for rt, unless proof/ has it,
-# as in a release.
+# Assumes GNU make, a C compiler and cargo. ./cesr builds the command, and proves and builds the library, which asks for rt, unless proof/
+# has it, as in a release.
 PREFIX ?= /usr/local
 CC ?= cc
 AR ?= ar
@@ -83,8 +83,6 @@ uninstall:
 dist: all
 	tools/dist $(archive) $(version)
 
-check: install-check
-.PHONY: install-check
-install-check:
+check:
 	bash tests/install/run.sh
 	bash tests/install/dist.sh

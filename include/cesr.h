@@ -3,9 +3,9 @@
  *
  * Terms. T is text, in characters of URL-safe Base64; B is binary, in bytes. A unit is 4 characters in T, 3 bytes in B. Every proved call
  * returns a number: 0 for accepted, or one of the numbers below for refused. A refused call writes to no buffer, tag, info, item or
- * state: it writes only the place behind `answer`, a comparison its five zeros and cesr_passed its 0; a walk in instalments that is refused
- * on the way has taken the items before it. An accepted call writes its answer from the buffer's start; bytes behind it stay. The place is the character
- * for 5 and 19, else the item's start; 0 for 1, 2, 3, 12, 13, 20 and for a writer's 6 and 18, and for a writer's 5 and 19 the index among
+ * state: it writes only the place behind `answer`, a comparison its five zeros and cesr_passed its 0; a walk in instalments that is
+ * refused on the way has taken the items before it. An accepted call writes its answer from the buffer's start; bytes behind it stay. The
+ * place is the character for 5 and 19, else the item's start; 0 for 1, 2, 3, 12, 13, 20 and for a writer's 6 and 18, and for a writer's 5 and 19 the index among
  * the tag characters. Places, offsets and lengths count characters in T and bytes in B. Where 5 stands in the order of a call, the first
  * character outside the alphabet gives 5 or 19.
  *

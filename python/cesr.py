@@ -4,9 +4,9 @@
     report = cesr.judge("text", open("deck.cesr", "rb").read())
     report.passed, report.items, report.refusals, report.remainder
 
-Nothing here judges: every verdict, size, place and number is an answer of the library, which is lent memory. A stream is bytes, in the form
-"text" (characters of URL-safe Base64) or "binary"; offsets, sizes and places count characters or bytes, from 0. A call that is refused raises
-Refused, with the number and the place.
+Nothing here judges: every verdict, size, place and number is an answer of the library, which is lent memory. A stream is bytes, in the
+form "text" (characters of URL-safe Base64) or "binary"; offsets, sizes and places count characters or bytes, from 0. A call that is refused
+raises Refused, with the number and the place.
 
 Assumes a library of the version below. It is looked for where CESR_LIBRARY says, then in ../../../lib from here, which is where `make
 install` puts it, then where the system finds libraries.

@@ -3,6 +3,7 @@ import os
 import pathlib
 import subprocess
 import sys
+import tempfile
 import unittest
 
 HERE = pathlib.Path(__file__).resolve().parent
@@ -167,7 +168,13 @@ class Said(unittest.TestCase):
             self.assertTrue(cesr.judge("text", stream).passed)
 
     def test_what_is_no_form(self):
-        for call in [cesr.judge, cesr.convert, cesr.read, lambda form, stream: list(cesr.walk(form, stream)), lambda form, _: cesr.write(form, "M", b"ab")]:
+        def walked(form, stream):
+            return list(cesr.walk(form, stream))
+
+        def written(form, raw):
+            return cesr.write(form, "0H", raw)
+
+        for call in [cesr.judge, cesr.convert, cesr.read, walked, written]:
             with self.assertRaisesRegex(ValueError, "a form is text or binary, not 'T'"):
                 call("T", b"MAAB")
 
@@ -175,10 +182,11 @@ class Said(unittest.TestCase):
         self.assertEqual(cesr.version(), cesr.__version__)
 
     def test_another_version_is_no_library_of_this_module(self):
-        lines = ["import sys", "sys.path.insert(0, sys.argv[1])", "import re, pathlib", "text = (pathlib.Path(sys.argv[1]) / 'cesr.py').read_text()"]
-        lines += ["text = re.sub(r'__version__ = .*', '__version__ = \"9.9.9\"', text)", "exec(compile(text, sys.argv[1] + '/cesr.py', 'exec'))"]
-        script = "\n".join(lines).replace("exec(compile", "__file__ = sys.argv[1] + '/cesr.py'; exec(compile")
-        said = subprocess.run([sys.executable, "-c", script, str(HERE)], capture_output=True, text=True, env=os.environ)
+        with tempfile.TemporaryDirectory() as folder:
+            text = (HERE / "cesr.py").read_text()
+            (pathlib.Path(folder) / "cesr.py").write_text(text.replace(f'"{cesr.__version__}"', '"9.9.9"'))
+            env = {**os.environ, "PYTHONPATH": folder}
+            said = subprocess.run([sys.executable, "-c", "import cesr"], capture_output=True, text=True, env=env)
         self.assertIn("and this module is of 9.9.9", said.stderr)
 
 

@@ -1,6 +1,6 @@
-/* What stands beside the proved calls in C, and what was added to them: whether a stream passed, a report's rows, room and limits, null where
- * a length is 0. With the word `words` it prints every number with its words, which run.sh holds against the list. Exits with 1 if any
- * differs. */
+/* What stands beside the proved calls in C, and what was added to them: whether a stream passed, a report's rows, room and limits, null
+ * where a length is 0. With the word `words` it prints every number with its words, which run.sh holds against the list. Exits with 1 if
+ * any differs. */
 #include "cesr.h"
 
 #include <stdio.h>

@@ -1,7 +1,7 @@
 #!/usr/bin/env bash
-# The release: packed twice it is the same bytes; unpacked elsewhere it builds, installs and judges with no prover to be found; and the crate
-# cesr builds outside of any tree, over the library that was installed from it. Asks for make, a C compiler, cargo and python3; the library is
-# proved already.
+# The release: packed twice it is the same bytes; unpacked elsewhere it builds, installs and judges with no prover to be found; and the
+# crate cesr builds outside of any tree, over the library that was installed from it. Asks for make, a C compiler, cargo and python3; the
+# library is proved already.
 set -euo pipefail
 cd "$(dirname "${BASH_SOURCE[0]}")/../.."
 place=$(mktemp -d)

@@ -1,9 +1,8 @@
 #!/usr/bin/env bash
-# What `make install` installs, used as people use it: the command, the library from C (static and shared), from Python, the completion for bash.
-# Asks for make, a C compiler and python3, and takes pkg-config where it is there. `shells.sh` has what asks for more.
+# What `make install` installs, used as people use it: the command, the library from C (static and shared) and from Python, the completion
+# for bash. Asks for make, a C compiler and python3, and takes pkg-config where it is there. `shells.sh` has what asks for more.
 set -euo pipefail
 cd "$(dirname "${BASH_SOURCE[0]}")/../.."
-top=$PWD
 place=$(mktemp -d)
 trap 'rm -rf "$place"' EXIT
 prefix=$place/prefix
@@ -21,7 +20,8 @@ same() { # WHAT EXPECTED FOUND
 # One version, wherever it is said.
 version=$(sed -n 's/^#define CESR_VERSION "\(.*\)"$/\1/p' include/cesr.h)
 same "the command" "cesr $version" "$("$prefix/bin/cesr" --version)"
-same "JSON" "$version" "$(printf MAAB | "$prefix/bin/cesr" judge --json | python3 -c 'import json, sys; print(json.load(sys.stdin)["version"])')"
+said=$(printf MAAB | "$prefix/bin/cesr" judge --json | python3 -c 'import json, sys; print(json.load(sys.stdin)["version"])')
+same "JSON" "$version" "$said"
 same "cesr.pc" "Version: $version" "$(grep ^Version "$prefix/lib/pkgconfig/cesr.pc")"
 grep -q "cesr $version" "$prefix/share/man/man1/cesr.1" || fail "the man page has another version"
 grep -q "^## $version" CHANGELOG.md || fail "CHANGELOG.md does not begin with $version"
@@ -59,13 +59,15 @@ for program in shared static; do
 done
 
 # Python finds the library from where it is installed, and by its name.
-said=$(cd "$place" && PYTHONPATH=$prefix/share/cesr/python python3 -c 'import cesr; print(cesr.judge("text", b"MAAB").passed, cesr.version())')
+asked='import cesr; print(cesr.judge("text", b"MAAB").passed, cesr.version())'
+said=$(cd "$place" && PYTHONPATH=$prefix/share/cesr/python python3 -c "$asked")
 same "Python" "True $version" "$said"
 CESR_LIBRARY=$prefix/lib/libcesr.so python3 python/test_cesr.py --quiet 2> "$place/python" || { cat "$place/python"; exit 1; }
 
 # What bash offers at the end of a line.
 offered() { # WORDS.., the last one begun
-  bash -c 'source "$1"; shift; COMP_WORDS=(cesr "$@"); COMP_CWORD=$#; _cesr; echo "${COMPREPLY[*]}"' bash "$prefix/share/bash-completion/completions/cesr" "$@"
+  local file=$prefix/share/bash-completion/completions/cesr
+  bash -c 'source "$1"; shift; COMP_WORDS=(cesr "$@"); COMP_CWORD=$#; _cesr; echo "${COMPREPLY[*]}"' bash "$file" "$@"
 }
 same "bash: commands" "judge" "$(offered ju)"
 same "bash: options" "--html --help" "$(offered judge --h)"
@@ -90,4 +92,4 @@ make --silent install PREFIX=/usr DESTDIR="$place/package"
 grep -q '^prefix=/usr$' "$place/package/usr/lib/pkgconfig/cesr.pc" || fail "a package's cesr.pc has another prefix"
 make --silent uninstall PREFIX=/usr DESTDIR="$place/package"
 same "uninstall leaves" "" "$(cd "$place/package" && find . ! -type d)"
-cd "$top" && echo "installed: the command, C, Python and bash as they should be"
+echo "installed: the command, C, Python and bash as they should be"
