@@ -5,9 +5,9 @@
  * returns a number: 0 for accepted, or one of the numbers below for refused. A refused call writes to no buffer, tag, info, item or
  * state: it writes only the place behind `answer`, a comparison its five zeros and cesr_passed its 0; a walk in instalments that is
  * refused on the way has taken the items before it. An accepted call writes its answer from the buffer's start; bytes behind it stay. The
- * place is the character for 5 and 19, else the item's start; 0 for 1, 2, 3, 12, 13, 20 and for a writer's 6 and 18, and for a writer's 5 and 19 the index among
- * the tag characters. Places, offsets and lengths count characters in T and bytes in B. Where 5 stands in the order of a call, the first
- * character outside the alphabet gives 5 or 19.
+ * place is the character for 5 and 19, else the item's start; 0 for 1, 2, 3, 12, 13, 20 and for a writer's 6 and 18, and for a writer's 5
+ * and 19 the index among the tag characters. Places, offsets and lengths count characters in T and bytes in B. Where 5 stands in the order
+ * of a call, the first character outside the alphabet gives 5 or 19.
  *
  * What the caller ensures: each length is that of the memory behind its pointer, which may be null where the length is 0 and is null
  * nowhere else; what is written (buffer, tag, info, item, state, items, answer, passed) overlaps nothing else that the call is given. The
