@@ -31,28 +31,26 @@ $(archive): | command
 command:
 	if command -v cargo > /dev/null; then ./cesr --version > /dev/null; else test -x $(command); fi
 
-# ---- the library
+# ---- the library. Each file is put in its place when it is whole, also where two calls build at once.
 
 lib: $(build)/libcesr.a $(build)/libcesr.so.$(version) $(build)/cesr.pc
 
 $(build)/%.o: c/%.c include/cesr.h
 	@mkdir -p $(build)
-	$(CC) -std=c11 -O2 -fPIC $(CFLAGS) -Iinclude -c $< -o $@
+	$(CC) -std=c11 -O2 -fPIC $(CFLAGS) -Iinclude -c $< -o $@.$$$$ && mv $@.$$$$ $@
 
 $(build)/libcesr.a: $(archive) $(build)/words.o $(build)/rows.o
-	cp $(archive) $@.next
-	$(AR) rcsD $@.next $(build)/words.o $(build)/rows.o
-	mv $@.next $@
+	cp $(archive) $@.$$$$ && $(AR) rcsD $@.$$$$ $(build)/words.o $(build)/rows.o && mv $@.$$$$ $@
 
 $(build)/libcesr.so.$(version): $(build)/libcesr.a c/cesr.map
 	$(CC) -shared -Wl,-soname,$(soname) -Wl,--version-script=c/cesr.map -Wl,-z,defs $(LDFLAGS) \
-	  -Wl,--whole-archive $(build)/libcesr.a -Wl,--no-whole-archive -o $@
+	  -Wl,--whole-archive $(build)/libcesr.a -Wl,--no-whole-archive -o $@.$$$$ && mv $@.$$$$ $@
 
 $(build)/cesr.pc: include/cesr.h Makefile
 	@mkdir -p $(build)
 	printf '%s\n' 'prefix=$(PREFIX)' 'libdir=$${prefix}/lib' 'includedir=$${prefix}/include' '' 'Name: cesr' \
 	  'Description: CESR streams judged by a proved library' 'Version: $(version)' 'Libs: -L$${libdir} -lcesr' \
-	  'Cflags: -I$${includedir}' > $@
+	  'Cflags: -I$${includedir}' > $@.$$$$ && mv $@.$$$$ $@
 
 # ---- installed
 

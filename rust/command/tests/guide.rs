@@ -9,6 +9,7 @@ use std::fs;
 use std::os::unix::fs::symlink;
 use std::path::Path;
 use std::process::Command;
+use std::sync::Once;
 
 fn page(name: &str) -> String {
     fs::read_to_string(top().join(name)).expect("the page")
@@ -32,11 +33,16 @@ fn blocks(page: &str, language: &str) -> Vec<String> {
     found
 }
 
-/// A folder with the samples, and what a linker needs, which is made here.
+static BUILT: Once = Once::new();
+
+/// A folder with the samples, and what a linker needs, which is made once.
 fn place() -> Folder {
-    let mut make = Command::new("make");
-    make.args(["--silent", "lib"]).current_dir(top());
-    assert_eq!(finished(make, b"").status, 0, "make lib");
+    BUILT.call_once(|| {
+        let mut make = Command::new("make");
+        make.args(["--silent", "lib"]).current_dir(top());
+        let ran = finished(make, b"");
+        assert_eq!(ran.status, 0, "{}", ran.err);
+    });
     let folder = Folder::new();
     let samples = folder.path().join("samples");
     fs::create_dir(&samples).expect("a folder");
