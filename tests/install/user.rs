@@ -51,9 +51,15 @@ fn holds() -> Result<bool, cesr::Refusal> {
         && codes.map(|step| step.head.to_string()).eq(["-A", "M"]))
 }
 
-/// Asked for by `alloc` as it comes built, and never called: a panic aborts.
+/// These two are asked for by `alloc` as it comes built, and never called: a
+/// panic aborts.
 #[no_mangle]
 pub extern "C" fn rust_eh_personality() {}
+
+#[no_mangle]
+pub extern "C" fn _Unwind_Resume() -> ! {
+    unsafe { abort() }
+}
 
 #[no_mangle]
 pub extern "C" fn main() -> i32 {
