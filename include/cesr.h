@@ -1,16 +1,17 @@
-/* CESR streams, judged: the calls of the proved library (crates/exports).
+/* CESR streams, judged: the calls of the proved library (crates/exports), and readers of its report and words beside it (c/), which decide
+ * nothing.
  *
- * Terms. T is text, in characters of URL-safe Base64; B is binary, in bytes. A unit is 4 characters in T, 3 bytes in B. Every call
+ * Terms. T is text, in characters of URL-safe Base64; B is binary, in bytes. A unit is 4 characters in T, 3 bytes in B. Every proved call
  * returns a number: 0 for accepted, or one of the numbers below for refused. A refused call writes to no buffer, tag, info, item or
- * state: it writes only the place behind `answer`, and a comparison its five zeros; a walk in instalments that is refused on the way has
- * taken the items before it. An accepted call writes its answer from the buffer's start; bytes behind it stay. The place is the character
- * for 5 and 19, else the item's start; 0 for 1, 2, 3, 12, 13, 20 and for a writer's 6, 16 and 18, and for a writer's 5 and 19 the index
- * among the tag characters or in the text. Places, offsets and lengths count characters in T and bytes in B. Where 5 stands in the order
- * of a call, the first character outside the alphabet gives 5 or 19.
+ * state: it writes only the place behind `answer`, a comparison its five zeros and cesr_passed its 0; a walk in instalments that is
+ * refused on the way has taken the items before it. An accepted call writes its answer from the buffer's start; bytes behind it stay. The
+ * place is the character for 5 and 19, else the item's start; 0 for 1, 2, 3, 12, 13, 20 and for a writer's 6, 16 and 18, and for a writer's
+ * 5 and 19 the index among the tag characters or in the text. Places, offsets and lengths count characters in T and bytes in B. Where 5
+ * stands in the order of a call, the first character outside the alphabet gives 5 or 19.
  *
- * What the caller ensures: no pointer is null, also where its length is 0; what is written (buffer, tag, info, item, state, items,
- * answer) overlaps nothing else that the call is given; each length is that of the memory behind its pointer. The library keeps nothing
- * between calls, allocates nothing and may be called from many threads at once. */
+ * What the caller ensures: each length is that of the memory behind its pointer, which may be null where the length is 0 and is null
+ * nowhere else; what is written (buffer, tag, info, item, state, items, answer, passed) overlaps nothing else that the call is given. The
+ * library keeps nothing between calls, allocates nothing and may be called from many threads at once. */
 #ifndef CESR_H
 #define CESR_H
 
@@ -21,29 +22,49 @@
 extern "C" {
 #endif
 
+/* The version of this header. cesr_version tells that of the library that is linked: a string that stays. */
+#define CESR_VERSION "0.2.0"
+const char *cesr_version(void);
+
+/* The longest streams that are read, in characters and in bytes; what is longer is refused 1. */
+#define CESR_LIMIT_TEXT 4194304
+#define CESR_LIMIT_BINARY 3145728
+
+/* Room that is enough, in bytes: for the report of so many items, of any text of so many characters, of any binary of so many bytes; and
+ * for the conversion of a text or a binary of so many. */
+#define CESR_REPORT_ROOM(items) (17 + 18 * (size_t)(items))
+#define CESR_REPORT_ROOM_TEXT(length) CESR_REPORT_ROOM((length) / 4)
+#define CESR_REPORT_ROOM_BINARY(length) CESR_REPORT_ROOM((length) / 3)
+#define CESR_TO_BINARY_ROOM(length) ((size_t)(length) / 4 * 3)
+#define CESR_TO_TEXT_ROOM(length) ((size_t)(length) / 3 * 4)
+
 enum cesr_number {
     CESR_ACCEPTED = 0,
-    CESR_TOO_LONG = 1,            /* stream longer than 4,194,304 characters or 3,145,728 bytes */
-    CESR_NOT_WHOLE_UNITS = 2,     /* whole-stream conversion: not whole units */
-    CESR_ROOM = 3,                /* output room too small */
-    CESR_PAST_END = 4,            /* header or full size passes the end of stream or enclosing group */
-    CESR_CHARACTER = 5,           /* character outside the alphabet but + / = (in T, or a character of a tag or text given to a writer) */
-    CESR_UNKNOWN_CODE = 6,        /* code unknown or reserved */
-    CESR_GENUS_VERSION = 7,       /* genus/version required but not AAACAA */
-    CESR_NOT_ZERO = 8,            /* pad bit or lead byte not zero */
-    CESR_LEAD_WITHOUT_VALUE = 9,  /* selector 5, 6, 8, 9 with n = 0 */
-    CESR_PREPAD = 10,             /* tag prepad not _ */
-    CESR_TOO_DEEP = 11,           /* group standing within 64 groups already */
-    CESR_UNFIT_LENGTH = 12,       /* writer: raw length or tag length unfit for the code */
-    CESR_UNFIT_STATE = 13,        /* walk state unfit for the stream */
-    CESR_NOT_A_PRIMITIVE = 14,    /* primitive asked for, group or genus/version found */
-    CESR_TEXT_FILL = 16,          /* type A without its full fill, or text that itself starts with A */
-    CESR_NOT_SHORT = 18,          /* large variable code or large group whose size fits the small code */
-    CESR_ORDINARY_BASE64 = 19,    /* + / or = of ordinary Base64 (in T, or a character of a tag or text given to a writer) */
-    CESR_MALFORMED = 20,          /* expectation file or report with a missing count, a section shorter than its count says, a remainder
-                                   * count above 1, or bytes left over */
-    CESR_END = 255                /* the walk alone: the end of the stream */
+    CESR_TOO_LONG = 1,           /* stream longer than 4,194,304 characters or 3,145,728 bytes */
+    CESR_NOT_WHOLE_UNITS = 2,    /* whole-stream conversion: not whole units */
+    CESR_ROOM = 3,               /* output room too small */
+    CESR_PAST_END = 4,           /* header or full size passes the end of stream or enclosing group */
+    CESR_CHARACTER = 5,          /* character outside the alphabet but +, /, = (in T, or a character of a tag or text given to a writer)
+                                  * */
+    CESR_UNKNOWN_CODE = 6,       /* code unknown or reserved */
+    CESR_GENUS_VERSION = 7,      /* genus/version required but not AAACAA */
+    CESR_NOT_ZERO = 8,           /* pad bit or lead byte not zero */
+    CESR_LEAD_WITHOUT_VALUE = 9, /* selector 5, 6, 8, 9 with n = 0 */
+    CESR_PREPAD = 10,            /* tag prepad not _ */
+    CESR_TOO_DEEP = 11,          /* group standing within 64 groups already */
+    CESR_UNFIT_LENGTH = 12,      /* writer: raw length or tag length unfit for the code */
+    CESR_UNFIT_STATE = 13,       /* walk state unfit for the stream */
+    CESR_NOT_A_PRIMITIVE = 14,   /* primitive asked for, group or genus/version found */
+    CESR_TEXT_FILL = 16,         /* type A without its full fill, or text that itself starts with A */
+    CESR_NOT_SHORT = 18,         /* large variable code or large group whose size fits the small code */
+    CESR_ORDINARY_BASE64 = 19,   /* +, / or = of ordinary Base64 (in T, or a character of a tag or text given to a writer) */
+    CESR_MALFORMED = 20,         /* expectation file or report with a missing count, a section shorter than its count says, a remainder
+                                  * count above 1, or bytes left over */
+    CESR_END = 255               /* the walk alone: the end of the stream */
 };
+
+/* What a number means, in the words of the papers: a string that stays, empty for a byte that is none. */
+const char *cesr_words(uint8_t number);
 
 /* T to B: 1, 2, 5, 3. Room asked is 3 bytes a unit. *answer: the bytes written, or the place. Refused, dst stays as it was. */
 uint8_t cesr_text_to_binary(const uint8_t *src, size_t src_len, uint8_t *dst, size_t dst_len, size_t *answer);
@@ -59,12 +80,45 @@ uint8_t cesr_report_text(const uint8_t *stream, size_t stream_len, uint8_t *out,
 /* The same of a binary. */
 uint8_t cesr_report_binary(const uint8_t *stream, size_t stream_len, uint8_t *out, size_t out_len, size_t *answer);
 
+/* Did the stream of this report pass: has it a byte, and does every byte lie in an accepted item? *passed is 1 or 0; 20 for what is no
+ * report, and then it is 0. The number 0 says that the question was answered and no more: look at *passed. An empty stream has not
+ * passed. Any bytes may be asked; of those that no report call wrote the answer says that they have an item at least, every verdict 0,
+ * no refusal and no remainder. */
+uint8_t cesr_passed(const uint8_t *report, size_t report_len, size_t *passed);
+
+/* A report's rows, counted from 0. The readers answer 1, or 0 where there is no such row, and then the row stays. A count is 0 where not all
+ * of its rows are there. */
+struct cesr_item_row {
+    size_t offset, size;
+    uint8_t verdict; /* CESR_ACCEPTED, or the number of its refusal */
+};
+
+struct cesr_refusal_row {
+    size_t item; /* the index of the item that is refused */
+    uint8_t number;
+    size_t place; /* counted from the stream's start */
+};
+
+struct cesr_remainder_row {
+    size_t offset; /* it runs from here to the stream's end */
+    uint8_t number;
+};
+
+size_t cesr_items(const uint8_t *report, size_t report_len);
+size_t cesr_refusals(const uint8_t *report, size_t report_len);
+int cesr_item_row(const uint8_t *report, size_t report_len, size_t index, struct cesr_item_row *row);
+int cesr_refusal_row(const uint8_t *report, size_t report_len, size_t index, struct cesr_refusal_row *row);
+int cesr_remainder_row(const uint8_t *report, size_t report_len, struct cesr_remainder_row *row);
+
 /* A code is two numbers. chars: 1, 2 or 4 for a fixed code of so many characters, 5 for a small variable, 6 for a large one. letter:
  * the code's last character, or the variable's type. The value of type A is text: characters of the alphabet, filled up in front with A
  * to whole units, by none or one under selectors 4 and 7, by two under 5 and 8, by three under 6 and 9. It starts with another character
  * than A. Readers and writers take the fill off and put it there. */
 
-/* What info holds after an accepted read: CESR_INFO numbers. */
+/* Places for tag characters. */
+#define CESR_TAG 11
+
+/* What info holds after an accepted read, CESR_INFO numbers. */
 enum cesr_info {
     CESR_INFO_CHARS = 0,
     CESR_INFO_LETTER = 1,
@@ -73,21 +127,21 @@ enum cesr_info {
     CESR_INFO_RAW = 4,   /* raw length in bytes; 0 for a text */
     CESR_INFO_TAGS = 5,  /* number of tag characters */
     CESR_INFO_TEXT = 6,  /* number of characters of a text; 0 for any other code */
-    CESR_INFO = 7
+    CESR_INFO
 };
 
 /* Reads the primitive of a text at an offset: 1, 4 at or past the end, framing (never 7), 14, judging, 3. The raw value, or the
  * characters of type A, are copied to out; room asked is their number. The tag characters go to tag, unused places 0. *answer: the length
  * of what was copied, info[CESR_INFO_RAW] + info[CESR_INFO_TEXT], or the place. Refused, out, tag and info stay as they were; accepted,
  * bytes of out behind what was copied stay. */
-uint8_t cesr_read_text(const uint8_t *stream, size_t stream_len, size_t at, uint8_t *out, size_t out_len, uint8_t tag[11],
+uint8_t cesr_read_text(const uint8_t *stream, size_t stream_len, size_t at, uint8_t *out, size_t out_len, uint8_t tag[CESR_TAG],
                        size_t info[CESR_INFO], size_t *answer);
 
 /* Reads the primitive of a binary at an offset: 1, 4 at or past the end, framing (never 7), 14, judging, 3 for type A alone. Its
  * characters are copied to out, as above. Any other value isn't copied, asks no room and leaves out as it was: it is the part of the
  * stream of info[CESR_INFO_RAW] bytes from at + info[CESR_INFO_START] on. *answer: the value's length, info[CESR_INFO_RAW] +
  * info[CESR_INFO_TEXT], or the place. Refused, out, tag and info stay as they were. */
-uint8_t cesr_read_binary(const uint8_t *stream, size_t stream_len, size_t at, uint8_t *out, size_t out_len, uint8_t tag[11],
+uint8_t cesr_read_binary(const uint8_t *stream, size_t stream_len, size_t at, uint8_t *out, size_t out_len, uint8_t tag[CESR_TAG],
                          size_t info[CESR_INFO], size_t *answer);
 
 /* Writes a primitive as text: 6 (any code that isn't a primitive's), 12, 18, 5 (tags and text), 16 (text that starts with A), 3. tags:
@@ -96,11 +150,11 @@ uint8_t cesr_read_binary(const uint8_t *stream, size_t stream_len, size_t at, ui
  * its characters with their fill, up to 16,380 and from 16,384 to 4,194,296. Room asked is the exact size. *answer: the characters written,
  * or the place. Refused, out stays as it was; accepted, bytes behind the item stay. A second item goes into the rest of the buffer: out +
  * *answer, out_len - *answer. */
-uint8_t cesr_write_text(uint8_t chars, uint8_t letter, const uint8_t tag[11], size_t tags, const uint8_t *raw, size_t raw_len,
+uint8_t cesr_write_text(uint8_t chars, uint8_t letter, const uint8_t tag[CESR_TAG], size_t tags, const uint8_t *raw, size_t raw_len,
                         uint8_t *out, size_t out_len, size_t *answer);
 
 /* The same as binary. */
-uint8_t cesr_write_binary(uint8_t chars, uint8_t letter, const uint8_t tag[11], size_t tags, const uint8_t *raw, size_t raw_len,
+uint8_t cesr_write_binary(uint8_t chars, uint8_t letter, const uint8_t tag[CESR_TAG], size_t tags, const uint8_t *raw, size_t raw_len,
                           uint8_t *out, size_t out_len, size_t *answer);
 
 /* At most so many groups are open. */
@@ -117,22 +171,23 @@ enum cesr_state {
     CESR_STATE = CESR_MAX_DEPTH + 3
 };
 
-/* What item holds after a step that yielded one. */
+/* What item holds after a step that yielded one, CESR_ITEM numbers. */
 enum cesr_item {
     CESR_ITEM_OFFSET = 0,
     CESR_ITEM_SIZE = 1,
     CESR_ITEM_DEPTH = 2,  /* the number of groups it stands within */
     CESR_ITEM_CHARS = 3,  /* as above, or 7 for a small group, 8 for a large one, 9 for a genus/version */
     CESR_ITEM_LETTER = 4, /* 0 for a genus/version */
-    CESR_ITEM_LEAD = 5    /* lead bytes of a variable, which tell its selector; else 0 */
+    CESR_ITEM_LEAD = 5,   /* lead bytes of a variable, which tell its selector; else 0 */
+    CESR_ITEM
 };
 
 /* A step of the walk over a text: 0 with an item and the next state, 255 at the end, else the first refusal: 1, 13, then as the item is
  * framed and judged. *answer: the place of a refusal, else 0. At a refusal or the end state and item stay as they were. */
-uint8_t cesr_walk_text(const uint8_t *stream, size_t stream_len, size_t state[CESR_STATE], size_t item[6], size_t *answer);
+uint8_t cesr_walk_text(const uint8_t *stream, size_t stream_len, size_t state[CESR_STATE], size_t item[CESR_ITEM], size_t *answer);
 
 /* The same over a binary. */
-uint8_t cesr_walk_binary(const uint8_t *stream, size_t stream_len, size_t state[CESR_STATE], size_t item[6], size_t *answer);
+uint8_t cesr_walk_binary(const uint8_t *stream, size_t stream_len, size_t state[CESR_STATE], size_t item[CESR_ITEM], size_t *answer);
 
 /* The walk over a text in instalments: on by at most budget items, which are judged and not told one by one. 0 where the budget was
  * taken whole, 255 where the end came first, else the first refusal; 1 and 13 for a budget of 0 too. *items: how many were taken, those
@@ -145,20 +200,21 @@ uint8_t cesr_walk_on_text(const uint8_t *stream, size_t stream_len, size_t state
 uint8_t cesr_walk_on_binary(const uint8_t *stream, size_t stream_len, size_t state[CESR_STATE], size_t budget, size_t *items,
                             size_t *answer);
 
-/* What answer holds after a comparison; refused, all of it is 0. */
+/* What answer holds after a comparison, CESR_COMPARED numbers; refused, all of it is 0. */
 enum cesr_compared {
     CESR_COMPARED_PASSED = 0,      /* an item with the case's index exists and has that verdict */
     CESR_COMPARED_FAILED = 1,      /* the item exists with another */
     CESR_COMPARED_NOT_REACHED = 2, /* there is no such item; the three sum to the number expected */
     CESR_COMPARED_BEYOND = 3,      /* items beyond the number expected */
-    CESR_COMPARED_AGREE = 4        /* 1 where both remainders are absent or have the same number, else 0; never added to passed */
+    CESR_COMPARED_AGREE = 4,       /* 1 where both remainders are absent or have the same number, else 0; never added to passed */
+    CESR_COMPARED
 };
 
 /* Compares an expectation file with a report: 20. The file has two sections, each after its count in 4 bytes, big-endian: expected verdicts
  * (one byte an item), then the number of the remainder that is expected (one byte, count 0 or 1). The report is that of cesr_report_text
  * or cesr_report_binary; only its counts, its verdicts and its remainder's number are looked at. Equal remainders and no count of failed,
  * not reached or beyond say that all is as expected, unless nothing was. */
-uint8_t cesr_compare(const uint8_t *expected, size_t expected_len, const uint8_t *report, size_t report_len, size_t answer[5]);
+uint8_t cesr_compare(const uint8_t *expected, size_t expected_len, const uint8_t *report, size_t report_len, size_t answer[CESR_COMPARED]);
 
 #ifdef __cplusplus
 }

@@ -402,6 +402,24 @@ static void comparing(void) {
     }
 }
 
+/* Each beginning of a report that passed, the whole of it, and one byte more; and its rows, where they are there. */
+static void passing(void) {
+    static const uint8_t report[] = {0, 0, 0, 1, 0, 0, 0, 0, 0, 0, 0, 4, 0, 0, 0, 0, 0, 0, 0, 0, 0, 0};
+    for (size_t size = 0; size <= sizeof report; size++) {
+        uint8_t *told = copied(report, size);
+        size_t *passed = exact(sizeof *passed);
+        struct cesr_item_row *row = exact(sizeof *row);
+        int whole = size == sizeof report - 1;
+        calls++;
+        check(cesr_passed(told, size, passed) == (whole ? 0 : CESR_MALFORMED) && *passed == (whole ? 1 : 0), "passed", size);
+        check(cesr_item_row(told, size, 0, row) == (size >= 13), "an item's row", size);
+        check(memcmp(told, report, size) == 0, "read only", size);
+        free(told);
+        free(passed);
+        free(row);
+    }
+}
+
 int main(void) {
     for (size_t items = 0; items < 40; items++) {
         streams_of(items);
@@ -417,6 +435,7 @@ int main(void) {
     writing();
     limits();
     comparing();
+    passing();
     printf("%d calls, %d checks, %d failed\n", calls, checks, failures);
     return failures != 0;
 }

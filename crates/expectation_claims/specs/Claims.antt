@@ -1,5 +1,6 @@
--- What 02, request n, asks of a comparison, and what its users were promised besides, over the definitions that its contract cites.
--- Statements only, each below the words in quotes. What the words mean is in Words and in expectation/Words. Proved in Proved. Assumes nothing.
+-- What 02, request n, asks of a comparison, and what its users were promised besides, over the definitions that its contract cites; and
+-- when a stream passed. Statements only, each below the words in quotes. What the words mean is in Words and in comparison's Words. Proved in
+-- Proved. Assumes nothing.
 use Prim.Native.Nat.{ℕ, suc, _+_, _*_, _%_, _≤_, _<_}
 use mathlib.Core.Path.{_≡_}
 use mathlib.Core.List.{List, [], _++_}
@@ -12,7 +13,9 @@ use Rattle.expectation.specs.Expectation.{countAt, verdicts, expected, reported
 use Rattle.comparison.specs.Comparing.{passed, failed, notReached, beyond, agree}
 use Rattle.comparison.specs.Comparing.{counted, refused, compared}
 use Rattle.comparison.specs.Words.{count, passes, fails, misses}
-use Rattle.expectation_claims.specs.Words.{BadFile, BadReport, fileOf, verdictsIn, leftIn, ownFile, SameCounts, OneOff, OneFailed}
+use Rattle.passing.specs.Passing.{passedIn}
+use Rattle.expectation_claims.specs.Words.{BadFile, BadReport, fileOf, verdictsIn, leftIn, ownFile, EachAccepted}
+use Rattle.expectation_claims.specs.Words.{SameCounts, OneOff, OneFailed}
 
 -- ---- verdicts: es expected, vs of the report's items
 
@@ -88,6 +91,23 @@ pub record FileClaims : Type 0 where
   pub one-off : (es left vs over rep : List ℕ) → length es < 4294967296 → length left ≤ 1 → reported rep ≡ verdicts vs over → OneOff es vs
       → OneFailed (length es) (compared (fileOf es left) rep)
 
+-- ---- a stream passed, by a report's bytes
+
+pub record PassedClaims : Type 0 where
+  -- 20 is for a report that is not well made, and for nothing else; it is no pass
+  pub twenty : (rep : List ℕ) → BadReport rep → passedIn rep ≡ record { number = 20; passed = false }
+  pub only-twenty : (rep : List ℕ) (n : ℕ) → passedIn rep .number ≡ suc n → BadReport rep
+  -- of any report, whoever made it: "no refusal can be taken for a pass", no remainder either, and nothing judged is no pass
+  pub nothing-refused : (rep vs over : List ℕ) → reported rep ≡ verdicts vs over → passedIn rep .passed ≡ true
+      → (over ≡ []) × (0 < length vs) × ((i : ℕ) → i < length vs → getD vs i 0 ≡ 0)
+  -- three counts and the items' rows are all there is: no row of a refusal
+  pub no-row : (rep vs over : List ℕ) → reported rep ≡ verdicts vs over → passedIn rep .passed ≡ true → length rep ≡ 12 + 9 * length vs
+
+-- of the judge's own: "every byte of the stream lies in an accepted item", and there is one
+pub record OwnPass (d : Domain) : Type 0 where
+  pub exactly : (xs : List ℕ) → length xs ≤ d .limit → (passedIn (report d xs) .passed ≡ true) ↔ ((0 < length xs) × EachAccepted d xs)
+  pub well-made : (xs : List ℕ) → length xs ≤ d .limit → passedIn (report d xs) .number ≡ 0
+
 -- ---- all of it
 
 pub record ExpectationClaims : Type 0 where
@@ -98,3 +118,6 @@ pub record ExpectationClaims : Type 0 where
   pub files : FileClaims
   pub of-text : OwnClaims text
   pub of-binary : OwnClaims binary
+  pub passes : PassedClaims
+  pub text-passes : OwnPass text
+  pub binary-passes : OwnPass binary

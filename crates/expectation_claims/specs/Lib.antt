@@ -4,4 +4,5 @@ pub mod Sections
 pub mod Malformed
 pub mod Answers
 pub mod Own
+pub mod Passed
 pub mod Proved

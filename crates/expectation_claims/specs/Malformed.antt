@@ -55,14 +55,14 @@ uncut w xs from h (inr l) = omega arith
 -- ---- the last one
 
 -- malformed exactly where it is bad
-abbrev Told : Type 0 → Verdicts → Type 0
+abbrev pub Told : Type 0 → Verdicts → Type 0
 Told Bad v = (Bad × (v ≡ malformed)) ⊎ ((Bad → ⊥) × (v ≡ malformed → ⊥))
 
-told-bad : {Bad : Type 0} {v : Verdicts} → Told Bad v → Bad → v ≡ malformed
+pub told-bad : {Bad : Type 0} {v : Verdicts} → Told Bad v → Bad → v ≡ malformed
 told-bad (inl p) b = p .1
 told-bad (inr p) b = absurd (p .0 b)
 
-bad-told : {Bad : Type 0} {v : Verdicts} → Told Bad v → v ≡ malformed → Bad
+pub bad-told : {Bad : Type 0} {v : Verdicts} → Told Bad v → v ≡ malformed → Bad
 bad-told (inl p) e = p .0
 bad-told (inr p) e = absurd (p .1 e)
 
@@ -110,7 +110,7 @@ behind-told vs xs from h =
     (last-told 5 4 vs xs (endOf 9 xs from) (g .0)))
     (laid 9 xs from h)
 
-report-told : (xs : List ℕ) → Told (BadReport xs) (reported xs)
+pub report-told : (xs : List ℕ) → Told (BadReport xs) (reported xs)
 unfolding reported reportedBy
 report-told xs =
     ⊎-elim (λ c. inl (inl (c .0), rw (c .1)))

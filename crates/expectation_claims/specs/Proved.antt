@@ -1,4 +1,4 @@
--- The claims on a comparison hold. Assumes nothing.
+-- The claims on a comparison and on a pass hold. Assumes nothing.
 use Prim.Native.Nat.{ℕ, suc, _+_, _≤_, _<_}
 use mathlib.Core.Path.{_≡_, refl, ap, _∙_}
 use mathlib.Core.List.{List, [], _∷_, _++_}
@@ -19,9 +19,10 @@ use Rattle.comparison.specs.Words.{passes}
 use Rattle.comparison.specs.Counts.{passes-are, fails-are, misses-are, sum, items}
 use Rattle.expectation_claims.specs.Words.{fileOf, SameCounts}
 use Rattle.expectation_claims.specs.Answers.{sums}
-use Rattle.expectation_claims.specs.Malformed.{twenty, only-twenty, wider}
+use Rattle.expectation_claims.specs.Malformed.{twenty, only-twenty, wider, report-told, told-bad, bad-told}
 use Rattle.expectation_claims.specs.Own.{sees-by, reads, file-one-off, compares-by, own-by, one-off-by}
-use Rattle.expectation_claims.specs.Claims.{OwnClaims, ExpectationClaims}
+use Rattle.expectation_claims.specs.Passed.{bad-report, read-report, nothing-refused, no-row, passes-only, passes-if, own-number}
+use Rattle.expectation_claims.specs.Claims.{OwnClaims, OwnPass, ExpectationClaims}
 
 -- ---- verdicts
 
@@ -85,6 +86,12 @@ own d R D few = record {
   one-off = one-off-by d R D few;
 }
 
+own-pass : (d : Domain) → Reader d → Demand3 d → d .limit ≤ 4194304 → OwnPass d
+own-pass d R D few = record {
+  exactly = λ xs l. (passes-only d R D few xs l, λ h. passes-if d R D few xs l (h .0) (h .1));
+  well-made = own-number d R D few;
+}
+
 pub proved : ExpectationClaims
 proved = record {
   counts = record {
@@ -103,4 +110,12 @@ proved = record {
   files = record { reads = reads; one-off = file-one-off };
   of-text = own text text-reader text-demand3 (omega arith);
   of-binary = own binary binary-reader binary-demand3 (omega arith);
+  passes = record {
+    twenty = λ rep b. bad-report rep (told-bad (report-told rep) b);
+    only-twenty = λ rep n e. bad-told (report-told rep) (read-report rep n e);
+    nothing-refused = nothing-refused;
+    no-row = no-row;
+  };
+  text-passes = own-pass text text-reader text-demand3 (omega arith);
+  binary-passes = own-pass binary binary-reader binary-demand3 (omega arith);
 }

@@ -5,8 +5,10 @@ use mathlib.Core.Path.{_≡_}
 use mathlib.Core.List.{List, _++_, map}
 use mathlib.Core.Logic.{_⊎_}
 use lib.ListN.{length, getD, drop}
+use Rattle.format.specs.declared.Verdict.the-variants.{Accepted}
 use Rattle.format.specs.Units.{Domain}
 use Rattle.format.specs.Report.{rowsIn, remainderIn, verdictByte, be4}
+use Rattle.damage.specs.Words.{row, In}
 use Rattle.comparison.specs.declared.Compared.{Compared}
 use Rattle.expectation.specs.Expectation.{countAt}
 
@@ -44,6 +46,11 @@ verdictsIn d xs = map (λ r. verdictByte (r .verdict)) (rowsIn d xs)
 
 abbrev pub leftIn : Domain → List ℕ → List ℕ
 leftIn d xs = map (λ r. r .number) (remainderIn d xs)
+
+-- each byte of a stream lies in an accepted item
+abbrev pub EachAccepted : Domain → List ℕ → Type 0
+EachAccepted d xs = (i : ℕ) → i < length xs
+    → (k : ℕ) × (k < length (rowsIn d xs)) × In (row (rowsIn d xs) k) i × (row (rowsIn d xs) k .verdict ≡ Accepted)
 
 -- the expectation that is made of them
 abbrev pub ownFile : Domain → List ℕ → List ℕ

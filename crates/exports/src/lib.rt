@@ -15,6 +15,7 @@ use format::ToText;
 use walk_state::Found;
 ghost use mathlib.Core.Path.{_≡_};
 ghost use lib.ListN.{length};
+ghost use Rattle.base.specs.Pick.{pick};
 ghost use Rattle.format.specs.Conversion.{textToBinary, toBinaryNumber, toBinaryValue, binaryLeft, binaryToText, toTextNumber, toTextValue, textLeft};
 ghost use Rattle.format.specs.Units.{text, binary};
 ghost use Rattle.format.specs.Reading.{readText, valueLeft, readBinary, charsLeft};
@@ -26,6 +27,7 @@ ghost use Rattle.exports_values.specs.Answers.{binaryFoundNumber, binaryFoundVa
 ghost use Rattle.exports_values.specs.Answers.{textWrittenNumber, textWrittenValue, binaryWrittenNumber, binaryWrittenValue};
 ghost use Rattle.format.specs.Report.{reportAnswer, reportNumber, reportValue, reportLeft};
 ghost use Rattle.comparison.specs.Comparing.{compared};
+ghost use Rattle.passing.specs.Passing.{passedIn};
 ghost use Rattle.exports_values.specs.Counts.{countsOf};
 ghost use Rattle.exports_values.specs.Lent.{walkOf};
 ghost use Rattle.exports_values.specs.Lent.{textStepNumber, textStepValue, textYieldLeft, textStateLeft};
@@ -372,4 +374,15 @@ pub extern "C" fn cesr_compare(expected: &[u8], report: &[u8], answer: &mut [usi
     let counts = exports_values::counts_of(found);
     *answer = counts;
     found.number
+}
+
+// passed: 1 where the report is of a stream whose every byte lies in an accepted item, else 0; for 20 it is 0.
+#[no_mangle]
+pub extern "C" fn cesr_passed(report: &[u8], passed: &mut usize) -> u8
+    ensures { λ r. ⌜ r ≡ passedIn (now (report .entry)) .number ⌝ }
+    ensures { λ r. ⌜ now (passed .exit) ≡ pick (passedIn (now (report .entry)) .passed) 1 0 ⌝ }
+{
+    let outcome = passing::passed(report);
+    *passed = exports_values::mark_of(outcome.passed);
+    outcome.number
 }

@@ -111,10 +111,10 @@ pub fn place_of(s: &[usize; STATE]) -> Place
     }
 }
 
-fn mark_of(first: bool) -> usize
-    ensures { λ r. ⌜ r ≡ pick first 1 0 ⌝ }
+pub fn mark_of(yes: bool) -> usize
+    ensures { λ r. ⌜ r ≡ pick yes 1 0 ⌝ }
 {
-    if first { 1 } else { 0 }
+    if yes { 1 } else { 0 }
 }
 
 // Too few numbers stay as they are.

@@ -122,3 +122,10 @@ pub fn compare(expected: &[u8], report: &[u8], counts: &mut Counts) -> Result<()
         }),
     }
 }
+
+pub fn passed(report: &[u8]) -> Result<bool, Refusal> {
+    oracle::compare::passed(report).ok_or(Refusal {
+        number: 20,
+        place: 0,
+    })
+}

@@ -2,18 +2,31 @@
 
 use crate::names::{FIXED, GENUS_VERSION, GROUPS, VARIABLES};
 use crate::{to_text_into, Form};
-use std::fmt;
-use std::str::FromStr;
+use core::fmt;
+use core::str::FromStr;
+
+/// How many characters a fixed code has.
+#[derive(Clone, Copy, Debug, PartialEq, Eq, Hash)]
+#[repr(u8)]
+pub enum Chars {
+    /// `M`.
+    One = 1,
+    /// `0H`.
+    Two = 2,
+    /// `1AAM`.
+    Four = 4,
+}
 
 /// A code. The letter is the code's last character, a variable's type or a
 /// group's letter. A value of this type need not be a code of the registry:
-/// the library refuses one that is not with 6.
+/// the library refuses one that is not with 6. Two values that are not equal
+/// name no code alike.
 #[derive(Clone, Copy, Debug, PartialEq, Eq, Hash)]
 pub enum Code {
     /// A fixed code of 1, 2 or 4 characters: `M`, `0H`, `1AAM`.
     Fixed {
         /// The number of its characters.
-        chars: u8,
+        chars: Chars,
         /// Its last character.
         letter: u8,
     },
@@ -41,11 +54,26 @@ pub enum Code {
     },
     /// A genus/version, `-_`.
     GenusVersion,
+    /// No code at all: what [`Code::fixed`] makes of a length that none has.
+    Unknown,
 }
 
 impl Code {
-    /// A fixed code by its number of characters and its last one.
+    /// A fixed code by its number of characters, 1, 2 or 4, and its last one;
+    /// [`Code::Unknown`] for any other number.
+    ///
+    /// ```
+    /// use cesr::Code;
+    /// assert_eq!("0H".parse(), Ok(Code::fixed(2, b'H')));
+    /// assert_eq!(Code::fixed(3, b'H'), Code::Unknown);
+    /// ```
     pub const fn fixed(chars: u8, letter: u8) -> Code {
+        let chars = match chars {
+            1 => Chars::One,
+            2 => Chars::Two,
+            4 => Chars::Four,
+            _ => return Code::Unknown,
+        };
         Code::Fixed { chars, letter }
     }
 
@@ -75,14 +103,13 @@ impl Code {
     /// The library's two numbers.
     pub(crate) fn numbers(self) -> (u8, u8) {
         match self {
-            // From 5 on the first number names another kind: so long a fixed
-            // code is none.
-            Code::Fixed { chars, letter } => (if chars > 4 { 0 } else { chars }, letter),
+            Code::Fixed { chars, letter } => (chars as u8, letter),
             Code::Small { letter } => (5, letter),
             Code::Large { letter } => (6, letter),
             Code::SmallGroup { letter } => (7, letter),
             Code::LargeGroup { letter } => (8, letter),
             Code::GenusVersion => (9, 0),
+            Code::Unknown => (0, 0),
         }
     }
 
@@ -112,14 +139,14 @@ impl Code {
             Code::Small { letter } | Code::Large { letter } => lettered(&VARIABLES, letter),
             Code::SmallGroup { letter } | Code::LargeGroup { letter } => lettered(&GROUPS, letter),
             Code::GenusVersion => Some(GENUS_VERSION),
+            Code::Unknown => None,
         }
     }
 }
 
-fn fixed_name(chars: u8, letter: u8) -> Option<&'static str> {
+fn fixed_name(chars: Chars, letter: u8) -> Option<&'static str> {
     let mut rows = FIXED.iter().map(|(code, name)| (code.as_bytes(), *name));
-    let found =
-        rows.find(|(code, _)| code.last() == Some(&letter) && usize::from(chars) == code.len());
+    let found = rows.find(|(code, _)| code.last() == Some(&letter) && chars as usize == code.len());
     found.map(|(_, name)| name)
 }
 
@@ -138,7 +165,7 @@ impl fmt::Display for ParseCodeError {
     }
 }
 
-impl std::error::Error for ParseCodeError {}
+impl core::error::Error for ParseCodeError {}
 
 /// A primitive's code by its characters. A variable's selector tells small
 /// from large; the lead follows from the length of the value.
@@ -167,13 +194,47 @@ impl FromStr for Code {
 /// A code with the lead bytes of a variable, which tell its selector.
 #[derive(Clone, Copy, Debug, PartialEq, Eq, Hash)]
 pub struct Head {
-    /// The code.
-    pub code: Code,
-    /// Lead bytes of a variable; else 0.
-    pub lead: u8,
+    code: Code,
+    lead: u8,
 }
 
 impl Head {
+    /// A code and its lead bytes: 0, 1 or 2 of a variable, 0 of any other;
+    /// none where the code has no such lead.
+    ///
+    /// ```
+    /// use cesr::{Code, Head};
+    /// let head = Head::new(Code::small(b'B'), 1).expect("a lead of a variable");
+    /// assert_eq!(head.to_string(), "5B");
+    /// assert_eq!(Head::new(Code::fixed(1, b'M'), 1), None);
+    /// ```
+    pub const fn new(code: Code, lead: u8) -> Option<Head> {
+        let most = match code {
+            Code::Small { .. } | Code::Large { .. } => 2,
+            _ => 0,
+        };
+        match lead <= most {
+            true => Some(Head { code, lead }),
+            false => None,
+        }
+    }
+
+    /// As the library answered it.
+    pub(crate) fn answered(code: Code, lead: usize) -> Head {
+        let lead = u8::try_from(lead).unwrap_or(0);
+        Head::new(code, lead).unwrap_or(Head { code, lead: 0 })
+    }
+
+    /// The code.
+    pub const fn code(&self) -> Code {
+        self.code
+    }
+
+    /// Lead bytes of a variable; else 0.
+    pub const fn lead(&self) -> u8 {
+        self.lead
+    }
+
     /// What stands at the start of an item that the library has framed, for
     /// display; none where no code of the registry does. It is no verdict: a
     /// refused item has a head too.
@@ -224,14 +285,20 @@ impl fmt::Display for Head {
     fn fmt(&self, f: &mut fmt::Formatter<'_>) -> fmt::Result {
         let selector = |first: u8| char::from(first.saturating_add(self.lead));
         match self.code {
-            Code::Fixed { chars: 2, letter } => write!(f, "0{}", char::from(letter)),
-            Code::Fixed { chars: 4, letter } => write!(f, "1AA{}", char::from(letter)),
-            Code::Fixed { letter, .. } => write!(f, "{}", char::from(letter)),
+            Code::Fixed { chars, letter } => {
+                let before = match chars {
+                    Chars::One => "",
+                    Chars::Two => "0",
+                    Chars::Four => "1AA",
+                };
+                write!(f, "{before}{}", char::from(letter))
+            }
             Code::Small { letter } => write!(f, "{}{}", selector(b'4'), char::from(letter)),
             Code::Large { letter } => write!(f, "{}AA{}", selector(b'7'), char::from(letter)),
             Code::SmallGroup { letter } => write!(f, "-{}", char::from(letter)),
             Code::LargeGroup { letter } => write!(f, "--{}", char::from(letter)),
             Code::GenusVersion => f.write_str("-_"),
+            Code::Unknown => f.write_str("?"),
         }
     }
 }

@@ -1,6 +1,7 @@
 //! Expected verdicts, and what came of them.
 
 use crate::{Refusal, Report, Verdict};
+use alloc::vec::Vec;
 
 /// The verdicts that are expected of a stream's items, in order, and of its
 /// remainder: what an expectation file says.
@@ -79,8 +80,11 @@ impl Comparison {
     }
 }
 
-/// An expectation file compared with a report: refused 20 where one of them is
-/// not well made.
+/// An expectation file compared with a report.
+///
+/// # Errors
+///
+/// 20 where one of them is not well made.
 ///
 /// ```
 /// use cesr::{compare, Number};
@@ -89,7 +93,7 @@ impl Comparison {
 /// let found = compare(&[0, 0, 0, 1, 0, 0, 0, 0, 0], &[0; 12])?;
 /// assert_eq!((found.passed, found.not_reached), (0, 1));
 /// assert!(!found.is_as_expected());
-/// assert_eq!(compare(&[0; 9], &[0; 12]).unwrap_err().number, Number::MALFORMED);
+/// assert_eq!(compare(&[0; 9], &[0; 12]).unwrap_err().number, Number::Malformed);
 /// # Ok::<(), cesr::Refusal>(())
 /// ```
 pub fn compare(expected: &[u8], report: &[u8]) -> Result<Comparison, Refusal> {

@@ -1,7 +1,7 @@
 //! Text and binary: the two forms a stream comes in.
 
-use std::fmt;
-use std::str::FromStr;
+use core::fmt;
+use core::str::FromStr;
 
 /// The form of a stream. The same rules hold in both.
 #[derive(Clone, Copy, Debug, PartialEq, Eq, Hash)]
@@ -106,7 +106,7 @@ impl fmt::Display for ParseFormError {
     }
 }
 
-impl std::error::Error for ParseFormError {}
+impl core::error::Error for ParseFormError {}
 
 impl FromStr for Form {
     type Err = ParseFormError;

@@ -3,8 +3,8 @@
 //! Nothing here judges. Every verdict, size, place and number is an answer of
 //! the proved library, which is linked in as a static archive; this crate
 //! lends it memory and gives its answers types. Its calls take any bytes of
-//! any length and panic on none of them. Standard library only, no unsafe
-//! code: the foreign calls stand in the crate `proved`.
+//! any length and panic on none of them. It asks for `alloc` and no `std`, and
+//! has no unsafe code: the foreign calls stand in the crate `proved`.
 //!
 //! | To | Call |
 //! | --- | --- |
@@ -26,11 +26,12 @@
 //! stream longer than [`Form::limit`] is refused.
 //!
 //! `Ok` of [`judge`] is a report and no pass: refused items stand in it.
-//! [`Report::accepts_all`] says whether every byte of a stream is accepted.
+//! [`Report::passed`] says whether every byte of a stream is accepted.
 //!
 //! The library keeps nothing between calls and allocates nothing; all calls
-//! may be made from many threads at once. It is built by `rt staticlib
-//! exports` at the project's top before this crate is.
+//! may be made from many threads at once. Where it is found, the crate `proved`
+//! says: in the project it is built by `rt staticlib exports`, a release has
+//! it, and outside of both it is the one that is installed.
 //!
 //! ```
 //! use cesr::{judge, Form, Number};
@@ -41,25 +42,29 @@
 //!
 //! let row = report.refusals().next().expect("one item is refused");
 //! assert_eq!((row.index, row.refusal.place), (0, 4));
-//! assert_eq!(row.refusal.number, Number::PAST_END);
+//! assert_eq!(row.refusal.number, Number::PastEnd);
 //! assert_eq!(
 //!     row.refusal.number.words(),
 //!     "header or full size passes the end of stream or enclosing group"
 //! );
 //! assert!(report.remainder().is_none());
-//! assert!(!report.accepts_all(12));
+//! assert!(!report.passed());
 //! # Ok::<(), cesr::Refusal>(())
 //! ```
 
+#![no_std]
 #![forbid(unsafe_code)]
 #![warn(missing_docs)]
 #![deny(
     clippy::arithmetic_side_effects,
     clippy::expect_used,
+    clippy::missing_errors_doc,
     clippy::indexing_slicing,
     clippy::panic,
     clippy::unwrap_used
 )]
+
+extern crate alloc;
 
 mod code;
 mod convert;
@@ -72,7 +77,7 @@ mod refusal;
 mod report;
 mod walk;
 
-pub use code::{Code, Head, ParseCodeError};
+pub use code::{Chars, Code, Head, ParseCodeError};
 pub use convert::{to_binary, to_binary_into, to_text, to_text_into};
 pub use expectation::{compare, Comparison, Expectation};
 pub use form::{Form, ParseFormError};
@@ -87,6 +92,10 @@ pub use report::{
     judge, judge_into, judge_with, Item, Items, RefusalRow, Refusals, Remainder, Report, Verdict,
 };
 pub use walk::{item_at, Instalment, Pause, State, Step, Walk, STATE_BYTES};
+
+/// The version of this crate, which is that of the library, the header and the
+/// command.
+pub const VERSION: &str = env!("CARGO_PKG_VERSION");
 
 /// The guide's Rust examples run as tests of this crate.
 #[cfg(doctest)]

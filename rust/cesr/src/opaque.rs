@@ -52,7 +52,7 @@ impl Opaque {
         let mut walk = Walk::new(form, item).map_while(Result::ok).peekable();
         while let Some(step) = walk.next() {
             let opened = walk.peek().is_some_and(|next| next.depth > step.depth);
-            if step.head.code.is_group() && !opened {
+            if step.head.code().is_group() && !opened {
                 self.add(contents(form, &step));
             }
         }
@@ -67,7 +67,7 @@ impl Opaque {
 
 /// What a group holds behind its header of one unit, or two.
 fn contents(form: Form, group: &Step) -> usize {
-    let header = match group.head.code {
+    let header = match group.head.code() {
         Code::LargeGroup { .. } => form.unit().saturating_mul(2),
         _ => form.unit(),
     };

@@ -1,8 +1,11 @@
 //! One primitive: read from a stream, or written as an item.
 
 use crate::{Code, Form, Head, Number, Refusal};
-use std::borrow::Cow;
-use std::fmt;
+use alloc::borrow::Cow;
+use alloc::string::String;
+use alloc::vec;
+use alloc::vec::Vec;
+use core::fmt;
 
 /// The most tag characters that an item holds.
 const MOST_TAGS: usize = 11;
@@ -101,9 +104,13 @@ impl Primitive<'_> {
     }
 }
 
-/// Reads the primitive at an offset: refused 1, 4 at or past the end, as it is
-/// framed (never 7), 14 for a group or genus/version, then as it is judged. A
-/// raw value of a binary is the part of the stream where it lies.
+/// Reads the primitive at an offset. A raw value of a binary is the part of the
+/// stream where it lies.
+///
+/// # Errors
+///
+/// 1, 4 at or past the end, as it is framed (never 7), 14 for a group or
+/// genus/version, then as it is judged.
 ///
 /// ```
 /// use cesr::{read, Form, Number};
@@ -118,13 +125,13 @@ impl Primitive<'_> {
 /// assert_eq!(path.text(), Some("-a-personal"));
 ///
 /// let refusal = read(Form::Text, b"-AABMAAB", 0).unwrap_err();
-/// assert_eq!(refusal.number, Number::NOT_A_PRIMITIVE);
+/// assert_eq!(refusal.number, Number::NotAPrimitive);
 /// # Ok::<(), cesr::Refusal>(())
 /// ```
 pub fn read(form: Form, stream: &[u8], at: usize) -> Result<Primitive<'_>, Refusal> {
     let mut first = [0; FIRST_ROOM];
     match Found::in_stream(form, stream, at, &mut first) {
-        Err(refusal) if refusal.number == Number::ROOM => {
+        Err(refusal) if refusal.number == Number::Room => {
             // No value has more than four characters a unit.
             let left = form.units(stream.len().saturating_sub(at));
             let mut out = vec![0; Form::Text.room(left)];
@@ -136,8 +143,12 @@ pub fn read(form: Form, stream: &[u8], at: usize) -> Result<Primitive<'_>, Refus
 }
 
 /// Reads the primitive of a text; its raw value, or its text, is copied to the
-/// start of `out`. Refused as [`read`], then 3 if the room is below its length.
-/// Refused, `out` stays as it was.
+/// start of `out`.
+///
+/// # Errors
+///
+/// As [`read`], then 3 if the room is below its length. Refused, `out` stays as
+/// it was.
 pub fn read_text_into<'o>(
     text: &[u8],
     at: usize,
@@ -149,9 +160,12 @@ pub fn read_text_into<'o>(
 }
 
 /// Reads the primitive of a binary; a raw value is the part of the stream where
-/// it lies, and only a text is copied to the start of `out`. Refused as
-/// [`read`], then 3 if the room is below the text's length. Refused, `out` stays
-/// as it was.
+/// it lies, and only a text is copied to the start of `out`.
+///
+/// # Errors
+///
+/// As [`read`], then 3 if the room is below the text's length. Refused, `out`
+/// stays as it was.
 ///
 /// ```
 /// use cesr::{read_binary_into, Number};
@@ -163,7 +177,7 @@ pub fn read_text_into<'o>(
 /// let item = read_binary_into(b"\xE4\x00\x01\x00\x0F\x9A", 0, &mut out)?;
 /// assert_eq!(item.text(), Some("-a"));
 /// let refusal = read_binary_into(b"\xE4\x00\x01\x00\x0F\x9A", 0, &mut []).unwrap_err();
-/// assert_eq!(refusal.number, Number::ROOM);
+/// assert_eq!(refusal.number, Number::Room);
 /// # Ok::<(), cesr::Refusal>(())
 /// ```
 pub fn read_binary_into<'a>(
@@ -233,10 +247,7 @@ impl Found {
     fn primitive(self, form: Form, value: Value<'_>) -> Primitive<'_> {
         let [_, _, units, _, _, count, _] = self.info;
         Primitive {
-            head: Head {
-                code: self.code(),
-                lead: self.lead(),
-            },
+            head: Head::answered(self.code(), self.lead()),
             size: units.saturating_mul(form.unit()),
             tag: Tag {
                 characters: self.tag,
@@ -248,7 +259,7 @@ impl Found {
 
     /// The lead bytes of a variable: between the header and the raw value; of a
     /// text one less than the `A` that fill it up, and none where there are none.
-    fn lead(&self) -> u8 {
+    fn lead(&self) -> usize {
         let [_, _, units, start, _, _, text] = self.info;
         let code = self.code();
         let header: usize = match code {
@@ -256,22 +267,24 @@ impl Found {
             Code::Large { .. } => 2,
             _ => return 0,
         };
-        let lead = if code.is_text() {
+        if code.is_text() {
             let filled = Form::Text.room(units.saturating_sub(header));
             filled.saturating_sub(text).saturating_sub(1)
         } else {
             start.saturating_sub(Form::Binary.room(header))
-        };
-        u8::try_from(lead).unwrap_or(0)
+        }
     }
 }
 
-/// Writes a primitive; for type `A` `raw` is the characters of its text. Refused
+/// Writes a primitive; for type `A` `raw` is the characters of its text. For
+/// variables [`write_variable`] takes the code that fits.
+///
+/// # Errors
+///
 /// 6 for a code that is no primitive's, 12 for a raw length, text or number of
 /// tag characters unfit for the code, 18 for a large code where the small one
 /// holds the value, 5 or 19 for a character of a tag or text, its place the
-/// index among them, 16 for a text that starts with `A`. For variables
-/// [`write_variable`] takes the code that fits.
+/// index among them, 16 for a text that starts with `A`.
 ///
 /// ```
 /// use cesr::{write, Code, Form, Number};
@@ -279,7 +292,7 @@ impl Found {
 /// assert_eq!(write(Form::Text, Code::small(b'A'), b"", b"-a")?, b"5AABAA-a");
 /// assert_eq!(write(Form::Text, "0J".parse()?, b"A", b"")?, b"0J_A");
 /// let refusal = write(Form::Text, "M".parse()?, b"", b"one").unwrap_err();
-/// assert_eq!(refusal.number, Number::UNFIT_LENGTH);
+/// assert_eq!(refusal.number, Number::UnfitLength);
 /// # Ok::<(), Box<dyn std::error::Error>>(())
 /// ```
 pub fn write(form: Form, code: Code, tag: &[u8], raw: &[u8]) -> Result<Vec<u8>, Refusal> {
@@ -289,9 +302,13 @@ pub fn write(form: Form, code: Code, tag: &[u8], raw: &[u8]) -> Result<Vec<u8>, 
     Ok(out)
 }
 
-/// Writes a primitive at the start of `out`: refused as [`write()`], then 3 if
-/// the room is below the item's size, else the length written. Refused, `out`
-/// stays as it was. A second item goes into the rest of the buffer.
+/// Writes a primitive at the start of `out`: the length written. A second item
+/// goes into the rest of the buffer.
+///
+/// # Errors
+///
+/// As [`write()`], then 3 if the room is below the item's size. Refused, `out`
+/// stays as it was.
 pub fn write_into(
     form: Form,
     code: Code,
@@ -317,9 +334,12 @@ pub fn write_into(
 
 /// Writes a variable value of a type with the one code that holds it: the
 /// small one, or the large one where it does not fit there. For type `A` `raw`
-/// is the characters of its text. Refused 6 for a letter that is no type, 12
-/// beyond 3,145,722 raw bytes or 4,194,296 characters, and a text as by
-/// [`write()`].
+/// is the characters of its text.
+///
+/// # Errors
+///
+/// 6 for a letter that is no type, 12 beyond 3,145,722 raw bytes or 4,194,296
+/// characters, and a text as by [`write()`].
 ///
 /// ```
 /// use cesr::{read, write_variable, Form, Number};
@@ -335,10 +355,10 @@ pub fn write_into(
 /// assert_eq!(read(Form::Text, &large, 0)?.raw(), &raw);
 ///
 /// let refusal = write_variable(Form::Text, b'G', b"hi").unwrap_err();
-/// assert_eq!(refusal.number, Number::UNKNOWN_CODE);
+/// assert_eq!(refusal.number, Number::UnknownCode);
 /// // It would be taken for fill.
 /// let refusal = write_variable(Form::Text, b'A', b"Abc").unwrap_err();
-/// assert_eq!(refusal.number, Number::TEXT_FILL);
+/// assert_eq!(refusal.number, Number::TextFill);
 /// # Ok::<(), cesr::Refusal>(())
 /// ```
 pub fn write_variable(form: Form, letter: u8, raw: &[u8]) -> Result<Vec<u8>, Refusal> {
@@ -348,9 +368,12 @@ pub fn write_variable(form: Form, letter: u8, raw: &[u8]) -> Result<Vec<u8>, Ref
     Ok(out)
 }
 
-/// Writes a variable value at the start of `out`: refused as
-/// [`write_variable`], then 3 if the room is below the item's size, else the
-/// length written. Refused, `out` stays as it was.
+/// Writes a variable value at the start of `out`: the length written.
+///
+/// # Errors
+///
+/// As [`write_variable`], then 3 if the room is below the item's size. Refused,
+/// `out` stays as it was.
 ///
 /// ```
 /// use cesr::{write_variable_into, Form, Number};
@@ -359,7 +382,7 @@ pub fn write_variable(form: Form, letter: u8, raw: &[u8]) -> Result<Vec<u8>, Ref
 /// let second = write_variable_into(Form::Text, b'B', b"a", &mut out[first..])?;
 /// assert_eq!(&out[..first + second], b"5BABAGhp6BABAABh");
 /// let refusal = write_variable_into(Form::Text, b'B', b"hi", &mut out[16..]).unwrap_err();
-/// assert_eq!(refusal.number, Number::ROOM);
+/// assert_eq!(refusal.number, Number::Room);
 /// # Ok::<(), cesr::Refusal>(())
 /// ```
 pub fn write_variable_into(
@@ -370,7 +393,7 @@ pub fn write_variable_into(
 ) -> Result<usize, Refusal> {
     // The library says what a small code does not hold.
     match write_into(form, Code::small(letter), b"", raw, out) {
-        Err(refusal) if refusal.number == Number::UNFIT_LENGTH => {
+        Err(refusal) if refusal.number == Number::UnfitLength => {
             write_into(form, Code::large(letter), b"", raw, out)
         }
         answer => answer,

@@ -1,20 +1,27 @@
 //! The report of a stream, and its rows.
 
 use crate::{Form, Number, Refusal, State, Walk};
-use std::borrow::Cow;
-use std::iter::{Enumerate, FusedIterator};
-use std::ops::Range;
-use std::slice::ChunksExact;
+use alloc::borrow::Cow;
+use alloc::vec;
+use alloc::vec::Vec;
+use core::fmt;
+use core::iter::{Enumerate, FusedIterator};
+use core::ops::Range;
+use core::slice::ChunksExact;
 
 /// Bytes of a row of items or refusals.
 const ROW: usize = 9;
 /// Bytes of a remainder's row.
 const REMAINDER: usize = 5;
 
-/// Judges a stream: refused 1 if it is too long, else its report.
+/// Judges a stream: its report.
 ///
-/// A report is no pass: what is refused stands in it. [`Report::accepts_all`]
-/// says whether all of the stream is accepted.
+/// A report is no pass: what is refused stands in it. [`Report::passed`] says
+/// whether all of the stream is accepted.
+///
+/// # Errors
+///
+/// 1 if the stream is too long.
 ///
 /// ```
 /// use cesr::{judge, Form, Verdict};
@@ -29,8 +36,11 @@ pub fn judge(form: Form, stream: &[u8]) -> Result<Report<'static>, Refusal> {
 }
 
 /// Judges a stream into a buffer that is given away, for those who must know
-/// beforehand whether there is memory for it: refused as [`judge_into`] is.
-/// [`Report::room`] is enough.
+/// beforehand whether there is memory for it. [`Report::room`] is enough.
+///
+/// # Errors
+///
+/// As [`judge_into`].
 ///
 /// ```
 /// use cesr::{judge, judge_with, Form, Report};
@@ -47,8 +57,12 @@ pub fn judge_with(form: Form, stream: &[u8], mut out: Vec<u8>) -> Result<Report<
     Ok(Report::over(Cow::Owned(out)))
 }
 
-/// Judges a stream into a lent buffer: refused 1, then 3 exactly if the room
-/// is below 17 + 18 x items. Refused, `out` stays as it was.
+/// Judges a stream into a lent buffer.
+///
+/// # Errors
+///
+/// 1, then 3 exactly if the room is below 17 + 18 x items. Refused, `out` stays
+/// as it was.
 ///
 /// ```
 /// use cesr::{judge_into, Form, Number};
@@ -56,7 +70,7 @@ pub fn judge_with(form: Form, stream: &[u8], mut out: Vec<u8>) -> Result<Report<
 /// let report = judge_into(Form::Text, b"-AAB0AAAMAAB", &mut out)?;
 /// assert_eq!(report.as_bytes().len(), 39);
 /// let refusal = judge_into(Form::Text, b"-AAB0AAAMAAB", &mut [0; 52]).unwrap_err();
-/// assert_eq!(refusal.number, Number::ROOM);
+/// assert_eq!(refusal.number, Number::Room);
 /// # Ok::<(), cesr::Refusal>(())
 /// ```
 pub fn judge_into<'a>(form: Form, stream: &[u8], out: &'a mut [u8]) -> Result<Report<'a>, Refusal> {
@@ -75,6 +89,16 @@ fn report(form: Form, stream: &[u8], out: &mut [u8]) -> Result<usize, Refusal> {
 
 /// What the library says of a stream: its top-level items in order, the
 /// refusals among them, and the remainder that could not be framed.
+///
+/// ```
+/// use cesr::{judge, Form};
+/// let report = judge(Form::Text, b"MAABMQAAE8wY")?;
+/// assert_eq!(report.to_string(), "2 items, 1 accepted, 1 refused, remainder 4 from 8");
+/// for item in &report {
+///     assert_eq!(item.verdict.to_string(), ["accepted", "refused 8"][item.index]);
+/// }
+/// # Ok::<(), cesr::Refusal>(())
+/// ```
 #[must_use = "a report may hold refusals"]
 #[derive(Clone, Debug, PartialEq, Eq)]
 pub struct Report<'a> {
@@ -142,12 +166,25 @@ impl<'a> Report<'a> {
         self.items().filter(|item| !item.is_accepted()).count()
     }
 
-    /// Has the stream of this length a byte, and does each of its bytes lie in
-    /// an accepted item? This is what a certificate asks.
+    /// Has the stream a byte, and does every byte lie in an accepted item? This
+    /// is what a certificate asks, and the library answers it.
     ///
-    /// It asks for the evidence and not for the absence of refusals: the sizes
-    /// of the accepted items must make up the length. Of the empty stream there
-    /// is none, so the answer is no.
+    /// ```
+    /// use cesr::{judge, Form};
+    /// assert!(judge(Form::Text, b"MAAB1AAM")?.passed());
+    /// assert!(!judge(Form::Text, b"MAABMQAA")?.passed());
+    /// // An item is accepted and none is refused, yet four bytes are left over.
+    /// assert!(!judge(Form::Text, b"MAABE8wY")?.passed());
+    /// // Of the empty stream nothing was judged.
+    /// assert!(!judge(Form::Text, b"")?.passed());
+    /// # Ok::<(), cesr::Refusal>(())
+    /// ```
+    pub fn passed(&self) -> bool {
+        proved::passed(&self.bytes) == Ok(true)
+    }
+
+    /// Did it pass, and do the sizes of its items make up this length? For
+    /// those who hold a report beside a stream that may be another's.
     ///
     /// ```
     /// use cesr::{judge, Form};
@@ -158,10 +195,8 @@ impl<'a> Report<'a> {
     /// # Ok::<(), cesr::Refusal>(())
     /// ```
     pub fn accepts_all(&self, length: usize) -> bool {
-        let accepted = self.items().filter(Item::is_accepted);
-        let sum = accepted.fold(0, |sum: usize, item| sum.saturating_add(item.size));
-        let complaints = self.refusals().next().is_some() || self.remainder().is_some();
-        length > 0 && sum == length && !complaints
+        let sizes = self.items().map(|item| item.size);
+        self.passed() && sizes.fold(0, usize::saturating_add) == length
     }
 
     /// Each section stands behind its count in 4 bytes. Where bytes are
@@ -174,6 +209,30 @@ impl<'a> Report<'a> {
             items,
             refusals,
             remainder,
+        }
+    }
+}
+
+impl<'r> IntoIterator for &'r Report<'_> {
+    type Item = Item;
+    type IntoIter = Items<'r>;
+
+    /// The items in stream order.
+    fn into_iter(self) -> Items<'r> {
+        self.items()
+    }
+}
+
+/// The sums on one line: `5 items, 4 accepted, 1 refused, remainder 4 from 8`.
+impl fmt::Display for Report<'_> {
+    fn fmt(&self, f: &mut fmt::Formatter<'_>) -> fmt::Result {
+        let items = self.items().len();
+        let are = if items == 1 { "item" } else { "items" };
+        let (accepted, refused) = (self.accepted(), self.refused());
+        write!(f, "{items} {are}, {accepted} accepted, {refused} refused, ")?;
+        match self.remainder() {
+            Some(rest) => write!(f, "{rest}"),
+            None => f.write_str("no remainder"),
         }
     }
 }
@@ -239,6 +298,16 @@ impl Verdict {
     }
 }
 
+/// `accepted`, or `refused 8`.
+impl fmt::Display for Verdict {
+    fn fmt(&self, f: &mut fmt::Formatter<'_>) -> fmt::Result {
+        match self {
+            Verdict::Accepted => f.write_str("accepted"),
+            Verdict::Refused(number) => write!(f, "refused {number}"),
+        }
+    }
+}
+
 /// The refusal of an item.
 #[derive(Clone, Copy, Debug, PartialEq, Eq)]
 pub struct RefusalRow {
@@ -246,6 +315,13 @@ pub struct RefusalRow {
     pub index: usize,
     /// Why and where, the place counted from the stream's start.
     pub refusal: Refusal,
+}
+
+/// `item 2: refused 8 at 80: pad bit or lead byte not zero`.
+impl fmt::Display for RefusalRow {
+    fn fmt(&self, f: &mut fmt::Formatter<'_>) -> fmt::Result {
+        write!(f, "item {}: {}", self.index, self.refusal)
+    }
 }
 
 /// The part of a stream that could not be framed. It runs to the stream's end
@@ -256,6 +332,13 @@ pub struct Remainder {
     pub offset: usize,
     /// Why nothing could be framed there: 4, 5, 6 or 7.
     pub number: Number,
+}
+
+/// `remainder 4 from 8`.
+impl fmt::Display for Remainder {
+    fn fmt(&self, f: &mut fmt::Formatter<'_>) -> fmt::Result {
+        write!(f, "remainder {} from {}", self.number, self.offset)
+    }
 }
 
 impl Remainder {

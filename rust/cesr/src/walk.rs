@@ -71,7 +71,7 @@ impl State {
     /// use cesr::{Form, Number, Pause, State, Walk, STATE_BYTES};
     /// let state = State::from_bytes(&[7; STATE_BYTES]);
     /// let pause = Walk::resumed(Form::Text, b"MAAB", state).walk_on(0).pause;
-    /// assert!(matches!(pause, Pause::Refused(refusal) if refusal.number == Number::UNFIT_STATE));
+    /// assert!(matches!(pause, Pause::Refused(refusal) if refusal.number == Number::UnfitState));
     /// ```
     pub fn from_bytes(bytes: &[u8; STATE_BYTES]) -> State {
         let mut numbers = [0; STATE];
@@ -229,7 +229,7 @@ impl Iterator for Walk<'_> {
     }
 }
 
-impl std::iter::FusedIterator for Walk<'_> {}
+impl core::iter::FusedIterator for Walk<'_> {}
 
 impl Step {
     fn of(item: proved::Item) -> Step {
@@ -238,10 +238,7 @@ impl Step {
             offset,
             size,
             depth,
-            head: Head {
-                code: Code::answered(chars, letter),
-                lead: u8::try_from(lead).unwrap_or(0),
-            },
+            head: Head::answered(Code::answered(chars, letter), lead),
         }
     }
 }
@@ -252,12 +249,16 @@ impl Step {
 /// opaque one are), and a genus/version of any version is an item. Its depth
 /// is then 1.
 ///
+/// # Errors
+///
+/// 1, 4 at or past the end, then as it is framed and judged, 7 excepted.
+///
 /// ```
 /// use cesr::{item_at, Form, Number};
 /// let group = item_at(Form::Text, b"MAAB-AABMQAA", 4)?;
 /// assert_eq!((group.head.to_string().as_str(), group.size), ("-A", 8));
 /// let refusal = item_at(Form::Text, b"MAAB-AABMQAA", 8).unwrap_err();
-/// assert_eq!((refusal.number, refusal.place), (Number::NOT_ZERO, 8));
+/// assert_eq!((refusal.number, refusal.place), (Number::NotZero, 8));
 /// # Ok::<(), cesr::Refusal>(())
 /// ```
 pub fn item_at(form: Form, stream: &[u8], at: usize) -> Result<Step, Refusal> {
@@ -268,7 +269,7 @@ pub fn item_at(form: Form, stream: &[u8], at: usize) -> Result<Step, Refusal> {
             depth: 1,
             head: found.head,
         }),
-        Err(refusal) if refusal.number == Number::NOT_A_PRIMITIVE => {
+        Err(refusal) if refusal.number == Number::NotAPrimitive => {
             within_a_group(form, stream, at).unwrap_or(Err(refusal))
         }
         Err(refusal) => Err(refusal),

@@ -102,8 +102,8 @@ fn every_byte_lies_in_an_item_or_the_remainder() {
             assert!(told.contains(&refusal.place));
             let character = stream[refusal.place];
             match refusal.number {
-                Number::CHARACTER => assert!(!character.is_ascii_alphanumeric()),
-                Number::ORDINARY_BASE64 => assert!(b"+/=".contains(&character)),
+                Number::Character => assert!(!character.is_ascii_alphanumeric()),
+                Number::OrdinaryBase64 => assert!(b"+/=".contains(&character)),
                 _ => {}
             }
         }
@@ -113,6 +113,8 @@ fn every_byte_lies_in_an_item_or_the_remainder() {
             clean && !stream.is_empty()
         );
         assert!(!report.accepts_all(stream.len() + 1));
+        assert_eq!(report.passed(), clean && !stream.is_empty());
+        assert!((&report).into_iter().eq(report.items()));
     });
 }
 
@@ -124,7 +126,7 @@ fn a_lent_buffer_gets_the_same_report() {
         let mut out = vec![0xAA; room];
         assert_eq!(judge_into(form, stream, &mut out), Ok(report));
         let refusal = judge_into(form, stream, &mut out[..room - 1]).unwrap_err();
-        assert_eq!((refusal.number, refusal.place), (Number::ROOM, 0));
+        assert_eq!((refusal.number, refusal.place), (Number::Room, 0));
     });
 }
 
@@ -137,18 +139,18 @@ fn walks_reads_and_writes_agree() {
             let found = item_at(form, stream, step.offset).unwrap();
             assert_eq!((found.head, found.size), (step.head, step.size));
             let Ok(primitive) = read(form, stream, step.offset) else {
-                assert!(step.head.code.is_group() || step.head.name() == Some("Genus/version"));
+                assert!(step.head.code().is_group() || step.head.name() == Some("Genus/version"));
                 continue;
             };
             assert_eq!((primitive.head, primitive.size), (step.head, step.size));
             let tag = primitive.tag.as_bytes();
             let value = primitive.value.as_bytes();
-            let written = write(form, step.head.code, tag, value).unwrap();
+            let written = write(form, step.head.code(), tag, value).unwrap();
             assert_eq!(written, &stream[step.offset..step.offset + step.size]);
-            if let Code::Small { letter } | Code::Large { letter } = step.head.code {
+            if let Code::Small { letter } | Code::Large { letter } = step.head.code() {
                 assert_eq!(write_variable(form, letter, value), Ok(written));
             }
-            let is_text = step.head.code.is_text();
+            let is_text = step.head.code().is_text();
             assert_eq!(primitive.text().is_some(), is_text);
             assert_eq!(primitive.raw() == value, !is_text || value.is_empty());
         }
@@ -233,7 +235,7 @@ fn bytes_of_no_walk_come_back() {
         let state = State::from_bytes(&bytes);
         assert_eq!(state.to_bytes(), bytes);
         let pause = Walk::resumed(Form::Text, b"MAAB", state).walk_on(0).pause;
-        assert!(matches!(pause, Pause::Refused(refusal) if refusal.number == Number::UNFIT_STATE));
+        assert!(matches!(pause, Pause::Refused(refusal) if refusal.number == Number::UnfitState));
     }
 }
 
@@ -244,7 +246,7 @@ fn a_walk_ends_with_its_refusal() {
     assert!(walk.next().unwrap().is_ok());
     let state = walk.state();
     let refusal = walk.next().unwrap().unwrap_err();
-    assert_eq!((refusal.number, refusal.place), (Number::NOT_ZERO, 4));
+    assert_eq!((refusal.number, refusal.place), (Number::NotZero, 4));
     assert_eq!(walk.state(), state);
     assert_eq!((walk.next(), walk.next()), (None, None));
 }
@@ -260,7 +262,7 @@ fn the_limit_is_where_the_library_has_it() {
         assert!(report.accepts_all(stream.len()));
         stream.push(unit[0]);
         let number = |answer: Result<(), cesr::Refusal>| answer.map_err(|refusal| refusal.number);
-        let too_long = Err(Number::TOO_LONG);
+        let too_long = Err(Number::TooLong);
         assert_eq!(number(judge(form, &stream).map(|_| ())), too_long);
         assert_eq!(number(read(form, &stream, 0).map(|_| ())), too_long);
         assert_eq!(number(item_at(form, &stream, 0).map(|_| ())), too_long);
@@ -281,14 +283,14 @@ fn lent_buffers() {
     assert_eq!(out[2..], [0xAA; 7]);
     let mut out = [0xAA; 9];
     let refusal = read_text_into(b"5BABAGhp", 0, &mut out[..1]).unwrap_err();
-    assert_eq!((refusal.number, out), (Number::ROOM, [0xAA; 9]));
+    assert_eq!((refusal.number, out), (Number::Room, [0xAA; 9]));
 
     // `5AABAA-a` in binary: a text is copied out of either form.
     let binary = b"\xE4\x00\x01\x00\x0F\x9A";
     let refusal = read_text_into(b"5AABAA-a", 0, &mut out[..1]).unwrap_err();
-    assert_eq!((refusal.number, out), (Number::ROOM, [0xAA; 9]));
+    assert_eq!((refusal.number, out), (Number::Room, [0xAA; 9]));
     let refusal = read_binary_into(binary, 0, &mut out[..1]).unwrap_err();
-    assert_eq!((refusal.number, out), (Number::ROOM, [0xAA; 9]));
+    assert_eq!((refusal.number, out), (Number::Room, [0xAA; 9]));
     let item = read_binary_into(binary, 0, &mut out[..2]).unwrap();
     assert_eq!((item.text(), item.raw()), (Some("-a"), &[][..]));
     assert_eq!((&out[..2], &out[2..]), (&b"-a"[..], &[0xAA; 7][..]));
@@ -299,13 +301,13 @@ fn lent_buffers() {
 
     let code = cesr::Code::small(b'B');
     let refusal = write_into(Form::Text, code, b"", b"hi", &mut out[..7]).unwrap_err();
-    assert_eq!((refusal.number, out), (Number::ROOM, [0xAA; 9]));
+    assert_eq!((refusal.number, out), (Number::Room, [0xAA; 9]));
     assert_eq!(write_into(Form::Text, code, b"", b"hi", &mut out), Ok(8));
     assert_eq!(&out, b"5BABAGhp\xAA");
 
     let mut out = [0xAA; 4];
     let refusal = to_binary_into(b"1AAM", &mut out[..2]).unwrap_err();
-    assert_eq!((refusal.number, out), (Number::ROOM, [0xAA; 4]));
+    assert_eq!((refusal.number, out), (Number::Room, [0xAA; 4]));
     assert_eq!(to_binary_into(b"1AAM", &mut out), Ok(3));
     assert_eq!(out, [0xD4, 0x00, 0x0C, 0xAA]);
     let mut out = [0xAA; 4];
@@ -324,25 +326,25 @@ fn what_a_writer_refuses() {
             cesr::Code::GenusVersion,
             &b""[..],
             &b""[..],
-            Number::UNKNOWN_CODE,
+            Number::UnknownCode,
             0,
         ),
         (
             cesr::Code::SmallGroup { letter: b'A' },
             b"",
             b"",
-            Number::UNKNOWN_CODE,
+            Number::UnknownCode,
             0,
         ),
-        (tag, b"ab", b"", Number::UNFIT_LENGTH, 0),
-        (tag, b"abcdefghijklm", b"", Number::UNFIT_LENGTH, 0),
-        (tag, b"abc", b"1", Number::UNFIT_LENGTH, 0),
-        (tag, b"a!+", b"", Number::CHARACTER, 1),
-        (tag, b"a+!", b"", Number::ORDINARY_BASE64, 1),
-        (text, b"", b"A-a", Number::TEXT_FILL, 0),
-        (text, b"", b"A!+", Number::CHARACTER, 1),
-        (text, b"", b"-a=", Number::ORDINARY_BASE64, 2),
-        (text, b"a", b"A", Number::UNFIT_LENGTH, 0),
+        (tag, b"ab", b"", Number::UnfitLength, 0),
+        (tag, b"abcdefghijklm", b"", Number::UnfitLength, 0),
+        (tag, b"abc", b"1", Number::UnfitLength, 0),
+        (tag, b"a!+", b"", Number::Character, 1),
+        (tag, b"a+!", b"", Number::OrdinaryBase64, 1),
+        (text, b"", b"A-a", Number::TextFill, 0),
+        (text, b"", b"A!+", Number::Character, 1),
+        (text, b"", b"-a=", Number::OrdinaryBase64, 2),
+        (text, b"a", b"A", Number::UnfitLength, 0),
     ] {
         let refusal = write(Form::Binary, code, tags, raw).unwrap_err();
         assert_eq!((refusal.number, refusal.place), (number, place), "{code:?}");
@@ -378,9 +380,9 @@ fn the_longest_values_are_read_and_written() {
         }
     }
     let refusal = write(Form::Text, cesr::Code::small(b'B'), b"", &[0; 12_286]).unwrap_err();
-    assert_eq!(refusal.number, Number::UNFIT_LENGTH);
+    assert_eq!(refusal.number, Number::UnfitLength);
     let refusal = write(Form::Text, cesr::Code::large(b'B'), b"", &[0; 12_285]).unwrap_err();
-    assert_eq!((refusal.number, refusal.place), (Number::NOT_SHORT, 0));
+    assert_eq!((refusal.number, refusal.place), (Number::NotShort, 0));
 }
 
 /// By the type alone: each value has one code, of the two that name its type
@@ -399,17 +401,17 @@ fn a_value_has_one_code() {
                     true => Code::large(letter),
                     false => Code::small(letter),
                 });
-                assert_eq!((found.head.code, found.raw()), (code, raw));
+                assert_eq!((found.head.code(), found.raw()), (code, raw));
                 let number = if large {
-                    Number::UNFIT_LENGTH
+                    Number::UnfitLength
                 } else {
-                    Number::NOT_SHORT
+                    Number::NotShort
                 };
                 let refusal = write(form, other, b"", raw).unwrap_err();
                 assert_eq!((refusal.number, refusal.place), (number, 0));
                 let mut out = vec![0xAA; item.len()];
                 let refusal = write_variable_into(form, letter, raw, &mut out[1..]).unwrap_err();
-                assert_eq!((refusal.number, refusal.place), (Number::ROOM, 0));
+                assert_eq!((refusal.number, refusal.place), (Number::Room, 0));
                 assert!(out.iter().all(|byte| *byte == 0xAA));
                 let length = write_variable_into(form, letter, raw, &mut out).unwrap();
                 assert_eq!((length, &out), (item.len(), &item));
@@ -422,11 +424,11 @@ fn a_value_has_one_code() {
 #[test]
 fn no_code_holds_it() {
     for (letter, length, number) in [
-        (b'G', 0, Number::UNKNOWN_CODE),
-        (b'G', 3_145_723, Number::UNKNOWN_CODE),
-        (0, 12_286, Number::UNKNOWN_CODE),
-        (b'B', 3_145_723, Number::UNFIT_LENGTH),
-        (b'A', 4_194_297, Number::UNFIT_LENGTH),
+        (b'G', 0, Number::UnknownCode),
+        (b'G', 3_145_723, Number::UnknownCode),
+        (0, 12_286, Number::UnknownCode),
+        (b'B', 3_145_723, Number::UnfitLength),
+        (b'A', 4_194_297, Number::UnfitLength),
     ] {
         for form in [Form::Text, Form::Binary] {
             let refusal = write_variable(form, letter, &vec![0; length]).unwrap_err();
@@ -450,13 +452,13 @@ fn a_text_has_one_code() {
                 true => Code::large(b'A'),
                 false => Code::small(b'A'),
             });
-            assert_eq!((found.head.code, found.text()), (code, Some(text)));
-            assert_eq!(found.head.lead, [0, 2, 1, 0][length % 4]);
+            assert_eq!((found.head.code(), found.text()), (code, Some(text)));
+            assert_eq!(found.head.lead(), [0, 2, 1, 0][length % 4]);
             assert_eq!(found.size, item.len());
             let number = if large {
-                Number::UNFIT_LENGTH
+                Number::UnfitLength
             } else {
-                Number::NOT_SHORT
+                Number::NotShort
             };
             let refusal = write(form, other, b"", text.as_bytes()).unwrap_err();
             assert_eq!((refusal.number, refusal.place), (number, 0));
@@ -474,7 +476,7 @@ fn opaque_groups_are_those_of_01() {
         let mut groups = 0;
         for item in report.items().filter(|item| item.is_accepted()) {
             for step in Walk::new(form, item.of(stream)).map(|step| step.expect("accepted")) {
-                let (letter, header) = match step.head.code {
+                let (letter, header) = match step.head.code() {
                     Code::SmallGroup { letter } => (letter, form.unit()),
                     Code::LargeGroup { letter } => (letter, 2 * form.unit()),
                     _ => continue,

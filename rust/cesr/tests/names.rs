@@ -7,14 +7,14 @@ use cesr::{write, Code, Form, Head, Number, Walk};
 /// The library refuses an unknown code with 6 before it looks at anything
 /// else.
 fn is_written(code: Code) -> bool {
-    write(Form::Text, code, b"", b"").map_err(|refusal| refusal.number) != Err(Number::UNKNOWN_CODE)
+    write(Form::Text, code, b"", b"").map_err(|refusal| refusal.number) != Err(Number::UnknownCode)
 }
 
 /// An empty group of this letter is an item, and a large one is refused for
 /// being that alone, or the code is unknown.
 fn is_walked(header: &[u8]) -> bool {
     match Walk::new(Form::Text, header).next() {
-        Some(Err(refusal)) => refusal.number == Number::NOT_SHORT,
+        Some(Err(refusal)) => refusal.number == Number::NotShort,
         step => step.is_some(),
     }
 }
@@ -44,7 +44,39 @@ fn a_primitive_has_a_name_exactly_if_the_library_writes_it() {
 fn a_fixed_code_of_another_length_is_unknown() {
     for chars in (0..=255).filter(|chars| ![1, 2, 4].contains(chars)) {
         assert!((0..=255).all(|letter| !is_written(Code::fixed(chars, letter))));
+        assert!((0..=255).all(|letter| Code::fixed(chars, letter) == Code::Unknown));
     }
+}
+
+/// Of all heads that can be made no two are spelt alike, and what is read from
+/// the spelling is the code again: one code has one name.
+#[test]
+fn no_two_heads_are_spelt_alike() {
+    let mut spelt = std::collections::BTreeMap::new();
+    for letter in b'!'..=b'~' {
+        for code in [
+            Code::fixed(1, letter),
+            Code::fixed(2, letter),
+            Code::fixed(4, letter),
+            Code::small(letter),
+            Code::large(letter),
+            Code::SmallGroup { letter },
+            Code::LargeGroup { letter },
+            Code::GenusVersion,
+        ] {
+            for head in (0..=255).filter_map(|lead| Head::new(code, lead)) {
+                let other = spelt.insert(head.to_string(), head);
+                // `-_` is a genus/version, and no group has its letter.
+                let taken = head.to_string() == "-_";
+                assert!(other.is_none_or(|other| other == head || taken), "{head}");
+                if let Ok(parsed) = head.to_string().parse::<Code>() {
+                    assert_eq!(parsed, code, "{head}");
+                }
+            }
+        }
+    }
+    assert!(Head::new(Code::small(b'B'), 3).is_none());
+    assert!(Head::new(Code::GenusVersion, 1).is_none());
 }
 
 #[test]
@@ -109,7 +141,7 @@ fn one_head(unit: [u8; 4]) {
     match step {
         Ok(step) => assert_eq!(head, Some(step.head), "{shown}"),
         Err(refusal) => {
-            let unknown = refusal.number == Number::UNKNOWN_CODE && refusal.place == 0;
+            let unknown = refusal.number == Number::UnknownCode && refusal.place == 0;
             assert_eq!(head.is_none(), unknown, "{shown}");
         }
     }

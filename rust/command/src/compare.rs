@@ -4,7 +4,7 @@
 use crate::arguments::Compare;
 use crate::complain;
 use crate::input::{self, Source};
-use crate::json::{quoted, why};
+use crate::json::{quoted, version, why};
 use crate::standing::Standing;
 use crate::terminal::Paint;
 use cesr::{Comparison, Expectation, Form, Refusal};
@@ -147,7 +147,7 @@ fn object(out: &mut dyn Write, task: &Compare, found: &Found) -> io::Result<()> 
         }
         Found::Unread(why) => line.push_str(&format!(",\"error\":{}", quoted(why))),
     }
-    line.push_str("}\n");
+    line.push_str(&format!(",{}}}\n", version()));
     out.write_all(line.as_bytes())
 }
 

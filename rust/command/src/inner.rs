@@ -37,7 +37,7 @@ impl Inner {
         let mut groups: Vec<Step> = Vec::new();
         for step in walk.by_ref().map_while(Result::ok) {
             groups.retain(|group| end_of(group) > step.offset);
-            if step.head.code.is_group() {
+            if step.head.code().is_group() {
                 groups.push(step);
             }
         }
@@ -66,7 +66,7 @@ impl Inner {
     pub fn asked(&self, refusal: Refusal) -> Option<String> {
         let left = measured(self.form, self.left);
         let are = if self.left == 1 { "is" } else { "are" };
-        let asked = match (refusal.number == Number::PAST_END, self.size()) {
+        let asked = match (refusal.number == Number::PastEnd, self.size()) {
             (false, _) => return None,
             (true, Some(size)) => measured(self.form, size),
             (true, None) => "more".to_string(),
@@ -80,7 +80,7 @@ impl Inner {
         let Some(head) = self.head else {
             return (self.left < unit).then_some(unit);
         };
-        let units: usize = match head.code {
+        let units: usize = match head.code() {
             Code::Large { .. } | Code::LargeGroup { .. } | Code::GenusVersion => 2,
             _ => 1,
         };
@@ -88,7 +88,7 @@ impl Inner {
         let Some(header) = self.start.get(..length) else {
             return Some(length);
         };
-        let header = match (self.form, head.code) {
+        let header = match (self.form, head.code()) {
             // Its size is its code's: what stands behind that may be wrong too.
             (_, Code::Fixed { .. }) => head.to_string().into_bytes(),
             (Form::Text, _) => header.to_vec(),

@@ -16,7 +16,7 @@ pub fn line(outcome: &Outcome, all: bool) -> io::Result<Vec<u8>> {
     Ok(line.0)
 }
 
-/// Every stream has `stream` and `outcome`; what was judged has its sums,
+/// Every stream has `stream`, `outcome` and `version`; what was judged has its sums,
 /// refusals and remainder, and with `all` its `rows`.
 fn object(out: &mut dyn Write, outcome: &Outcome, all: bool) -> io::Result<()> {
     let name = quoted(&outcome.name.exact());
@@ -31,7 +31,12 @@ fn object(out: &mut dyn Write, outcome: &Outcome, all: bool) -> io::Result<()> {
         }
         Found::Unread(why) => write!(out, ",\"error\":{}", quoted(why))?,
     }
-    writeln!(out, "}}")
+    writeln!(out, ",{}}}", version())
+}
+
+/// Which command said it: an object is kept longer than a program.
+pub fn version() -> String {
+    format!("\"version\":{}", quoted(cesr::VERSION))
 }
 
 fn form(out: &mut dyn Write, input: &Input) -> io::Result<()> {

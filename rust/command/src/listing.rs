@@ -44,7 +44,7 @@ pub fn run(task: &Manifest, out: &mut dyn Write) -> io::Result<Standing> {
 /// A stream's line, and whether its form was guessed.
 fn listed(input: Input, name: &OsStr) -> Result<(Vec<u8>, bool), String> {
     if input.bytes.len() > input.form.limit() {
-        let (number, place) = (Number::TOO_LONG, 0);
+        let (number, place) = (Number::TooLong, 0);
         return Err(Refusal { number, place }.to_string());
     }
     let entry = Entry::new(&input.bytes, input.form, name);

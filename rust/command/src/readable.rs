@@ -184,7 +184,7 @@ pub fn asked(
     part: Range<usize>,
     refusal: Refusal,
 ) -> io::Result<()> {
-    if refusal.number != Number::PAST_END {
+    if refusal.number != Number::PastEnd {
         return Ok(());
     }
     let start = part.start;
@@ -231,19 +231,19 @@ pub fn note(input: &Input, number: Number, place: usize) -> Option<String> {
         _ if place == 0 && input.bytes.starts_with(b"\xEF\xBB\xBF") => {
             Some("the stream opens with a byte order mark, which is no part of it".to_string())
         }
-        (Number::CHARACTER, _) => {
+        (Number::Character, _) => {
             let kind = kind_of(byte);
             Some(format!(
                 "the byte at {place} is {byte:02X} hexadecimal{kind}"
             ))
         }
-        (Number::ORDINARY_BASE64, _) => Some(format!("{} at {place}", url_safe(byte)?)),
-        (Number::TEXT_FILL, form) => fill(form, input.bytes.get(place..)?),
-        (Number::NOT_SHORT, form) => {
+        (Number::OrdinaryBase64, _) => Some(format!("{} at {place}", url_safe(byte)?)),
+        (Number::TextFill, form) => fill(form, input.bytes.get(place..)?),
+        (Number::NotShort, form) => {
             let short = short_header(form, input.bytes.get(place..)?)?;
             Some(format!("the small code's header is {short}"))
         }
-        (Number::PAST_END | Number::NOT_WHOLE_UNITS, Form::Text) if ends_line && last => {
+        (Number::PastEnd | Number::NotWholeUnits, Form::Text) if ends_line && last => {
             Some("the stream ends with a line feed, which is no character of it".to_string())
         }
         _ => None,
@@ -253,7 +253,7 @@ pub fn note(input: &Input, number: Number, place: usize) -> Option<String> {
 /// The `A` in front of a text that its selector asks for, and what stands there.
 fn fill(form: Form, item: &[u8]) -> Option<String> {
     let head = Head::of(form, item)?;
-    let header = match head.code {
+    let header = match head.code() {
         Code::Small { .. } => form.unit(),
         Code::Large { .. } => form.unit().saturating_mul(2),
         _ => return None,
@@ -264,7 +264,7 @@ fn fill(form: Form, item: &[u8]) -> Option<String> {
         Form::Binary => cesr::to_text(value).ok()?,
     };
     // 4 and 7 take off one, 5 and 8 two, 6 and 9 three.
-    let asked = "AAA".get(..usize::from(head.lead).saturating_add(1))?;
+    let asked = "AAA".get(..usize::from(head.lead()).saturating_add(1))?;
     let there = first.get(..asked.len())?.escape_ascii().to_string();
     Some(match there == asked {
         true => format!("behind the fill {asked} the text starts with A"),
@@ -276,7 +276,7 @@ fn fill(form: Form, item: &[u8]) -> Option<String> {
 /// digits, which the others are zeros before.
 fn short_header(form: Form, item: &[u8]) -> Option<String> {
     let head = Head::of(form, item)?;
-    let code = match head.code {
+    let code = match head.code() {
         Code::Large { letter } => Code::Small { letter },
         Code::LargeGroup { letter } => Code::SmallGroup { letter },
         _ => return None,
@@ -286,7 +286,8 @@ fn short_header(form: Form, item: &[u8]) -> Option<String> {
         Form::Binary => cesr::to_text(item.get(..6)?).ok()?,
     };
     let digits = header.get(6..)?.escape_ascii();
-    Some(format!("{}{digits}", Head { code, ..head }))
+    let short = Head::new(code, head.lead())?;
+    Some(format!("{short}{digits}"))
 }
 
 /// Strangers that are often met.

@@ -33,7 +33,7 @@ pub fn run(task: &Show, out: &mut dyn Write) -> io::Result<Standing> {
         }
     };
     match item_at(input.form, &input.bytes, task.at) {
-        Err(refusal) if refusal.number == Number::TOO_LONG => {
+        Err(refusal) if refusal.number == Number::TooLong => {
             complain(&format!("{name}: {refusal}"));
             Ok(Standing::Error)
         }
@@ -122,7 +122,7 @@ fn hexadecimal(bytes: &[u8]) -> String {
 fn inside(out: &mut dyn Write, input: &Input, step: &Step) -> io::Result<Result<(), Refusal>> {
     let end = step.offset.saturating_add(step.size);
     let item = input.bytes.get(step.offset..end).unwrap_or_default();
-    if step.head.code == Code::GenusVersion {
+    if step.head.code() == Code::GenusVersion {
         let text = match input.form {
             Form::Text => item.to_vec(),
             Form::Binary => cesr::to_text(item).unwrap_or_default(),

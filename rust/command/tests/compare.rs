@@ -123,7 +123,7 @@ fn for_machines() {
     assert_eq!(
         ran.text(),
         "{\"expected\":\"first.expected\",\"report\":\"cut.report\",\"outcome\":\"otherwise\",\
-         \"passed\":1,\"failed\":0,\"not_reached\":4,\"beyond\":0,\"remainders_agree\":false}\n"
+         \"passed\":1,\"failed\":0,\"not_reached\":4,\"beyond\":0,\"remainders_agree\":false,\"version\":\"0.2.0\"}\n"
     );
     let ran = within(&folder, "cesr compare --json cut.report cut.report");
     let number = format!(

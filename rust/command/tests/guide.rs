@@ -9,6 +9,7 @@ use std::fs;
 use std::os::unix::fs::symlink;
 use std::path::Path;
 use std::process::Command;
+use std::sync::Once;
 
 fn page(name: &str) -> String {
     fs::read_to_string(top().join(name)).expect("the page")
@@ -32,8 +33,16 @@ fn blocks(page: &str, language: &str) -> Vec<String> {
     found
 }
 
-/// A folder with the samples, and what a linker needs.
+static BUILT: Once = Once::new();
+
+/// A folder with the samples, and what a linker needs, which is made once.
 fn place() -> Folder {
+    BUILT.call_once(|| {
+        let mut make = Command::new("make");
+        make.args(["--silent", "lib"]).current_dir(top());
+        let ran = finished(make, b"");
+        assert_eq!(ran.status, 0, "{}", ran.err);
+    });
     let folder = Folder::new();
     let samples = folder.path().join("samples");
     fs::create_dir(&samples).expect("a folder");
@@ -79,6 +88,23 @@ fn commands_of_the_guide_print_what_it_shows() {
     folder.file("judge.c", programs[0].as_bytes());
     for block in blocks {
         assert_eq!(ran(&block, folder.path()), block);
+    }
+}
+
+/// The guide's programs in Python, over the library that is built.
+#[test]
+fn programs_of_the_guide_run_in_python() {
+    let (guide, folder) = (page("docs/GUIDE.md"), place());
+    let programs = blocks(&guide, "python");
+    assert_eq!(programs.len(), 1);
+    let library = format!("target/install/libcesr.so.{}", cesr::VERSION);
+    for program in programs {
+        let mut python = Command::new("python3");
+        python.args(["-c", &program]).current_dir(folder.path());
+        python.env("PYTHONPATH", top().join("python"));
+        python.env("CESR_LIBRARY", &library);
+        let ran = finished(python, b"");
+        assert_eq!((ran.status, ran.err.as_str()), (0, ""));
     }
 }
 

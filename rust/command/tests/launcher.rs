@@ -83,6 +83,69 @@ fn a_stream_reaches_the_command_on_first_use() {
     assert_eq!((ran.text().as_str(), ran.err.as_str()), ("MAAB", ""));
 }
 
+/// A prover that takes its time over the last of three crates.
+const STEPS: &str = "#!/bin/sh
+mkdir -p target/staticlib && touch target/staticlib/libexports.a
+case $1 in
+check) echo 'rt: base proved (1 s)'; echo 'logic=proved'; echo 'rt: report proved (unchanged since it was last proved)' ;;
+*) echo 'rt: base proved (unchanged since it was last proved)'; sleep \"${PAUSE:-0}\"; echo 'rt: target/staticlib/libexports.a has the functions' ;;
+esac
+";
+
+/// Three crates, and one that the library does not rest on.
+const THREE: &[u8] =
+    b"# The crates\nbase:\nreport: base\nother: base\n\nexports: base report bytes\n";
+
+/// While it proves it says how many crates of how many are proved, each once,
+/// and for how long it has been at it.
+#[test]
+fn it_says_how_far_it_is() {
+    let folder = prepared(&[("rt", STEPS), ("cargo", BUILDER)]);
+    folder.file("crates.txt", THREE);
+    let ran = call(&folder);
+    assert_eq!((ran.status, ran.text().as_str()), (0, "MAAB"));
+    let lines: Vec<&str> = ran.err.lines().collect();
+    let [_, told @ ..] = &lines[..] else {
+        panic!("{}", ran.err);
+    };
+    assert_eq!(told.len(), 3, "{}", ran.err);
+    for (count, line) in (1..).zip(told) {
+        let said = format!("cesr: {count} of 3 crates proved, 0 min ");
+        assert!(line.starts_with(&said) && line.ends_with(" s"), "{line}");
+    }
+}
+
+/// At a terminal it is one line, and the time goes on while a crate takes long.
+#[test]
+fn at_a_terminal_the_time_goes_on() {
+    let folder = prepared(&[("rt", STEPS), ("cargo", BUILDER)]);
+    folder.file("crates.txt", THREE);
+    let script = r#"
+import os, pty, subprocess, sys
+main, side = pty.openpty()
+folder = os.environ['FOLDER']
+env = {**os.environ, 'PAUSE': '2.5', 'PATH': folder + '/bin:/usr/bin:/bin'}
+child = subprocess.Popen(['bash', folder + '/cesr', 'judge'], env=env,
+    stdin=subprocess.DEVNULL, stdout=subprocess.DEVNULL, stderr=side)
+os.close(side)
+said = b''
+while True:
+    try: piece = os.read(main, 65536)
+    except OSError: break
+    if not piece: break
+    said += piece
+lines = said.decode().replace('\r\n', '\n').split('\n')
+told = [part.split(',')[0] for part in lines[1].split('\r') if part]
+times = {part.split(', ')[1] for part in lines[1].split('\r') if part}
+print(child.wait(), len(lines), sorted(set(told)), len(times) > 1)
+"#;
+    let mut python = Command::new("python3");
+    python.args(["-c", script]).env("FOLDER", folder.path());
+    let told = "['cesr: 1 of 3 crates proved', 'cesr: 2 of 3 crates proved', 'cesr: 3 of 3 crates proved']";
+    let ran = finished(python, b"");
+    assert_eq!(ran.text(), format!("0 3 {told} True\n"), "{}", ran.err);
+}
+
 /// Calls at once: one builds, and the others wait for it. Two provers in one
 /// folder would fail here, as they would take each other's files away.
 #[test]

@@ -36,7 +36,7 @@ for said in (
     '-B Message + attachments group, 16 characters from 4',
     'asks for 24 characters, 8 characters are left', 'a stream cut off, items counted',
     'Remainder 6 from 20', 'No item starts like this.', '6: code unknown or reserved',
-    '4 characters: nobody knows where the next item starts', 'cesr 0.1.0',
+    '4 characters: nobody knows where the next item starts', 'cesr 0.2.0',
     'text (detected from the first bytes)', '1 item, 0 accepted, 1 refused, remainder 6 from 20',
 ): assert said in text, (said, text)
 ";

@@ -216,6 +216,7 @@ fn compare(memory: &mut Memory, form: Form, mut front: Front, made: Made) {
         beside::compare(&expected, &report, &mut others)
     );
     assert_eq!(*counts, others);
+    assert_eq!(proved::passed(told), beside::passed(&report));
     assert_eq!((file, told), (&expected[..], &report[..]));
 }
 

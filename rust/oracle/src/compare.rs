@@ -57,6 +57,22 @@ fn answer(wanted: &Said, found: &Said) -> Comparison {
     answer
 }
 
+/// Does a report say that every byte of its stream lies in an accepted item,
+/// and that there is one? Nothing for what is no report.
+///
+/// In a stream's own report the items follow one another from its start, and
+/// what they leave is the remainder: so it has an item, none is refused, and
+/// there is no remainder.
+pub fn passed(report: &[u8]) -> Option<bool> {
+    let mut rest = report;
+    let items = section(&mut rest, 9)?;
+    let refusals = section(&mut rest, 9)?;
+    let remainders = section(&mut rest, 5)?;
+    let none = refusals.is_empty() && remainders.is_empty() && !items.is_empty();
+    let said = said(items, remainders, rest)?;
+    Some(none && said.verdicts.iter().all(|verdict| *verdict == 0))
+}
+
 /// "two sections in fixed order": verdicts of a byte, then a remainder's number
 /// if one is expected.
 fn expectation(file: &[u8]) -> Option<Said> {

@@ -146,4 +146,5 @@ extern "C" {
         report_length: usize,
         answer: *mut Counts,
     ) -> u8;
+    pub fn cesr_passed(report: *const u8, length: usize, passed: *mut usize) -> u8;
 }

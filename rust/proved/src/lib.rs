@@ -5,11 +5,15 @@
 //! few and on numbers, byte slices and arrays only: a slice is a pointer, then
 //! a length. The tests compare the answers with the oracle's.
 
+#![no_std]
+
 mod compare;
 mod declared;
+mod passed;
 mod walk;
 
 pub use compare::{compare, Counts};
+pub use passed::passed;
 pub use walk::{
     walk_binary, walk_on_binary, walk_on_text, walk_text, Instalment, Item, Pause, State,
     MAX_DEPTH, STATE, STATE_FIRST, STATE_OPEN, STATE_POSITION,

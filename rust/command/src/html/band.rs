@@ -71,7 +71,7 @@ fn is_group(form: Form, item: &[u8]) -> bool {
         // The sextet of `-` is 62.
         (Form::Binary, first) => first.is_some_and(|byte| byte >> 2 == 62),
     };
-    dash && Head::of(form, item).is_some_and(|head| head.code.is_group())
+    dash && Head::of(form, item).is_some_and(|head| head.code().is_group())
 }
 
 impl Band<'_> {
@@ -138,7 +138,7 @@ impl Band<'_> {
         while let Some(Ok(step)) = walk.next() {
             self.unopened(base, last, Some(step.depth));
             open.retain(|group| end_of(group) > step.offset);
-            if step.head.code.is_group() {
+            if step.head.code().is_group() {
                 open.push(step);
             }
             if step.depth > 0 {
@@ -174,10 +174,10 @@ impl Band<'_> {
 
     /// A group that the walk stepped over: nobody looked at what it holds.
     fn unopened(&mut self, base: usize, last: Option<Step>, next: Option<usize>) {
-        let Some(group) = last.filter(|step| step.head.code.is_group()) else {
+        let Some(group) = last.filter(|step| step.head.code().is_group()) else {
             return;
         };
-        let header: usize = match group.head.code {
+        let header: usize = match group.head.code() {
             Code::LargeGroup { .. } => 2,
             _ => 1,
         };

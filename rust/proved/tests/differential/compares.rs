@@ -13,6 +13,8 @@ pub fn alike(expected: &[u8], report: &[u8]) -> Result<(u8, proved::Counts), Str
     let answer = by_proved(proved::compare(expected, report, &mut counts));
     let other = by_proved(beside::compare(expected, report, &mut told));
     same("compare", (answer, counts), (other, told))?;
+    let passed = by_proved(proved::passed(report));
+    same("passed", passed, by_proved(beside::passed(report)))?;
     Ok((answer.err().map_or(0, |refused| refused.0), counts))
 }
 
@@ -39,6 +41,10 @@ pub fn of_stream(stream: &[u8], form: Form, seed: u64) -> Check {
     let rest: Vec<u8> = found.remainder.iter().map(|row| row.number).collect();
     let all = alike(&file(&own, &rest), &bytes)?;
     same("own", all, (0, [own.len(), 0, 0, 0, 1]))?;
+    let accepted = found.items.iter().filter(|row| row.verdict == 0);
+    let sizes: usize = accepted.map(|row| row.size).sum();
+    let covered = sizes == stream.len() && !stream.is_empty();
+    same("every byte", proved::passed(&bytes).ok(), Some(covered))?;
     if !own.is_empty() {
         let mut off = own.clone();
         off[random.below(own.len())] ^= 1 + random.below(255) as u8;

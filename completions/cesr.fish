@@ -1,0 +1,23 @@
+# Completion of the command cesr for fish: its commands, the options of each, forms and files.
+
+complete -c cesr -n __fish_use_subcommand -f -a judge -d 'what is accepted and what is refused in streams'
+complete -c cesr -n __fish_use_subcommand -f -a convert -d 'a whole stream in the other form'
+complete -c cesr -n __fish_use_subcommand -f -a show -d 'one item at an offset'
+complete -c cesr -n __fish_use_subcommand -f -a manifest -d 'a line for each file, to judge by later'
+complete -c cesr -n __fish_use_subcommand -f -a compare -d 'an expectation file held against a report'
+complete -c cesr -n __fish_use_subcommand -f -a expect -d 'an expectation file of a stream or a list'
+complete -c cesr -n __fish_use_subcommand -f -a numbers -d 'what each number of a refusal means'
+complete -c cesr -n __fish_use_subcommand -f -a help -d 'the help'
+complete -c cesr -n __fish_use_subcommand -l version -s V -d 'the version'
+complete -c cesr -l help -s h -d 'the help'
+
+complete -c cesr -n '__fish_seen_subcommand_from judge show manifest expect' -l form -x -a 'text binary' -d 'the form, in place of a guess'
+complete -c cesr -n '__fish_seen_subcommand_from judge' -l manifest -r -d 'the streams of a list'
+complete -c cesr -n '__fish_seen_subcommand_from judge' -l all -d 'every item'
+complete -c cesr -n '__fish_seen_subcommand_from judge compare' -l json -d 'an object a line'
+complete -c cesr -n '__fish_seen_subcommand_from judge' -l report -d 'the bytes of the report'
+complete -c cesr -n '__fish_seen_subcommand_from judge' -l html -r -d 'a page beside the lines'
+complete -c cesr -n '__fish_seen_subcommand_from judge' -l junit -r -d 'a suite for build servers'
+complete -c cesr -n '__fish_seen_subcommand_from judge' -l sarif -r -d 'a log for build servers'
+complete -c cesr -n '__fish_seen_subcommand_from convert' -l to -x -a 'text binary' -d 'the form to convert to'
+complete -c cesr -n '__fish_seen_subcommand_from convert expect' -l out -r -d 'where to write'

@@ -1,0 +1,265 @@
+"""CESR streams judged, converted, walked, read and written by the proved library libcesr.so. Standard library only.
+
+    import cesr
+    report = cesr.judge("text", open("deck.cesr", "rb").read())
+    report.passed, report.items, report.refusals, report.remainder
+
+Nothing here judges: every verdict, size, place and number is an answer of the library, which is lent memory. A stream is bytes, in the
+form "text" (characters of URL-safe Base64) or "binary"; offsets, sizes and places count characters or bytes, from 0. A call that is refused
+raises Refused, with the number and the place.
+
+Assumes a library of the version below. It is looked for where CESR_LIBRARY says, then in ../../../lib from here, which is where `make
+install` puts it, then where the system finds libraries.
+"""
+import ctypes
+import os
+import re
+import struct
+from collections import namedtuple
+
+__version__ = "0.2.0"
+
+
+class _Forms(dict):
+    """Something for each form, and an error for what is none."""
+
+    def __missing__(self, form):
+        raise ValueError(f"a form is text or binary, not {form!r}")
+
+
+LIMIT = _Forms(text=4194304, binary=3145728)
+UNIT = _Forms(text=4, binary=3)
+
+# Lengths of what the library is lent, as in cesr.h.
+_TAG, _INFO, _ITEM, _COMPARED, _STATE = 11, 7, 6, 5, 67
+_UNFIT_LENGTH, _END = 12, 255
+
+_byte, _size = ctypes.c_uint8, ctypes.c_size_t
+_bytes, _sizes = ctypes.c_char_p, ctypes.POINTER(_size)
+
+# 0 is accepted, else the number of its refusal.
+Item = namedtuple("Item", "index offset size verdict")
+Refusal = namedtuple("Refusal", "index number place")
+Remainder = namedtuple("Remainder", "offset number")
+# code is like M, 0H, 1AAM, 5B, 8AAB, -A, --A or -_.
+Step = namedtuple("Step", "offset size depth code")
+# text is the value of type A, and None for any other code.
+Primitive = namedtuple("Primitive", "code size tag raw text")
+Comparison = namedtuple("Comparison", "passed failed not_reached beyond remainders_agree")
+
+
+class Refused(ValueError):
+    """A refusal: its number, and the place in characters or bytes."""
+
+    def __init__(self, number, place):
+        super().__init__(f"refused {number} at {place}: {words(number)}")
+        self.number, self.place = number, place
+
+
+def _found():
+    """The library, and that it is of this version."""
+    here = os.path.dirname(os.path.abspath(__file__))
+    short = ".".join(__version__.split(".")[:2])
+    beside = os.path.join(here, "..", "..", "..", "lib", f"libcesr.so.{short}")
+    path = os.environ.get("CESR_LIBRARY") or (beside if os.path.exists(beside) else f"libcesr.so.{short}")
+    library = ctypes.CDLL(path)
+    library.cesr_version.restype = _bytes
+    if library.cesr_version().decode() != __version__:
+        raise ImportError(f"{path} is cesr {library.cesr_version().decode()}, and this module is of {__version__}")
+    return library
+
+
+_library = _found()
+
+
+def _declared(name, *arguments, answers=_byte):
+    call = getattr(_library, name)
+    call.restype, call.argtypes = answers, arguments
+    return call
+
+
+def _both(name, *arguments):
+    """A call's two forms."""
+    return _Forms((form, _declared(f"cesr_{name}_{form}", *arguments)) for form in UNIT)
+
+
+_words = _declared("cesr_words", _byte, answers=_bytes)
+_to = _Forms(
+    binary=_declared("cesr_text_to_binary", _bytes, _size, _bytes, _size, _sizes),
+    text=_declared("cesr_binary_to_text", _bytes, _size, _bytes, _size, _sizes),
+)
+_report = _both("report", _bytes, _size, _bytes, _size, _sizes)
+_passed = _declared("cesr_passed", _bytes, _size, _sizes)
+_compare = _declared("cesr_compare", _bytes, _size, _bytes, _size, _sizes)
+_read = _both("read", _bytes, _size, _size, _bytes, _size, _bytes, _sizes, _sizes)
+_write = _both("write", _byte, _byte, _bytes, _size, _bytes, _size, _bytes, _size, _sizes)
+_walk = _both("walk", _bytes, _size, _sizes, _sizes, _sizes)
+
+
+def words(number):
+    """What a number means, in the words of the papers; empty for what is none."""
+    return _words(number).decode() if 0 <= number < 256 else ""
+
+
+def version():
+    """The library's version."""
+    return _library.cesr_version().decode()
+
+
+def _plain(data):
+    """Bytes of anything that holds bytes; an error for a number or a string."""
+    return data if isinstance(data, bytes) else memoryview(data).tobytes()
+
+
+def _within(form, length):
+    """Units that room is lent for: no more than those of the longest stream."""
+    return min(length, LIMIT[form]) // UNIT[form]
+
+
+def _filled(call, room, *given):
+    """What a call writes into a buffer of so many bytes."""
+    out, answer = ctypes.create_string_buffer(max(room, 1)), _size()
+    number = call(*given, out, room, ctypes.byref(answer))
+    if number:
+        raise Refused(number, answer.value)
+    return out.raw[: answer.value]
+
+
+# ---- whole streams
+
+
+def convert(to, stream):
+    """A whole stream in the form `to`, from the other one. It looks at no codes."""
+    stream, other = _plain(stream), "binary" if to == "text" else "text"
+    return _filled(_to[to], _within(other, len(stream)) * UNIT[to], stream, len(stream))
+
+
+class Report:
+    """What the library says of a stream: items in order, a row for each refusal, and the remainder, or None."""
+
+    def __init__(self, data):
+        self.bytes = _plain(data)
+        passed = _size()
+        number = _passed(self.bytes, len(self.bytes), ctypes.byref(passed))
+        if number:
+            raise Refused(number, 0)
+        # Has the stream a byte, and does every byte lie in an accepted item? The library answers it.
+        self.passed = passed.value == 1
+        rows, at = self._rows(0, ">IIB")
+        self.items = [Item(index, *row) for index, row in enumerate(rows)]
+        rows, at = self._rows(at, ">IBI")
+        self.refusals = [Refusal(*row) for row in rows]
+        rows, at = self._rows(at, ">IB")
+        self.remainder = Remainder(*rows[0]) if rows else None
+
+    def _rows(self, at, shape):
+        """The section at a place, and where the next one is. The library has seen that it is whole."""
+        (count,) = struct.unpack_from(">I", self.bytes, at)
+        behind = at + 4 + count * struct.calcsize(shape)
+        return list(struct.iter_unpack(shape, self.bytes[at + 4 : behind])), behind
+
+    def __bool__(self):
+        raise TypeError("a report is no pass: ask report.passed")
+
+    def __str__(self):
+        accepted = sum(item.verdict == 0 for item in self.items)
+        rest = self.remainder
+        left = f"remainder {rest.number} from {rest.offset}" if rest else "no remainder"
+        items = "1 item" if len(self.items) == 1 else f"{len(self.items)} items"
+        return f"{items}, {accepted} accepted, {len(self.items) - accepted} refused, {left}"
+
+
+def judge(form, stream):
+    """The report of a stream. A report is no pass: ask `passed`."""
+    stream = _plain(stream)
+    return Report(_filled(_report[form], 17 + 18 * _within(form, len(stream)), stream, len(stream)))
+
+
+def compare(expected, report):
+    """An expectation file's bytes held against those of a report."""
+    expected, report, answer = _plain(expected), _plain(report), (_size * _COMPARED)()
+    number = _compare(expected, len(expected), report, len(report), answer)
+    if number:
+        raise Refused(number, 0)
+    return Comparison(*answer[:4], answer[4] == 1)
+
+
+# ---- codes: the library's numbers, and characters for people
+
+_FIXED = {1: "", 2: "0", 4: "1AA"}
+_SPELLINGS = {1: "[A-Za-z]", 2: "0[ -~]", 4: "1AA[ -~]", 5: "[456][ -~]", 6: "[789]AA[ -~]"}
+
+
+def _spelt(chars, letter, lead):
+    letter = chr(letter)
+    kinds = {5: f"{4 + lead}{letter}", 6: f"{7 + lead}AA{letter}", 7: f"-{letter}", 8: f"--{letter}", 9: "-_"}
+    return kinds[chars] if chars in kinds else _FIXED[chars] + letter
+
+
+def _named(code):
+    """The two numbers of a primitive's code; a variable's selector tells small from large, and its lead follows from the raw length."""
+    for chars, spelling in _SPELLINGS.items():
+        if re.fullmatch(spelling, code, re.ASCII):
+            return chars, ord(code[-1])
+    raise ValueError(f"a primitive's code is like M, 0H, 1AAM, 4B or 7AAB, not {code!r}")
+
+
+# ---- one primitive
+
+
+def read(form, stream, at=0):
+    """The primitive at an offset."""
+    stream, unit, tag = _plain(stream), UNIT[form], ctypes.create_string_buffer(_TAG)
+    info, answer = (_size * _INFO)(), _size()
+    # No value has more than four characters for each unit that is left.
+    out = ctypes.create_string_buffer(max(_within(form, len(stream) - min(at, len(stream))) * 4, 1))
+    number = _read[form](stream, len(stream), at, out, len(out), tag, info, ctypes.byref(answer))
+    if number:
+        raise Refused(number, answer.value)
+    chars, letter, units, start, length, tags, characters = info[:_INFO]
+    raw = out.raw[:length] if form == "text" else stream[at + start : at + start + length]
+    header, lead, text = chars - 4, 0, None
+    if chars in (5, 6) and letter == ord("A"):
+        text = out.raw[:characters].decode("ascii")
+        lead = max(4 * (units - header) - characters - 1, 0)
+    elif chars in (5, 6):
+        lead = start - 3 * header
+    return Primitive(_spelt(chars, letter, lead), units * unit, tag.raw[:tags].decode("ascii"), raw, text)
+
+
+def _written(form, chars, letter, tag, raw):
+    raw, tag = _plain(raw), tag.encode("latin-1")
+    room = UNIT[form] * (len(raw) // 3 + 6)
+    return _filled(_write[form], room, chars, letter, tag[:_TAG].ljust(_TAG, b"\0"), len(tag), raw, len(raw))
+
+
+def write(form, code, raw=b"", tag=""):
+    """A primitive as an item: its code, like M, 0H, 1AAM, 4B or 7AAB, with a raw value (of type A its text, as bytes) or tag characters."""
+    return _written(form, *_named(code), tag, raw)
+
+
+def write_variable(form, letter, raw):
+    """A variable value of a type, like B, with the one code that holds it: the small one, or the large one where it does not fit there."""
+    try:
+        return _written(form, 5, ord(letter), "", raw)
+    except Refused as refusal:
+        if refusal.number != _UNFIT_LENGTH:
+            raise
+        return _written(form, 6, ord(letter), "", raw)
+
+
+# ---- all depths
+
+
+def walk(form, stream):
+    """Items at all depths, outer before inner, up to the end. The first refusal is raised in its turn."""
+    stream, state = _plain(stream), (_size * _STATE)()
+    item, place = (_size * _ITEM)(), _size()
+    while True:
+        number = _walk[form](stream, len(stream), state, item, ctypes.byref(place))
+        if number == _END:
+            return
+        if number:
+            raise Refused(number, place.value)
+        offset, size, depth, chars, letter, lead = item[:6]
+        yield Step(offset, size, depth, _spelt(chars, letter, lead))

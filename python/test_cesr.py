@@ -1,0 +1,203 @@
+"""The module cesr as people use it, over the library that CESR_LIBRARY names. Expected values are the papers' and the guide's."""
+import os
+import pathlib
+import subprocess
+import sys
+import tempfile
+import unittest
+
+HERE = pathlib.Path(__file__).resolve().parent
+sys.path.insert(0, str(HERE))
+import cesr  # noqa: E402
+
+SAMPLES = HERE.parent / "samples"
+
+
+def refused(call, *given):
+    try:
+        call(*given)
+    except cesr.Refused as refusal:
+        return refusal.number, refusal.place
+    return None
+
+
+class Judged(unittest.TestCase):
+    def test_a_stream_with_a_refusal(self):
+        report = cesr.judge("text", (SAMPLES / "first.cesr").read_bytes())
+        self.assertFalse(report.passed)
+        self.assertEqual(str(report), "5 items, 4 accepted, 1 refused, no remainder")
+        self.assertEqual([item.verdict for item in report.items], [0, 0, 8, 0, 0])
+        self.assertEqual(report.items[2], cesr.Item(2, 80, 44, 8))
+        self.assertEqual(report.refusals, [cesr.Refusal(2, 8, 80)])
+        self.assertIsNone(report.remainder)
+
+    def test_what_passes_and_what_does_not(self):
+        for form, stream, passed in [
+            ("text", (SAMPLES / "clean.cesr").read_bytes(), True),
+            ("text", b"MAAB", True),
+            ("binary", b"\xd4\x00\x0c", True),
+            ("text", (SAMPLES / "cut.cesr").read_bytes(), False),
+            ("text", b"MAABMQAA", False),
+            # Every item is accepted, and four characters are left over.
+            ("text", b"MAABE8wY", False),
+            ("text", b"", False),
+            ("binary", bytearray(), False),
+        ]:
+            self.assertIs(cesr.judge(form, stream).passed, passed, stream)
+
+    def test_a_remainder(self):
+        report = cesr.judge("text", b"MAAB_AAA")
+        self.assertEqual(report.remainder, cesr.Remainder(4, 6))
+        self.assertEqual(str(report), "1 item, 1 accepted, 0 refused, remainder 6 from 4")
+
+    def test_what_is_no_report_or_too_long(self):
+        self.assertEqual(refused(cesr.Report, b"MAAB"), (20, 0))
+        self.assertEqual(refused(cesr.judge, "text", b"A" * (cesr.LIMIT["text"] + 1)), (1, 0))
+        self.assertEqual(refused(cesr.judge, "binary", bytes(cesr.LIMIT["binary"] + 1)), (1, 0))
+
+    def test_the_longest_stream(self):
+        report = cesr.judge("text", b"MAAB" * (cesr.LIMIT["text"] // 4))
+        self.assertTrue(report.passed)
+        self.assertEqual(len(report.items), 1048576)
+
+    def test_expected_verdicts(self):
+        report = cesr.judge("text", b"MQAAMAAB")
+        as_expected = cesr.compare(bytes([0, 0, 0, 2, 8, 0, 0, 0, 0, 0]), report.bytes)
+        self.assertEqual(as_expected, cesr.Comparison(2, 0, 0, 0, True))
+        otherwise = cesr.compare(bytes([0, 0, 0, 3, 0, 0, 0, 0, 0, 0, 1, 4]), report.bytes)
+        self.assertEqual(otherwise, cesr.Comparison(1, 1, 1, 0, False))
+        self.assertEqual(refused(cesr.compare, b"", report.bytes), (20, 0))
+
+
+class Converted(unittest.TestCase):
+    def test_there_and_back(self):
+        text = (SAMPLES / "clean.cesr").read_bytes()
+        binary = cesr.convert("binary", text)
+        self.assertEqual(len(binary) * 4, len(text) * 3)
+        self.assertEqual(cesr.convert("text", binary), text)
+        self.assertEqual(cesr.convert("binary", b"1AAM"), b"\xd4\x00\x0c")
+        self.assertEqual(cesr.convert("text", b""), b"")
+
+    def test_refusals(self):
+        self.assertEqual(refused(cesr.convert, "binary", b"MAA+"), (19, 3))
+        self.assertEqual(refused(cesr.convert, "binary", b"MAABM"), (2, 0))
+        with self.assertRaisesRegex(ValueError, "refused 5 at 3: character outside the alphabet"):
+            cesr.convert("binary", b"MAA!")
+
+
+class Walked(unittest.TestCase):
+    def test_all_depths(self):
+        steps = list(cesr.walk("text", b"-AABMAAB1AAM"))
+        self.assertEqual(steps, [(0, 8, 0, "-A"), (4, 4, 1, "M"), (8, 4, 0, "1AAM")])
+        binary = cesr.convert("binary", b"-_AAACAA-JAD5BABAGhpXicp")
+        self.assertEqual([step.code for step in cesr.walk("binary", binary)], ["-_", "-J", "5B", "X"])
+
+    def test_the_first_refusal_comes_in_its_turn(self):
+        walk = cesr.walk("text", b"MAABMQAA")
+        self.assertEqual(next(walk).code, "M")
+        with self.assertRaises(cesr.Refused) as caught:
+            next(walk)
+        self.assertEqual((caught.exception.number, caught.exception.place), (8, 4))
+
+    def test_the_end(self):
+        self.assertEqual(list(cesr.walk("binary", b"")), [])
+
+
+class Read(unittest.TestCase):
+    def test_both_forms(self):
+        for form, stream in [("text", b"MAAB5BABAGhp"), ("binary", cesr.convert("binary", b"MAAB5BABAGhp"))]:
+            unit = cesr.UNIT[form]
+            self.assertEqual(cesr.read(form, stream), ("M", unit, "", b"\x00\x01", None))
+            self.assertEqual(cesr.read(form, stream, unit), ("5B", 2 * unit, "", b"hi", None))
+
+    def test_text(self):
+        for text, code, said in [(b"5AABAA-a", "5A", "-a"), (b"4AADA-a-personal", "4A", "-a-personal"), (b"4AAA", "4A", "")]:
+            for form in ["text", "binary"]:
+                stream = text if form == "text" else cesr.convert("binary", text)
+                found = cesr.read(form, stream)
+                self.assertEqual((found.code, found.size, found.raw, found.text), (code, len(stream), b"", said))
+                self.assertEqual(cesr.write_variable(form, "A", said.encode()), stream)
+        self.assertEqual(refused(cesr.write_variable, "text", "A", b"Albany"), (16, 0))
+
+    def test_tags(self):
+        self.assertEqual(cesr.read("text", b"Xicp"), ("X", 4, "icp", b"", None))
+        self.assertEqual(cesr.read("text", b"0J_A").tag, "A")
+
+    def test_refusals(self):
+        self.assertEqual(refused(cesr.read, "text", b"-AABMAAB"), (14, 0))
+        self.assertEqual(refused(cesr.read, "text", b"MAAB", 4)[0], 4)
+        self.assertEqual(refused(cesr.read, "binary", b"", 7)[0], 4)
+
+
+class Written(unittest.TestCase):
+    def test_what_is_read_again(self):
+        for code, raw, tag, text in [
+            ("M", b"\x00\x01", "", b"MAAB"),
+            ("4B", b"hi", "", b"5BABAGhp"),
+            ("0J", b"", "A", b"0J_A"),
+            ("1AAM", b"", "", b"1AAM"),
+        ]:
+            self.assertEqual(cesr.write("text", code, raw, tag), text)
+            self.assertEqual(cesr.write("binary", code, raw, tag), cesr.convert("binary", text))
+            found = cesr.read("text", text)
+            self.assertEqual((found.raw, found.tag), (raw, tag))
+
+    def test_a_value_by_its_type(self):
+        self.assertEqual(cesr.write_variable("text", "B", b"hi"), b"5BABAGhp")
+        self.assertTrue(cesr.write_variable("text", "B", bytes(12285)).startswith(b"4B__"))
+        large = cesr.write_variable("text", "B", bytes(12286))
+        self.assertEqual((large[:8], len(large)), (b"9AABABAA", 16392))
+        self.assertEqual(cesr.read("text", large), ("9AAB", 16392, "", bytes(12286), None))
+
+    def test_refusals(self):
+        self.assertEqual(refused(cesr.write, "text", "M", b"one"), (12, 0))
+        self.assertEqual(refused(cesr.write, "text", "7AAB", b"hi"), (18, 0))
+        self.assertEqual(refused(cesr.write, "text", "X", b"", "i+p"), (19, 1))
+        self.assertEqual(refused(cesr.write, "text", "b", b""), (6, 0))
+        for code in ["", "-A", "MM", "2AAA", "4", "0é"]:
+            self.assertRaises(ValueError, cesr.write, "text", code)
+
+
+class Said(unittest.TestCase):
+    def test_words_are_those_of_the_list(self):
+        rows = [line.split(" ", 2) for line in (HERE.parent / "include/numbers.txt").read_text().splitlines() if line[:1].isdigit()]
+        self.assertGreater(len(rows), 16)
+        for number, _, words in rows:
+            self.assertEqual(cesr.words(int(number)), words)
+        self.assertEqual([cesr.words(number) for number in (15, 200, -1, 256)], [""] * 4)
+
+    def test_a_report_is_no_pass(self):
+        with self.assertRaisesRegex(TypeError, "a report is no pass"):
+            bool(cesr.judge("text", b"MAAB"))
+
+    def test_what_is_no_stream(self):
+        for stream in [4, "MAAB", None, [77]]:
+            self.assertRaises(TypeError, cesr.judge, "text", stream)
+        for stream in [bytearray(b"MAAB"), memoryview(b"MAAB")]:
+            self.assertTrue(cesr.judge("text", stream).passed)
+
+    def test_what_is_no_form(self):
+        def walked(form, stream):
+            return list(cesr.walk(form, stream))
+
+        def written(form, raw):
+            return cesr.write(form, "0H", raw)
+
+        for call in [cesr.judge, cesr.convert, cesr.read, walked, written]:
+            with self.assertRaisesRegex(ValueError, "a form is text or binary, not 'T'"):
+                call("T", b"MAAB")
+
+    def test_the_version(self):
+        self.assertEqual(cesr.version(), cesr.__version__)
+
+    def test_another_version_is_no_library_of_this_module(self):
+        with tempfile.TemporaryDirectory() as folder:
+            text = (HERE / "cesr.py").read_text()
+            (pathlib.Path(folder) / "cesr.py").write_text(text.replace(f'"{cesr.__version__}"', '"9.9.9"'))
+            env = {**os.environ, "PYTHONPATH": folder}
+            said = subprocess.run([sys.executable, "-c", "import cesr"], capture_output=True, text=True, env=env)
+        self.assertIn("and this module is of 9.9.9", said.stderr)
+
+
+if __name__ == "__main__":
+    unittest.main()
