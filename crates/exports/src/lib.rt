@@ -4,14 +4,9 @@ use exports_values::INFO;
 use exports_values::STATE;
 use format::BinaryFound;
 use format::BinaryOffset;
-use format::BinaryWritten;
 use format::Form;
-use format::Reported;
 use format::TextFound;
 use format::TextOffset;
-use format::TextWritten;
-use format::ToBinary;
-use format::ToText;
 use walk_state::Found;
 ghost use mathlib.Core.Path.{_≡_};
 ghost use lib.ListN.{length};
@@ -43,16 +38,8 @@ pub extern "C" fn cesr_text_to_binary(src: &[u8], dst: &mut [u8], answer: &mut u
     ensures { λ r. ⌜ now (answer .exit) ≡ toBinaryValue (textToBinary (now (src .entry)) (length (now (dst .entry)))) ⌝ }
     ensures { λ r. ⌜ now (dst .exit) ≡ binaryLeft (textToBinary (now (src .entry)) (length (now (dst .entry)))) (now (src .entry)) (now (dst .entry)) ⌝ }
 {
-    match convert::text_to_binary(src, dst) {
-        ToBinary::Written(n) => {
-            *answer = n.0;
-            0
-        }
-        ToBinary::Refused(refusal, place) => {
-            *answer = place.0;
-            refusal
-        }
-    }
+    let outcome = convert::text_to_binary(src, dst);
+    exports_answers::to_binary(outcome, answer)
 }
 
 // answer: the length written, or the place in the binary.
@@ -62,16 +49,8 @@ pub extern "C" fn cesr_binary_to_text(src: &[u8], dst: &mut [u8], answer: &mut u
     ensures { λ r. ⌜ now (answer .exit) ≡ toTextValue (binaryToText (now (src .entry)) (length (now (dst .entry)))) ⌝ }
     ensures { λ r. ⌜ now (dst .exit) ≡ textLeft (binaryToText (now (src .entry)) (length (now (dst .entry)))) (now (src .entry)) (now (dst .entry)) ⌝ }
 {
-    match convert::binary_to_text(src, dst) {
-        ToText::Written(n) => {
-            *answer = n.0;
-            0
-        }
-        ToText::Refused(number, byte) => {
-            *answer = byte.0;
-            number
-        }
-    }
+    let outcome = convert::binary_to_text(src, dst);
+    exports_answers::to_text(outcome, answer)
 }
 
 // answer: the length of the report, or 0 for 1 and 3.
@@ -81,16 +60,8 @@ pub extern "C" fn cesr_report_text(stream: &[u8], out: &mut [u8], answer: &mut u
     ensures { λ r. ⌜ now (answer .exit) ≡ reportValue (reportAnswer text (now (stream .entry)) (length (now (out .entry)))) ⌝ }
     ensures { λ r. ⌜ now (out .exit) ≡ reportLeft (reportAnswer text (now (stream .entry)) (length (now (out .entry)))) text (now (stream .entry)) (now (out .entry)) ⌝ }
 {
-    match report::report_text(stream, out) {
-        Reported::Written(length) => {
-            *answer = length;
-            0
-        }
-        Reported::Refused(number, place) => {
-            *answer = place;
-            number
-        }
-    }
+    let outcome = report::report_text(stream, out);
+    exports_answers::reported(outcome, answer)
 }
 
 // answer: the length of the report, or 0 for 1 and 3.
@@ -100,16 +71,8 @@ pub extern "C" fn cesr_report_binary(stream: &[u8], out: &mut [u8], answer: &mut
     ensures { λ r. ⌜ now (answer .exit) ≡ reportValue (reportAnswer binary (now (stream .entry)) (length (now (out .entry)))) ⌝ }
     ensures { λ r. ⌜ now (out .exit) ≡ reportLeft (reportAnswer binary (now (stream .entry)) (length (now (out .entry)))) binary (now (stream .entry)) (now (out .entry)) ⌝ }
 {
-    match report::report_binary(stream, out) {
-        Reported::Written(n) => {
-            *answer = n;
-            0
-        }
-        Reported::Refused(number, place) => {
-            *answer = place;
-            number
-        }
-    }
+    let outcome = report::report_binary(stream, out);
+    exports_answers::reported(outcome, answer)
 }
 
 // ---- reading and writing a primitive
@@ -199,16 +162,8 @@ pub extern "C" fn cesr_write_text(
 {
     let code = exports_values::code_from(chars, letter);
     let characters = *tag;
-    match writing::write_text(code, characters, tags, raw, out) {
-        TextWritten::Written(n) => {
-            *answer = n.0;
-            0
-        }
-        TextWritten::Refused(number, place) => {
-            *answer = place;
-            number
-        }
-    }
+    let outcome = writing::write_text(code, characters, tags, raw, out);
+    exports_answers::text_written(outcome, answer)
 }
 
 // answer: the length written, or the place: for 5 and 19 the index among the tag characters, or in a text.
@@ -228,16 +183,8 @@ pub extern "C" fn cesr_write_binary(
 {
     let code = exports_values::code_from(chars, letter);
     let characters = *tag;
-    match writing::write_binary(code, characters, tags, raw, out) {
-        BinaryWritten::Written(n) => {
-            *answer = n.0;
-            0
-        }
-        BinaryWritten::Refused(number, place) => {
-            *answer = place;
-            number
-        }
-    }
+    let outcome = writing::write_binary(code, characters, tags, raw, out);
+    exports_answers::binary_written(outcome, answer)
 }
 
 // ---- the walk over a lent state
