@@ -7,12 +7,15 @@ use mathlib.Core.List.{List}
 use mathlib.Core.Logic.{_⊎_, _↔_}
 use lib.ListN.{length, replicate}
 use Rattle.format.specs.declared.Code.{Code}
+use Rattle.format.specs.declared.IndexCode.{IndexCode}
 use Rattle.format.specs.Units.{Domain, text, binary}
 use Rattle.format.specs.Judging.{maxDepth}
 use Rattle.format.specs.Conversion.{textToBinary, toBinaryNumber, binaryLeft, binaryToText, toTextNumber, textLeft}
 use Rattle.format.specs.Report.{reportAnswer, reportNumber, reportLeft}
 use Rattle.format.specs.Reading.{readText, valueLeft, readBinary, charsLeft}
 use Rattle.format.specs.Writing.{writeText, textItemLeft, writeBinary, binaryItemLeft}
+use Rattle.format.specs.Indexed.{readIndexedText, indexedLeft, readIndexedBinary}
+use Rattle.format.specs.Indexed.{writeIndexedText, textIndexedLeft, writeIndexedBinary, binaryIndexedLeft}
 use Rattle.walk_state.specs.declared.Walk.{Walk}
 use Rattle.walk_state.specs.declared.TextItem.the-variants as TI
 use Rattle.walk_state.specs.declared.BinaryItem.the-variants as BI
@@ -20,13 +23,14 @@ use Rattle.walk_state.specs.Walking.{start, textStep, binaryStep}
 use Rattle.walk_claims.specs.Words.{after}
 use Rattle.exports_values.specs.Answers.{textFoundNumber, textTagLeft, textInfoLeft, binaryFoundNumber, binaryTagLeft, binaryInfoLeft}
 use Rattle.exports_values.specs.Answers.{textWrittenNumber, binaryWrittenNumber}
+use Rattle.exports_indexed.specs.Answers.{textNumber, textInfo, binaryNumber, binaryInfo}
 use Rattle.comparison.specs.Comparing.{compared}
 use Rattle.expectation_claims.specs.Words.{BadFile, BadReport}
 use Rattle.exports_values.specs.Counts.{countsOf}
 use Rattle.exports_values.specs.Lent.{stateSize, walkOf, stateOf}
 use Rattle.exports_values.specs.Lent.{textStepNumber, textYieldLeft, textStateLeft, binaryStepNumber, binaryYieldLeft, binaryStateLeft}
 use Rattle.exports_claims.specs.Words.{InBinary, InText, Report, ReadText, ReadBinary, WroteText, WroteBinary, YieldsText, YieldsBinary}
-use Rattle.exports_claims.specs.Words.{textLent, binaryLent}
+use Rattle.exports_claims.specs.Words.{ReadIndexedText, ReadIndexedBinary, textLent, binaryLent}
 
 -- ---- the numbers: 0 is answered exactly where the call is accepted, so that no refusal can be taken for a pass; 255 exactly at the end of
 -- a walk
@@ -43,6 +47,15 @@ pub record ZeroClaims : Type 0 where
       → (textWrittenNumber (writeText code tag tags raw (length d)) ≡ 0) ↔ WroteText (writeText code tag tags raw (length d))
   pub write-binary : (code : Code) (tag : List ℕ) (tags : ℕ) (raw d : List ℕ)
       → (binaryWrittenNumber (writeBinary code tag tags raw (length d)) ≡ 0) ↔ WroteBinary (writeBinary code tag tags raw (length d))
+  -- 02 a: "Add reading and writing of single indexed items"
+  pub read-indexed-text : (s : List ℕ) (at : ℕ) (d : List ℕ)
+      → (textNumber (readIndexedText s at (length d)) ≡ 0) ↔ ReadIndexedText (readIndexedText s at (length d))
+  pub read-indexed-binary : (s : List ℕ) (at : ℕ) → (binaryNumber (readIndexedBinary s at) ≡ 0) ↔ ReadIndexedBinary (readIndexedBinary s at)
+  pub write-indexed-text : (code : IndexCode) (index ondex : ℕ) (raw d : List ℕ)
+      → (textWrittenNumber (writeIndexedText code index ondex raw (length d)) ≡ 0) ↔ WroteText (writeIndexedText code index ondex raw (length d))
+  pub write-indexed-binary : (code : IndexCode) (index ondex : ℕ) (raw d : List ℕ)
+      → (binaryWrittenNumber (writeIndexedBinary code index ondex raw (length d)) ≡ 0)
+      ↔ WroteBinary (writeIndexedBinary code index ondex raw (length d))
   pub walk-text : (s : List ℕ) (w : Walk) → (textStepNumber (textStep s w .found) ≡ 0) ↔ YieldsText (textStep s w .found)
   pub walk-binary : (s : List ℕ) (w : Walk) → (binaryStepNumber (binaryStep s w .found) ≡ 0) ↔ YieldsBinary (binaryStep s w .found)
   pub end-text : (s : List ℕ) (w : Walk) → (textStepNumber (textStep s w .found) ≡ 255) ↔ (textStep s w .found ≡ TI.End)
@@ -63,6 +76,14 @@ pub record KeepClaims : Type 0 where
       (textWrittenNumber a ≡ 0 → ⊥) → textItemLeft a code tag tags raw d ≡ d
   pub write-binary : (code : Code) (tag : List ℕ) (tags : ℕ) (raw d : List ℕ) → let a = writeBinary code tag tags raw (length d) in
       (binaryWrittenNumber a ≡ 0 → ⊥) → binaryItemLeft a code tag tags raw d ≡ d
+  pub read-indexed-text : (s : List ℕ) (at : ℕ) (d info : List ℕ) → let a = readIndexedText s at (length d) in (textNumber a ≡ 0 → ⊥)
+      → (indexedLeft a s at d ≡ d) × (textInfo a info ≡ info)
+  pub read-indexed-binary : (s : List ℕ) (at : ℕ) (info : List ℕ) → let a = readIndexedBinary s at in (binaryNumber a ≡ 0 → ⊥)
+      → binaryInfo a info ≡ info
+  pub write-indexed-text : (code : IndexCode) (index ondex : ℕ) (raw d : List ℕ) → let a = writeIndexedText code index ondex raw (length d) in
+      (textWrittenNumber a ≡ 0 → ⊥) → textIndexedLeft a code index ondex raw d ≡ d
+  pub write-indexed-binary : (code : IndexCode) (index ondex : ℕ) (raw d : List ℕ) → let a = writeIndexedBinary code index ondex raw (length d) in
+      (binaryWrittenNumber a ≡ 0 → ⊥) → binaryIndexedLeft a code index ondex raw d ≡ d
   -- "At a refusal or the end the state stays as it was."
   pub walk-text : (s : List ℕ) (w : Walk) (state item : List ℕ) → let a = textStep s w in (textStepNumber (a .found) ≡ 0 → ⊥)
       → (textYieldLeft (a .found) item ≡ item) × (textStateLeft (a .found) (a .next) state ≡ state)

@@ -25,20 +25,32 @@ use Rattle.exports_claims.specs.Claims.{LentClaims}
 behind : (ends ys : List ℕ) → length ends ≡ maxDepth → (n : ℕ) → getD (ends ++ ys) (maxDepth + n) 0 ≡ getD ys n 0
 behind ends ys l n = rw (← l) (getD-append-add ends ys n 0)
 
-back-by : (ends : List ℕ) (depth at : ℕ) (first : Bool) → length ends ≡ maxDepth
-    → walkAt (ends ++ placeNumbers depth at first) (placeIn (ends ++ placeNumbers depth at first)) ≡ record { ends = ends; depth = depth; at = at; first = first }
-unfolding placeIn
-back-by ends depth at true l =
-    rw (take-at ends (placeNumbers depth at true) maxDepth l, behind ends (placeNumbers depth at true) l 0, behind ends (placeNumbers depth at true) l 1, behind ends (placeNumbers depth at true) l 2)
-back-by ends depth at false l =
-    rw (take-at ends (placeNumbers depth at false) maxDepth l, behind ends (placeNumbers depth at false) l 0, behind ends (placeNumbers depth at false) l 1, behind ends (placeNumbers depth at false) l 2)
+module _ (ends : List ℕ) (depth at : ℕ) (full : length ends ≡ maxDepth) where
+  abbrev numbers : Bool → Bool → List ℕ
+  numbers first indexed = ends ++ placeNumbers depth at first indexed
+
+  -- a number behind the slots
+  number : (first indexed : Bool) (n : ℕ) → getD (numbers first indexed) (maxDepth + n) 0 ≡ getD (placeNumbers depth at first indexed) n 0
+  number first indexed n = behind ends (placeNumbers depth at first indexed) full n
+
+  back-by : (first indexed : Bool)
+      → walkAt (numbers first indexed) (placeIn (numbers first indexed)) ≡ record { ends = ends; depth = depth; at = at; first = first; indexed = indexed }
+  unfolding placeIn
+  back-by true true =
+      rw (take-at ends (placeNumbers depth at true true) maxDepth full, number true true 0, number true true 1, number true true 2, number true true 3)
+  back-by true false =
+      rw (take-at ends (placeNumbers depth at true false) maxDepth full, number true false 0, number true false 1, number true false 2, number true false 3)
+  back-by false true =
+      rw (take-at ends (placeNumbers depth at false true) maxDepth full, number false true 0, number false true 1, number false true 2, number false true 3)
+  back-by false false =
+      rw (take-at ends (placeNumbers depth at false false) maxDepth full, number false false 0, number false false 1, number false false 2, number false false 3)
 
 back : (w : Walk) → length (w .ends) ≡ maxDepth → walkOf (stateOf w) ≡ w
 unfolding walkOf stateOf
 back w full =
-    ap (λ (x : List ℕ). walkAt (x ++ placeNumbers (w .depth) (w .at) (w .first)) (placeIn (x ++ placeNumbers (w .depth) (w .at) (w .first))))
+    ap (λ (x : List ℕ). walkAt (x ++ placeNumbers (w .depth) (w .at) (w .first) (w .indexed)) (placeIn (x ++ placeNumbers (w .depth) (w .at) (w .first) (w .indexed))))
     (take-all maxDepth (w .ends) (omega arith))
-    ∙ back-by (w .ends) (w .depth) (w .at) (w .first) full
+    ∙ back-by (w .ends) (w .depth) (w .at) full (w .first) (w .indexed)
 
 zeros : walkOf (replicate stateSize 0) ≡ start
 unfolding walkOf placeIn start

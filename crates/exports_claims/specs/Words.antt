@@ -17,6 +17,10 @@ use Rattle.format.specs.declared.TextWritten.{TextWritten}
 use Rattle.format.specs.declared.TextWritten.the-variants as TW
 use Rattle.format.specs.declared.BinaryWritten.{BinaryWritten}
 use Rattle.format.specs.declared.BinaryWritten.the-variants as BW
+use Rattle.format.specs.declared.TextIndexed.{TextIndexed}
+use Rattle.format.specs.declared.TextIndexed.the-variants as TX
+use Rattle.format.specs.declared.BinaryIndexed.{BinaryIndexed}
+use Rattle.format.specs.declared.BinaryIndexed.the-variants as BX
 use Rattle.walk_state.specs.declared.TextItem.{TextItem}
 use Rattle.walk_state.specs.declared.TextItem.the-variants as TI
 use Rattle.walk_state.specs.declared.BinaryItem.{BinaryItem}
@@ -55,6 +59,14 @@ WroteText (TW.Refused m p) = ⊥
 abbrev pub WroteBinary : BinaryWritten → Type 0
 WroteBinary (BW.Written n) = Unit {0}
 WroteBinary (BW.Refused m p) = ⊥
+
+abbrev pub ReadIndexedText : TextIndexed → Type 0
+ReadIndexedText (TX.Found p) = Unit {0}
+ReadIndexedText (TX.Refused m p) = ⊥
+
+abbrev pub ReadIndexedBinary : BinaryIndexed → Type 0
+ReadIndexedBinary (BX.Found p) = Unit {0}
+ReadIndexedBinary (BX.Refused m p) = ⊥
 
 -- ---- a step that yields, and one that tells the end
 
