@@ -1,9 +1,13 @@
 -- The state that C lends is the walk's: zeros are the start, a state that was written is read back as it was, and so the calls step as the
 -- walk does. Assumes nothing.
-use Prim.Native.Nat.{ℕ, zero, suc, _+_}
+use Prim.Native.Nat.{ℕ, zero, suc, _+_, _<_}
 use mathlib.Core.Path.{_≡_, refl, sym, ap, _∙_}
 use mathlib.Core.List.{List, _++_}
 use mathlib.Core.Bool.{Bool, true, false}
+use mathlib.Core.Logic.{_⊎_, inl, inr}
+use lib.Dec.{ltb}
+use borrow.Author.Tests.{lt-ltb}
+use Rattle.base.specs.Pick.{pick}
 use native.Mathlib.Omega.{arith}
 use lib.ListN.{length, getD, replicate}
 use lib.Seq.{getD-append-add, take-at, take-all}
@@ -13,11 +17,11 @@ use Rattle.laws.specs.Domains.{text-reader, binary-reader}
 use Rattle.walk_state.specs.declared.Walk.{Walk}
 use Rattle.walk_state.specs.declared.Found.{Found}
 use Rattle.walk_state.specs.declared.Found.the-variants as F
-use Rattle.walk_state.specs.Walking.{start, stepIn, textItem, textStep, binaryItem, binaryStep}
+use Rattle.walk_state.specs.Walking.{start, isFit, stepIn, textItem, textStep, binaryItem, binaryStep}
 use Rattle.walk_claims.specs.Words.{Stops, after}
 use Rattle.walk_claims.specs.Runs.{stays, after-fits}
 use Rattle.walk_state.specs.Lent.{walkAt}
-use Rattle.exports_values.specs.Lent.{stateSize, placeIn, placeNumbers, walkOf, stateOf, textStateLeft, binaryStateLeft}
+use Rattle.exports_values.specs.Lent.{stateSize, tooMany, placeIn, placeNumbers, walkOf, stateOf, textStateLeft, binaryStateLeft}
 use Rattle.exports_claims.specs.Words.{textLent, binaryLent}
 use Rattle.exports_claims.specs.Claims.{LentClaims}
 
@@ -51,6 +55,26 @@ back w full =
     ap (λ (x : List ℕ). walkAt (x ++ placeNumbers (w .depth) (w .at) (w .first) (w .indexed)) (placeIn (x ++ placeNumbers (w .depth) (w .at) (w .first) (w .indexed))))
     (take-all maxDepth (w .ends) (omega arith))
     ∙ back-by (w .ends) (w .depth) (w .at) full (w .first) (w .indexed)
+
+-- ---- a mark is 0 or 1
+
+-- for any other more groups are told to be open than may be
+abbrev tooManyOpen : ℕ → ℕ → ℕ → ℕ
+tooManyOpen mark other depth = pick (ltb 1 mark) tooMany (pick (ltb 1 other) tooMany depth)
+
+both : (b : Bool) → pick b tooMany tooMany ≡ tooMany
+both true = refl
+both false = refl
+
+either : (mark other depth : ℕ) → (1 < mark) ⊎ (1 < other) → tooManyOpen mark other depth ≡ tooMany
+either mark other depth (inl h) = rw (lt-ltb 1 mark h)
+either mark other depth (inr h) = rw (lt-ltb 1 other h) (both (ltb 1 mark))
+
+marks : (s : List ℕ) (n : ℕ) → (1 < getD s (maxDepth + 2) 0) ⊎ (1 < getD s (maxDepth + 3) 0) → isFit (walkOf s) n ≡ false
+unfolding isFit walkOf placeIn
+marks s n h = rw (either (getD s (maxDepth + 2) 0) (getD s (maxDepth + 3) 0) (getD s maxDepth 0) h)
+
+-- ---- zeros
 
 zeros : walkOf (replicate stateSize 0) ≡ start
 unfolding walkOf placeIn start
@@ -91,4 +115,4 @@ binary-walk xs (suc k) =
     (stays binary xs (after binary xs k)) (after-fits binary binary-reader xs (suc k) .nest .full))
 
 pub lent-claims : LentClaims
-lent-claims = record { zeros = zeros; back = back; text-walk = text-walk; binary-walk = binary-walk }
+lent-claims = record { zeros = zeros; back = back; marks = marks; text-walk = text-walk; binary-walk = binary-walk }

@@ -44,8 +44,8 @@ pub record LargeHolds : Type 0 where
   pub first-item : Gives text (λ s. s) (example (45 ∷ 45 ∷ 65 ∷ 65 ∷ 65 ∷ 66 ∷ 65 ∷ 65 ∷ 45 ∷ 95 ∷ 65 ∷ 65 ∷ 65 ∷ 66 ∷ 65 ∷ 65 ∷ 52 ∷ 66 ∷ 95 ∷ 57 ∷ zeros 4093) (refused 7 8))
   -- `--LAABAS`: 187 indexed items, "large too"
   pub indexed-passes : Gives text (λ s. s) (example (45 ∷ 45 ∷ 76 ∷ 65 ∷ 65 ∷ 66 ∷ 65 ∷ 83 ∷ zeros 4114) accepted)
-  -- `--KAABAA`: 186, and four units that are none
-  pub indexed-passed : Gives text (λ s. s) (example (45 ∷ 45 ∷ 75 ∷ 65 ∷ 65 ∷ 66 ∷ 65 ∷ 65 ∷ zeros 4096) (refused 4 16376))
+  -- `--KAABAAEAAA`: a start of the master table alone
+  pub indexed-only : Gives text (λ s. s) (example (45 ∷ 45 ∷ 75 ∷ 65 ∷ 65 ∷ 66 ∷ 65 ∷ 65 ∷ 69 ∷ 65 ∷ 65 ∷ 65 ∷ zeros 4095) (refused 6 8))
   -- "A variable value opens with its 0, 1 or 2 zero lead bytes; the rest is raw"
   pub starts : (raws 0 4096 ≡ (6, 12288)) × (raws 1 4096 ≡ (7, 12287)) × (raws 2 4096 ≡ (8, 12286))
   -- a large header in B, `8AAHABAA`
@@ -65,7 +65,7 @@ large-holds = record {
   text-not-filled = refl;
   first-item = refl;
   indexed-passes = refl;
-  indexed-passed = refl;
+  indexed-only = refl;
   starts = (refl, refl, refl);
   header = refl;
 }
