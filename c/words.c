@@ -28,11 +28,13 @@ const char *cesr_words(uint8_t number) {
     case CESR_TOO_DEEP:
         return "group standing within 64 groups already";
     case CESR_UNFIT_LENGTH:
-        return "writer: raw length or tag length unfit for the code";
+        return "writer: raw length, tag length, index or ondex unfit for the code";
     case CESR_UNFIT_STATE:
         return "walk state unfit for the stream";
     case CESR_NOT_A_PRIMITIVE:
         return "primitive asked for, group or genus/version found";
+    case CESR_ONDEX:
+        return "ondex digits not zero in a code for the current key list only";
     case CESR_TEXT_FILL:
         return "type `A` without its full fill, or text that itself starts with `A`";
     case CESR_NOT_SHORT:

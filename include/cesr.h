@@ -5,9 +5,9 @@
  * returns a number: 0 for accepted, or one of the numbers below for refused. A refused call writes to no buffer, tag, info, item or
  * state: it writes only the place behind `answer`, a comparison its five zeros and cesr_passed its 0; a walk in instalments that is
  * refused on the way has taken the items before it. An accepted call writes its answer from the buffer's start; bytes behind it stay. The
- * place is the character for 5 and 19, else the item's start; 0 for 1, 2, 3, 12, 13, 20 and for a writer's 6, 16 and 18, and for a writer's
- * 5 and 19 the index among the tag characters or in the text. Places, offsets and lengths count characters in T and bytes in B. Where 5
- * stands in the order of a call, the first character outside the alphabet gives 5 or 19.
+ * place is the character for 5 and 19, else the item's start; 0 for 1, 2, 3, 12, 13, 20 and for a writer's 6, 15, 16 and 18, and for a
+ * writer's 5 and 19 the index among the tag characters or in the text. Places, offsets and lengths count characters in T and bytes in B.
+ * Where 5 stands in the order of a call, the first character outside the alphabet gives 5 or 19.
  *
  * What the caller ensures: each length is that of the memory behind its pointer, which may be null where the length is 0 and is null
  * nowhere else; what is written (buffer, tag, info, item, state, items, answer, passed) overlaps nothing else that the call is given. The
@@ -52,9 +52,10 @@ enum cesr_number {
     CESR_LEAD_WITHOUT_VALUE = 9, /* selector 5, 6, 8, 9 with n = 0 */
     CESR_PREPAD = 10,            /* tag prepad not _ */
     CESR_TOO_DEEP = 11,          /* group standing within 64 groups already */
-    CESR_UNFIT_LENGTH = 12,      /* writer: raw length or tag length unfit for the code */
+    CESR_UNFIT_LENGTH = 12,      /* writer: raw length, tag length, index or ondex unfit for the code */
     CESR_UNFIT_STATE = 13,       /* walk state unfit for the stream */
     CESR_NOT_A_PRIMITIVE = 14,   /* primitive asked for, group or genus/version found */
+    CESR_ONDEX = 15,             /* ondex digits not zero in a code for the current key list only */
     CESR_TEXT_FILL = 16,         /* type A without its full fill, or text that itself starts with A */
     CESR_NOT_SHORT = 18,         /* large variable code or large group whose size fits the small code */
     CESR_ORDINARY_BASE64 = 19,   /* +, / or = of ordinary Base64 (in T, or a character of a tag or text given to a writer) */
@@ -157,18 +158,61 @@ uint8_t cesr_write_text(uint8_t chars, uint8_t letter, const uint8_t tag[CESR_TA
 uint8_t cesr_write_binary(uint8_t chars, uint8_t letter, const uint8_t tag[CESR_TAG], size_t tags, const uint8_t *raw, size_t raw_len,
                           uint8_t *out, size_t out_len, size_t *answer);
 
+/* Indexed items stand within groups -K and -L, large too, and nowhere else; nothing else stands there. Their codes are a table of their
+ * own: a letter A to D; 0 and A or B; 2 and A to D; 3 and A or B. A code is two characters, selector and letter; the selector is the
+ * number 0 where the letter stands alone. Digits of the index follow it, then those of the ondex: one and none, one and one, two and two,
+ * three and three. The ondex is 0 where it has no digits, and must be 0 in codes for the current key list only: B, D, 0B, 2B, 2D, 3B. */
+
+/* The most that one has: bytes of its raw value, characters in T, bytes in B. */
+#define CESR_INDEXED_MOST_RAW 114
+#define CESR_INDEXED_MOST_TEXT 160
+#define CESR_INDEXED_MOST_BINARY 120
+
+/* What info holds after an accepted read of an indexed item, CESR_INDEXED numbers. */
+enum cesr_indexed {
+    CESR_INDEXED_SELECTOR = 0, /* a character, or 0 */
+    CESR_INDEXED_LETTER = 1,
+    CESR_INDEXED_SIZE = 2,  /* full size in units */
+    CESR_INDEXED_START = 3, /* where the raw value starts, in bytes of the item's binary form */
+    CESR_INDEXED_RAW = 4,   /* raw length in bytes */
+    CESR_INDEXED_INDEX = 5,
+    CESR_INDEXED_ONDEX = 6,
+    CESR_INDEXED
+};
+
+/* Reads the indexed item of a text at an offset: 1, 4 at or past the end, framing by the indexed table (a group or genus/version is 6),
+ * judging (5 or 19 behind the header, 8, 15), 3. The raw value is copied to out; room asked is its length. *answer: that length, or the
+ * place. Refused, out and info stay as they were; accepted, bytes of out behind the raw value stay. */
+uint8_t cesr_read_indexed_text(const uint8_t *stream, size_t stream_len, size_t at, uint8_t *out, size_t out_len,
+                               size_t info[CESR_INDEXED], size_t *answer);
+
+/* The same of a binary, but for 3: the raw value isn't copied. It is the part of the stream of info[CESR_INDEXED_RAW] bytes from
+ * at + info[CESR_INDEXED_START] on. */
+uint8_t cesr_read_indexed_binary(const uint8_t *stream, size_t stream_len, size_t at, size_t info[CESR_INDEXED], size_t *answer);
+
+/* Writes an indexed item as text: 6 (no such code), 12 (raw length; index or ondex too large for its digits, without digits any but 0), 15
+ * (an ondex other than 0 for a code that is for the current key list only), 3. Room asked is the exact size. *answer: the characters
+ * written, or 0. Refused, out stays as it was; accepted, bytes behind the item stay. */
+uint8_t cesr_write_indexed_text(uint8_t selector, uint8_t letter, size_t index, size_t ondex, const uint8_t *raw, size_t raw_len,
+                                uint8_t *out, size_t out_len, size_t *answer);
+
+/* The same as binary. */
+uint8_t cesr_write_indexed_binary(uint8_t selector, uint8_t letter, size_t index, size_t ondex, const uint8_t *raw, size_t raw_len,
+                                  uint8_t *out, size_t out_len, size_t *answer);
+
 /* At most so many groups are open. */
 #define CESR_MAX_DEPTH 64
 
 /* The walk's state, CESR_STATE numbers: the ends of the open groups, outermost first, unused slots 0; the number open; the position;
- * whether the next item is first in an overrideable group (0 or 1; any other value is 13). Ends and position count units, in T and in
- * B. Zeros alone are the start of every stream. */
+ * whether the next item is first in an overrideable group; whether the innermost open group is one that holds indexed items, -K or -L
+ * (each 0 or 1; any other value is 13). Ends and position count units, in T and in B. Zeros alone are the start of every stream. */
 enum cesr_state {
     CESR_STATE_ENDS = 0,
     CESR_STATE_OPEN = CESR_MAX_DEPTH,
     CESR_STATE_POSITION = CESR_MAX_DEPTH + 1,
     CESR_STATE_FIRST = CESR_MAX_DEPTH + 2,
-    CESR_STATE = CESR_MAX_DEPTH + 3
+    CESR_STATE_INDEXED = CESR_MAX_DEPTH + 3,
+    CESR_STATE = CESR_MAX_DEPTH + 4
 };
 
 /* What item holds after a step that yielded one, CESR_ITEM numbers. */
@@ -176,9 +220,9 @@ enum cesr_item {
     CESR_ITEM_OFFSET = 0,
     CESR_ITEM_SIZE = 1,
     CESR_ITEM_DEPTH = 2,  /* the number of groups it stands within */
-    CESR_ITEM_CHARS = 3,  /* as above, or 7 for a small group, 8 for a large one, 9 for a genus/version */
+    CESR_ITEM_CHARS = 3,  /* as above, or 7 for a small group, 8 for a large one, 9 for a genus/version, 10 for an indexed item */
     CESR_ITEM_LETTER = 4, /* 0 for a genus/version */
-    CESR_ITEM_LEAD = 5,   /* lead bytes of a variable, which tell its selector; else 0 */
+    CESR_ITEM_LEAD = 5,   /* lead bytes of a variable, which tell its selector; an indexed item's selector as above; else 0 */
     CESR_ITEM
 };
 

@@ -31,7 +31,7 @@ LIMIT = _Forms(text=4194304, binary=3145728)
 UNIT = _Forms(text=4, binary=3)
 
 # Lengths of what the library is lent, as in cesr.h.
-_TAG, _INFO, _ITEM, _COMPARED, _STATE = 11, 7, 6, 5, 67
+_TAG, _INFO, _ITEM, _COMPARED, _STATE, _INDEXED = 11, 7, 6, 5, 68, 7
 _UNFIT_LENGTH, _END = 12, 255
 
 _byte, _size = ctypes.c_uint8, ctypes.c_size_t
@@ -45,6 +45,8 @@ Remainder = namedtuple("Remainder", "offset number")
 Step = namedtuple("Step", "offset size depth code")
 # text is the value of type A, and None for any other code.
 Primitive = namedtuple("Primitive", "code size tag raw text")
+# An indexed signature, as it stands within -K and -L; its code is like A, 0B or 2C.
+Indexed = namedtuple("Indexed", "code size index ondex raw")
 Comparison = namedtuple("Comparison", "passed failed not_reached beyond remainders_agree")
 
 
@@ -93,6 +95,11 @@ _passed = _declared("cesr_passed", _bytes, _size, _sizes)
 _compare = _declared("cesr_compare", _bytes, _size, _bytes, _size, _sizes)
 _read = _both("read", _bytes, _size, _size, _bytes, _size, _bytes, _sizes, _sizes)
 _write = _both("write", _byte, _byte, _bytes, _size, _bytes, _size, _bytes, _size, _sizes)
+_read_indexed = _Forms(
+    text=_declared("cesr_read_indexed_text", _bytes, _size, _size, _bytes, _size, _sizes, _sizes),
+    binary=_declared("cesr_read_indexed_binary", _bytes, _size, _size, _sizes, _sizes),
+)
+_write_indexed = _both("write_indexed", _byte, _byte, _size, _size, _bytes, _size, _bytes, _size, _sizes)
 _walk = _both("walk", _bytes, _size, _sizes, _sizes, _sizes)
 
 
@@ -186,11 +193,18 @@ def compare(expected, report):
 
 # ---- codes: the library's numbers, and characters for people
 
-_FIXED = {1: "", 2: "0", 4: "1AA"}
+_FIXED, _IS_INDEXED = {1: "", 2: "0", 4: "1AA"}, 10
 _SPELLINGS = {1: "[A-Za-z]", 2: "0[ -~]", 4: "1AA[ -~]", 5: "[456][ -~]", 6: "[789]AA[ -~]"}
 
 
+def _spelt_indexed(selector, letter):
+    return (chr(selector) if selector else "") + chr(letter)
+
+
 def _spelt(chars, letter, lead):
+    """Of an indexed item the last number is its selector."""
+    if chars == _IS_INDEXED:
+        return _spelt_indexed(lead, letter)
     letter = chr(letter)
     kinds = {5: f"{4 + lead}{letter}", 6: f"{7 + lead}AA{letter}", 7: f"-{letter}", 8: f"--{letter}", 9: "-_"}
     return kinds[chars] if chars in kinds else _FIXED[chars] + letter
@@ -246,6 +260,33 @@ def write_variable(form, letter, raw):
         if refusal.number != _UNFIT_LENGTH:
             raise
         return _written(form, 6, ord(letter), "", raw)
+
+
+# ---- one indexed item
+
+
+def read_indexed(form, stream, at=0):
+    """The indexed item at an offset, by the table of signature groups."""
+    stream, unit = _plain(stream), UNIT[form]
+    info, answer, out = (_size * _INDEXED)(), _size(), ctypes.create_string_buffer(128)
+    lent = (out, len(out)) if form == "text" else ()
+    number = _read_indexed[form](stream, len(stream), at, *lent, info, ctypes.byref(answer))
+    if number:
+        raise Refused(number, answer.value)
+    selector, letter, units, start, length, index, ondex = info[:_INDEXED]
+    raw = out.raw[:length] if form == "text" else stream[at + start : at + start + length]
+    return Indexed(_spelt_indexed(selector, letter), units * unit, index, ondex, raw)
+
+
+def write_indexed(form, code, index, ondex, raw):
+    """An indexed item: its code, like A, 0B or 2C, its places in the current key list and in the next one, and the signature."""
+    if not re.fullmatch("[!-~]{1,2}", code, re.ASCII):
+        raise ValueError(f"an indexed code is like A, 0B or 2C, not {code!r}")
+    selector, raw, most = ord(code[0]) if len(code) == 2 else 0, _plain(raw), _size(-1).value
+    if min(index, ondex) < 0:
+        raise ValueError("an index or ondex is 0 or more")
+    index, ondex = min(index, most), min(ondex, most)
+    return _filled(_write_indexed[form], 160, selector, ord(code[-1]), index, ondex, raw, len(raw))
 
 
 # ---- all depths

@@ -158,13 +158,43 @@ class Written(unittest.TestCase):
             self.assertRaises(ValueError, cesr.write, "text", code)
 
 
+class Indexed(unittest.TestCase):
+    def test_there_and_back(self):
+        for code, index, ondex, raw in [("A", 63, 0, 64), ("0A", 1, 2, 114), ("2C", 65, 130, 64), ("3B", 262143, 0, 114)]:
+            raw = bytes(range(raw))
+            for form in ["text", "binary"]:
+                item = cesr.write_indexed(form, code, index, ondex, raw)
+                self.assertEqual(cesr.read_indexed(form, item), (code, len(item), index, ondex, raw))
+        self.assertTrue(cesr.write_indexed("text", "2A", 65, 130, bytes(64)).startswith(b"2ABBCCAA"))
+
+    def test_in_a_group(self):
+        group = b"-KAt" + cesr.write_indexed("text", "B", 5, 0, bytes(64)) + cesr.write_indexed("text", "2C", 65, 2, bytes(64))
+        self.assertEqual(list(cesr.walk("text", group)), [(0, 184, 0, "-K"), (4, 88, 1, "B"), (92, 92, 1, "2C")])
+        self.assertTrue(cesr.judge("text", group).passed)
+        self.assertEqual(cesr.read_indexed("text", group, 92)[:4], ("2C", 92, 65, 2))
+        # A key of the master table is half an item here, and a digest is none.
+        for start, number in [(b"D", 4), (b"E", 6)]:
+            report = cesr.judge("text", b"-KAL" + start + b"A" * 43)
+            self.assertEqual(report.refusals, [(0, number, 4)])
+
+    def test_refusals(self):
+        self.assertEqual(refused(cesr.write_indexed, "text", "E", 0, 0, bytes(64)), (6, 0))
+        self.assertEqual(refused(cesr.write_indexed, "text", "A", 64, 0, bytes(64)), (12, 0))
+        self.assertEqual(refused(cesr.write_indexed, "text", "A", 2**64, 0, bytes(64)), (12, 0))
+        self.assertEqual(refused(cesr.write_indexed, "text", "B", 0, 1, bytes(64)), (12, 0))
+        self.assertEqual(refused(cesr.write_indexed, "text", "2B", 0, 1, bytes(64)), (15, 0))
+        self.assertEqual(refused(cesr.read_indexed, "text", b"-KAA"), (6, 0))
+        self.assertRaises(ValueError, cesr.write_indexed, "text", "2AA", 0, 0, bytes(64))
+        self.assertRaises(ValueError, cesr.write_indexed, "text", "A", -1, 0, bytes(64))
+
+
 class Said(unittest.TestCase):
     def test_words_are_those_of_the_list(self):
         rows = [line.split(" ", 2) for line in (HERE.parent / "include/numbers.txt").read_text().splitlines() if line[:1].isdigit()]
         self.assertGreater(len(rows), 16)
         for number, _, words in rows:
             self.assertEqual(cesr.words(int(number)), words)
-        self.assertEqual([cesr.words(number) for number in (15, 200, -1, 256)], [""] * 4)
+        self.assertEqual([cesr.words(number) for number in (17, 200, -1, 256)], [""] * 4)
 
     def test_a_report_is_no_pass(self):
         with self.assertRaisesRegex(TypeError, "a report is no pass"):

@@ -10,6 +10,7 @@ cd "$top"
 work=$top/target/fuzz/faults
 mkdir -p "$work/target"
 ln -sfn "$top/target/staticlib" "$work/target/staticlib"
+ln -sfn "$top/crates.txt" "$work/crates.txt"
 rust/target/release/fuzz dictionary >"$work/words.dict"
 missed=0
 while IFS='|' read -r name file edit; do

@@ -103,6 +103,10 @@ static void nulls(void) {
     check(cesr_write_text(4, 'M', tag, 0, NULL, 0, out, sizeof out, &answer) == 0 && answer == 4, "no raw value", "null");
     check(cesr_write_binary(4, 'M', tag, 0, NULL, 0, out, sizeof out, &answer) == 0 && answer == 3, "no raw value", "null");
     check(cesr_write_text(4, 'M', tag, 0, NULL, 0, NULL, 0, &answer) == CESR_ROOM, "no room", "null");
+    check(cesr_read_indexed_text(NULL, 0, 0, NULL, 0, info, &answer) == CESR_PAST_END, "nothing to read", "null");
+    check(cesr_read_indexed_binary(NULL, 0, 0, info, &answer) == CESR_PAST_END, "nothing to read", "null");
+    check(cesr_write_indexed_text(0, 'A', 0, 0, NULL, 0, out, sizeof out, &answer) == CESR_UNFIT_LENGTH, "no raw value", "null");
+    check(cesr_write_indexed_binary(0, 'A', 0, 0, NULL, 0, NULL, 0, &answer) == CESR_UNFIT_LENGTH, "no raw value", "null");
     check(cesr_walk_text(NULL, 0, state, item, &answer) == CESR_END, "the end", "null");
     check(cesr_walk_binary(NULL, 0, state, item, &answer) == CESR_END, "the end", "null");
     check(cesr_walk_on_text(NULL, 0, state, 9, info, &answer) == CESR_END && info[0] == 0, "the end", "null");

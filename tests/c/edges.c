@@ -425,7 +425,7 @@ int main(void) {
         streams_of(items);
     }
     streams_of(2048); /* 8,192 characters */
-    cut_in_both_forms("-AAE-_AAACAA0J_AMAAB-JAC5BABAGhp-KABAAAA6BABAABh4BAA", CESR_END);
+    cut_in_both_forms("-AAE-_AAACAA0J_AMAAB-JAC5BABAGhp-KAWA_D_AAAAAAAAAAAAAAAAAAAAAAAAAAAAAAAAAAAAAAAAAAAAAAAAAAAAAAAAAAAAAAAAAAAAAAAAAAAAAAAAAAAA6BABAABh4BAA", CESR_END);
     cut_in_both_forms("EBdXt3gIXOf2BBWNHdSXCJnFJL5OuQPyM5K0neuniccM1AAF____0HD_____", CESR_END);
     cut_in_both_forms("MAAB--KAAAABAAAA", CESR_NOT_SHORT);
     cut_in_both_forms("MAAB9AABAAABAABh", CESR_NOT_SHORT);

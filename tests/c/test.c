@@ -294,7 +294,6 @@ static void walking(void) {
     no_step("-AAC-_AAABAA", state, 7, 4);
     memset(state, 0, sizeof state);
     no_step("--AAAAABMAAB", state, CESR_NOT_SHORT, 0);
-    no_step("-KAB_A=!", state, CESR_ORDINARY_BASE64, 6);
     step("-JAC--AAAAAA", state, 0, 12, 0, 7, 'J');
     no_step("-JAC--AAAAAA", state, CESR_NOT_SHORT, 4);
     memset(state, 0, sizeof state);
@@ -310,6 +309,71 @@ static void walking(void) {
     state[CESR_STATE_OPEN] = 0;
     state[CESR_STATE_POSITION] = 2;
     no_step("MAAB", state, 13, 0);
+}
+
+/* ---- indexed items */
+
+static void indexed(void) {
+    uint8_t item[CESR_INDEXED_MOST_BINARY], out[200], raw[64], read[64];
+    size_t info[CESR_INDEXED], answer = 99;
+    for (size_t i = 0; i < sizeof raw; i++) {
+        raw[i] = (uint8_t)i;
+    }
+    memset(out, 0xEE, sizeof out);
+    check(cesr_write_indexed_text('2', 'A', 65, 130, raw, 64, out, 92, &answer) == 0 && answer == 92, "written", "2A");
+    check(memcmp(out, "2ABBCCAA", 7) == 0 && out[92] == 0xEE, "index, then ondex", "2A");
+    check(cesr_read_indexed_text(out, 92, 0, read, 64, info, &answer) == 0 && answer == 64, "read", "2A");
+    check(info[CESR_INDEXED_SELECTOR] == '2' && info[CESR_INDEXED_LETTER] == 'A' && info[CESR_INDEXED_SIZE] == 23, "its code", "2A");
+    check(info[CESR_INDEXED_START] == 5 && info[CESR_INDEXED_RAW] == 64, "its raw value", "2A");
+    check(info[CESR_INDEXED_INDEX] == 65 && info[CESR_INDEXED_ONDEX] == 130, "index and ondex", "2A");
+    check(memcmp(read, raw, 64) == 0, "the raw value", "2A");
+    check(cesr_read_indexed_text(out, 92, 0, read, 63, info, &answer) == CESR_ROOM, "no room", "2A");
+    check(cesr_write_indexed_text('2', 'A', 65, 130, raw, 64, out, 91, &answer) == CESR_ROOM && answer == 0, "no room", "2A");
+    check(cesr_write_indexed_binary(0, 'B', 63, 0, raw, 64, item, 66, &answer) == 0 && answer == 66, "written", "B");
+    check(cesr_read_indexed_binary(item, 66, 0, info, &answer) == 0 && info[CESR_INDEXED_SELECTOR] == 0, "read", "B");
+    check(memcmp(item + info[CESR_INDEXED_START], raw, 64) == 0 && info[CESR_INDEXED_INDEX] == 63, "where it lies", "B");
+    check(cesr_write_indexed_text(0, 'E', 0, 0, raw, 64, out, 92, &answer) == CESR_UNKNOWN_CODE && answer == 0, "6", "E");
+    check(cesr_write_indexed_text(0, 'B', 0, 1, raw, 64, out, 92, &answer) == CESR_UNFIT_LENGTH, "12", "B");
+    check(cesr_write_indexed_text('2', 'B', 0, 1, raw, 64, out, 92, &answer) == CESR_ONDEX && answer == 0, "15", "2B");
+    check(cesr_read_indexed_text((const uint8_t *)"-KAA", 4, 0, read, 64, info, &answer) == CESR_UNKNOWN_CODE, "6", "-KAA");
+    check(cesr_read_indexed_text((const uint8_t *)"-KAA", 4, 9, read, 64, info, &answer) == CESR_PAST_END && answer == 9, "4", "-KAA");
+}
+
+static void indexed_mark(void) {
+    size_t state[CESR_STATE] = {0};
+    step("-KAB_A=!", state, 0, 8, 0, 7, 'K');
+    check(state[CESR_STATE_INDEXED] == 1 && state[CESR_STATE_FIRST] == 0, "in it, the mark of indexed items set", "-KAB");
+    no_step("-KAB_A=!", state, CESR_ORDINARY_BASE64, 6);
+    no_step("-KABMAAB", state, CESR_UNKNOWN_CODE, 4);
+    memset(state, 0, sizeof state);
+    for (size_t mark = 1; mark < 3; mark++) {
+        state[CESR_STATE_INDEXED] = mark;
+        no_step("MAAB", state, CESR_UNFIT_STATE, 0);
+    }
+}
+
+/* A group of two: the walk tells selector and letter as a read does, and a read finds the same. */
+static void indexed_walk(void) {
+    char text[4 + 88 + 156 + 1];
+    size_t state[CESR_STATE] = {0}, step[CESR_ITEM], info[CESR_INDEXED], answer = 99;
+    uint8_t read[CESR_INDEXED_MOST_RAW];
+    memset(text, 'A', sizeof text - 1);
+    text[sizeof text - 1] = 0;
+    memcpy(text, "-LA9D_", 6); /* 22 + 39 units, and 9 is 61 */
+    memcpy(text + 92, "0A_-", 4);
+    check(cesr_walk_text(bytes(text), strlen(text), state, step, &answer) == 0 && step[CESR_ITEM_CHARS] == 7, "a group", "-LA9");
+    for (size_t i = 0; i < 2; i++) {
+        size_t at = i ? 92 : 4;
+        check(cesr_walk_text(bytes(text), strlen(text), state, step, &answer) == 0 && step[CESR_ITEM_OFFSET] == at, "an item", "-LA9");
+        check(step[CESR_ITEM_CHARS] == 10 && step[CESR_ITEM_SIZE] == (i ? 156 : 88) && step[CESR_ITEM_DEPTH] == 1, "indexed", "-LA9");
+        check(cesr_read_indexed_text(bytes(text), strlen(text), at, read, sizeof read, info, &answer) == 0, "read", "-LA9");
+        check(step[CESR_ITEM_LETTER] == info[CESR_INDEXED_LETTER] && info[CESR_INDEXED_LETTER] == (i ? 'A' : 'D'), "letter", "-LA9");
+        check(step[CESR_ITEM_LEAD] == info[CESR_INDEXED_SELECTOR] && info[CESR_INDEXED_SELECTOR] == (i ? '0' : 0), "selector", "-LA9");
+        check(info[CESR_INDEXED_INDEX] == 63 && info[CESR_INDEXED_ONDEX] == (i ? 62 : 0), "index and ondex", "-LA9");
+        check(answer == (i ? CESR_INDEXED_MOST_RAW : 64) && info[CESR_INDEXED_RAW] == answer, "raw length", "-LA9");
+    }
+    check(state[CESR_STATE_INDEXED] == 0 && state[CESR_STATE_OPEN] == 0, "closed again, and no mark", "-LA9");
+    no_step(text, state, CESR_END, 0);
 }
 
 /* ---- the walk in instalments */
@@ -449,6 +513,9 @@ int main(void) {
     reading();
     writing();
     walking();
+    indexed();
+    indexed_mark();
+    indexed_walk();
     instalments();
     binary_walk();
     depths();

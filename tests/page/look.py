@@ -69,10 +69,10 @@ def sha256(path):
 
 
 def long_stream():
-    """Groups and items of all sizes, a refused one a thousandth wide, a part that is not looked into, a remainder."""
+    """Groups and items of all sizes, of signatures too, a refused one a thousandth wide, a remainder."""
     inner = b"-AACMAABMAAB-BAD-CABMAABMAAB"
     parts = [b"-A" + b"AH" + inner] * 40 + [b"MAAB"] * 2000 + [b"MQAA"] + [b"MAAB"] * 1500
-    parts += [b"-KAZ" + b"A" * 100, b"-ABAMAAB" + b"-KA-" + b"B" * 248, b"E" + b"A" * 43, b"_AAA" * 90]
+    parts += [b"-KAs" + b"A" * 176, b"-AAuMAAB" + b"-KAs" + b"B" * 176, b"E" + b"A" * 43, b"_AAA" * 90]
     return b"".join(parts)
 
 
@@ -90,17 +90,18 @@ def pages():
     yield "faults", ["samples/faults.cesr"], b"", 1, [
         "Item 0: refused 4 at 4", "at 4: 0A Random salt", "-A Generic pipeline group, 8 characters from 0",
         "asks for 24 characters, 4 characters are left", "Item 7: refused 11", "64 groups, one in the other", "the byte at 15 is 21",
-        "Item 8: refused 16 at 308", "behind the fill A the text starts with A",
-        "Item 10: refused 19 at 335", "URL-safe Base64 has - for the + at 335"]
+        "Item 8: refused 15 at 312", "at 312: 2B Ed25519 indexed sig, big current only",
+        "Item 9: refused 16 at 404", "behind the fill A the text starts with A",
+        "Item 11: refused 19 at 431", "URL-safe Base64 has - for the + at 431"]
     yield "binary", ["samples/first-binary.cesr"], b"", 1, ["Item 2: refused 8 at 60", "Bytes from 60 on", "13CC18B818E1"]
     yield "many", [*samples, "gone.cesr", "/dev/null"], b"", 2, [
-        "! error", "8 streams: 2 passed, 4 failed, 2 not judged", "gone.cesr", "No such file or directory", "∅ empty",
+        "! error", "9 streams: 3 passed, 4 failed, 2 not judged", "gone.cesr", "No such file or directory", "∅ empty",
         "the stream is empty: nothing was judged", "Refused by number"]
     yield "manifest", ["--manifest", folder / "due.list"], b"", 1, [
         "2 streams, 2 expected: 1 passed, 1 failed", f"Manifest {folder / 'due.list'}", sha256(folder / "due.list")]
     yield "names", [folder / ODD, folder / LONG], b"", 1, ["<b>passed<\\u{2044}b>\\ &\\ 'passed'", LONG,
         "1235 items", "Item 999: refused 8", "234 more items are refused and not listed", "Refused by number"]
-    yield "long", ["-"], long_stream(), 1, ["standard input", "not looked into", "Remainder 6 from", "1 refused"]
+    yield "long", ["-"], long_stream(), 1, ["standard input", "Remainder 6 from", "1 refused"]
 
 
 def said(text):

@@ -1,29 +1,33 @@
 -- What each number of a call is given for, in 01's words, a list for each call in 01's order. It cites the registry's rules, single tests
 -- and the number of a report's items, and none of the definitions whose order is compared with it: those of the calls, of framing and of
 -- judging. No proofs. Assumes nothing.
-use Prim.Native.Nat.{ℕ, zero, suc, _+_, _-_, _*_, _/_, _%_, _≤_, _<_}
+use Prim.Native.Nat.{ℕ, zero, suc, _+_, _-_, _*_, _/_, _%_, _^_, _≤_, _<_}
 use mathlib.Core.Path.{_≡_}
 use mathlib.Core.List.{List, [], _∷_, _++_}
 use mathlib.Core.Bool.{Bool, true, false}
 use mathlib.Core.Logic.{_⊎_}
 use lib.ListN.{length, getD, take, drop}
 use Rattle.format.specs.declared.CodeRow.{CodeRow}
+use Rattle.format.specs.declared.IndexRow.{IndexRow}
+use Rattle.format.specs.declared.IndexCode.{IndexCode}
 use Rattle.format.specs.declared.Kind.{Kind}
-use Rattle.format.specs.declared.Kind.the-variants.{Fixed, Variable, Group, Genus}
+use Rattle.format.specs.declared.Kind.the-variants.{Fixed, Variable, Group, Genus, Indexed}
 use Rattle.format.specs.declared.Opening.{Opening}
-use Rattle.format.specs.declared.Opening.the-variants.{Unknown, Short, LargeVariable, LargeGroup, Version}
+use Rattle.format.specs.declared.Opening.the-variants.{Unknown, Short, Long, LargeVariable, LargeGroup, Version}
 use Rattle.format.specs.declared.Code.{Code}
 use Rattle.format.specs.Alphabet.{ordinary, sextetOf}
 use Rattle.format.specs.Units.{Domain, text, binary}
-use Rattle.format.specs.Registry.{isOpaque, zeroBitsOf, prepadOf, opening, headerUnits, extent}
+use Rattle.format.specs.Registry.{zeroBitsOf, prepadOf, indexChars, openingBy, headerUnits, extent}
 use Rattle.format.specs.Framing.{digits4, sextet}
 use Rattle.format.specs.Judging.{zeroBits, prepadRight}
 use Rattle.format.specs.Texts.{fillFor}
-use Rattle.format.specs.Values.{textIn, valueOf}
+use Rattle.format.specs.Values.{rawStart, ondexOf, textIn, valueOf}
 use Rattle.format.specs.Report.{rowsIn}
 use Rattle.format.specs.Reading.{isPrimitive}
 use Rattle.format.specs.Writing.{Named, rawSize, rawLimit, textLimit, named, charsOf, charsFor, unitsOf}
 use Rattle.format.specs.Writing.Named.{unknown, row, variable, textual}
+use Rattle.format.specs.Indexed.{IndexNamed, indexedRawSize, namedIndex}
+use Rattle.format.specs.Indexed.IndexNamed.{none as no-code, row as code-row}
 use Rattle.claims.specs.Order.{Rule, _when_}
 
 -- ---- 5: "character outside the alphabet"; 19, by 02 j: one "from the ordinary alphabet". "the first bad character is reported, of
@@ -84,30 +88,31 @@ framingRules o at len =
     4 when (len < extent o (digits4 at)) ∷
     []
 
--- what the item's first unit opens
-abbrev pub openingOf : List ℕ → Opening
-openingOf s = opening (sextet s 0) (sextet s 1) (sextet s 2) (sextet s 3)
+-- what the item's first unit opens, by the indexed table or by the master table
+abbrev pub openingOf : Bool → List ℕ → Opening
+openingOf indexed s = openingBy indexed (sextet s 0) (sextet s 1) (sextet s 2) (sextet s 3)
 
 -- the item's kind, the second unit's digits being n
 abbrev pub kindIn : Opening → ℕ → Kind
 kindIn Unknown n = Genus
 kindIn (Short k size) n = k
+kindIn (Long k size) n = k
 kindIn (LargeVariable t l) n = Variable t l n
 kindIn (LargeGroup l d) n = Group l
 kindIn Version n = Genus
 
 -- the item that starts the sextets s: its kind, its header in units, its full size in units
-abbrev pub itemKind : List ℕ → Kind
-itemKind s = kindIn (openingOf s) (digits4 (sextet s))
+abbrev pub itemKind : Bool → List ℕ → Kind
+itemKind indexed s = kindIn (openingOf indexed s) (digits4 (sextet s))
 
-abbrev pub itemHead : List ℕ → ℕ
-itemHead s = headerUnits (openingOf s)
+abbrev pub itemHead : Bool → List ℕ → ℕ
+itemHead indexed s = headerUnits (openingOf indexed s)
 
-abbrev pub itemSize : List ℕ → ℕ
-itemSize s = extent (openingOf s) (digits4 (sextet s))
+abbrev pub itemSize : Bool → List ℕ → ℕ
+itemSize indexed s = extent (openingOf indexed s) (digits4 (sextet s))
 
-abbrev pub framing : List ℕ → List Rule
-framing s = framingRules (openingOf s) (sextet s) (length s / 4)
+abbrev pub framing : Bool → List ℕ → List Rule
+framing indexed s = framingRules (openingOf indexed s) (sextet s) (length s / 4)
 
 -- ---- "Judging a framed primitive: 5 behind the header, 9, 8, 10.", by 02 h 18 "before 9", by 02 c 16 "after 8". Of its own sextets and a
 -- header of h units
@@ -121,6 +126,7 @@ LongForm (Fixed c) h = ⊥
 LongForm (Variable t lead n) h = FitsSmall h n
 LongForm (Group letter) h = ⊥
 LongForm Genus h = ⊥
+LongForm (Indexed c) h = ⊥
 
 -- "selector 5, 6, 8, 9 with n = 0"
 abbrev pub Empty : Kind → Type 0
@@ -128,6 +134,7 @@ Empty (Fixed c) = ⊥
 Empty (Variable t lead n) = (0 < lead) × (n ≡ 0)
 Empty (Group letter) = ⊥
 Empty Genus = ⊥
+Empty (Indexed c) = ⊥
 
 -- "pad bit or lead byte not zero"
 abbrev pub NotZero : Kind → ℕ → List ℕ → Type 0
@@ -135,6 +142,7 @@ NotZero (Fixed c) h s = zeroBits s (c .chars) (zeroBitsOf c) ≡ false
 NotZero (Variable t lead n) h s = zeroBits s (4 * h) (8 * lead) ≡ false
 NotZero (Group letter) h s = ⊥
 NotZero Genus h s = ⊥
+NotZero (Indexed c) h s = zeroBits s (indexChars c) (c .zeros) ≡ false
 
 -- so many `A` stand in front of a value's sextets
 abbrev pub StartsWith : ℕ → List ℕ → Type 0
@@ -159,6 +167,7 @@ NotText (Fixed c) h s = ⊥
 NotText (Variable t lead n) h s = (t ≡ 0) × WrongText lead (drop (4 * h) s)
 NotText (Group letter) h s = ⊥
 NotText Genus h s = ⊥
+NotText (Indexed c) h s = ⊥
 
 -- "tag prepad not `_`"
 abbrev pub OtherPrepad : Kind → List ℕ → Type 0
@@ -166,6 +175,7 @@ OtherPrepad (Fixed c) s = prepadRight s (c .chars) (prepadOf c) ≡ false
 OtherPrepad (Variable t lead n) s = ⊥
 OtherPrepad (Group letter) s = ⊥
 OtherPrepad Genus s = ⊥
+OtherPrepad (Indexed c) s = ⊥
 
 abbrev pub judging : Kind → ℕ → List ℕ → List Rule
 judging k h s =
@@ -178,22 +188,42 @@ judging k h s =
     10 when (OtherPrepad k s) ∷
     []
 
--- ---- "Judging a group: 11, then its items one by one .. An opaque group: 11, then 5.", and by 02 h 18 "directly after 11 .. in the walk too".
--- A step of the walk judges of a group only 11, 18 and, if opaque, 5; l more groups may be entered
+-- ---- 02 a, of an indexed item: 8, and 15 "judged after 8"
 
-abbrev pub groupRules : ℕ → ℕ → ℕ → List ℕ → List Rule
-groupRules l letter h s =
+-- "The four "current only" codes that carry ondex digits must have them zero"
+abbrev pub SetOndex : IndexRow → ℕ → Type 0
+SetOndex c ondex = (c .current ≡ 0 → ⊥) × (ondex ≡ 0 → ⊥)
+
+abbrev pub WrongOndex : Kind → List ℕ → Type 0
+WrongOndex (Fixed c) s = ⊥
+WrongOndex (Variable t lead n) s = ⊥
+WrongOndex (Group letter) s = ⊥
+WrongOndex Genus s = ⊥
+WrongOndex (Indexed c) s = SetOndex c (ondexOf c s)
+
+abbrev pub indexedJudging : Kind → ℕ → List ℕ → List Rule
+indexedJudging k head s =
+    5 when (FirstIs Other (sextet s) (4 * head) (length s)) ∷
+    19 when (FirstIs Ordinary (sextet s) (4 * head) (length s)) ∷
+    8 when (NotZero k head s) ∷
+    15 when (WrongOndex k s) ∷
+    []
+
+-- ---- "Judging a group: 11, then its items one by one", and by 02 h 18 "directly after 11 .. in the walk too". A step of the walk judges of a
+-- group only 11 and 18; l more groups may be entered
+
+abbrev pub groupRules : ℕ → ℕ → List ℕ → List Rule
+groupRules l h s =
     11 when (l ≡ 0) ∷
     18 when (FitsSmall h (length s / 4 - h)) ∷
-    5 when ((isOpaque letter ≡ true) × FirstIs Other (sextet s) (4 * h) (length s)) ∷
-    19 when ((isOpaque letter ≡ true) × FirstIs Ordinary (sextet s) (4 * h) (length s)) ∷
     []
 
 abbrev pub ownRules : ℕ → Kind → ℕ → List ℕ → List Rule
 ownRules l (Fixed c) h s = judging (Fixed c) h s
 ownRules l (Variable t lead n) h s = judging (Variable t lead n) h s
-ownRules l (Group letter) h s = groupRules l letter h s
+ownRules l (Group letter) h s = groupRules l h s
 ownRules l Genus h s = []
+ownRules l (Indexed c) h s = indexedJudging (Indexed c) h s
 
 -- ---- "Reading a primitive at an offset: 1, 4 at or past the end, framing (never 7), 14, judging, then 3 for T", and of type `A` by 02 c
 -- "in both forms, with 3 when room is short"
@@ -203,17 +233,34 @@ abbrev pub readRules : Domain → List ℕ → ℕ → List ℕ → List Rule
 readRules d xs at s =
     1 when (d .limit < length xs) ∷
     4 when (length xs ≤ at) ∷
-    (framing s ++ (14 when (isPrimitive (itemKind s) ≡ false) ∷ judging (itemKind s) (itemHead s) (take (4 * itemSize s) s)))
+    (framing false s
+    ++ (14 when (isPrimitive (itemKind false s) ≡ false) ∷ judging (itemKind false s) (itemHead false s) (take (4 * itemSize false s) s)))
 
 abbrev pub readTextRules : List ℕ → ℕ → ℕ → List Rule
 readTextRules xs at room =
     let s : List ℕ = text .sextets (drop at xs) in
-    readRules text xs at s ++ (3 when (room < length (valueOf (itemKind s) (itemHead s) (take (4 * itemSize s) s))) ∷ [])
+    readRules text xs at s ++ (3 when (room < length (valueOf (itemKind false s) (itemHead false s) (take (4 * itemSize false s) s))) ∷ [])
 
 abbrev pub readBinaryRules : List ℕ → ℕ → ℕ → List Rule
 readBinaryRules xs at room =
     let s : List ℕ = binary .sextets (drop at xs) in
-    readRules binary xs at s ++ (3 when (room < length (textIn (itemKind s) (itemHead s) (take (4 * itemSize s) s))) ∷ [])
+    readRules binary xs at s ++ (3 when (room < length (textIn (itemKind false s) (itemHead false s) (take (4 * itemSize false s) s))) ∷ [])
+
+-- ---- 02 a: reading an indexed item, "by 01's orders for primitives"; "any other start is 6, for the single reader too"
+
+abbrev pub readIndexedRules : Domain → List ℕ → ℕ → List ℕ → List Rule
+readIndexedRules d xs at s =
+    1 when (d .limit < length xs) ∷
+    4 when (length xs ≤ at) ∷
+    (framing true s ++ indexedJudging (itemKind true s) (itemHead true s) (take (4 * itemSize true s) s))
+
+abbrev pub readIndexedTextRules : List ℕ → ℕ → ℕ → List Rule
+readIndexedTextRules xs at room =
+    let s : List ℕ = text .sextets (drop at xs) in
+    readIndexedRules text xs at s ++ (3 when (room < 3 * itemSize true s - rawStart (itemKind true s) (itemHead true s)) ∷ [])
+
+abbrev pub readIndexedBinaryRules : List ℕ → ℕ → List Rule
+readIndexedBinaryRules xs at = readIndexedRules binary xs at (binary .sextets (drop at xs))
 
 -- ---- "Writing, to T or B: 6 (any code that isn't a primitive's), 12, 5 (tags), 3.", by 02 h 18 "directly after 12", and of type `A` by 02 c
 -- "6, 12, 5 (place its index in the text), 16 (place 0), 3"
@@ -249,4 +296,29 @@ writeRules u code tag tags raw room =
     19 when (FirstIs Ordinary (valueIn (charsOf (named code) tag raw)) 0 (charsFor (named code) tags (length raw))) ∷
     16 when (FromA (named code) raw) ∷
     3 when (room < unitsOf (named code) (length raw) * u) ∷
+    []
+
+-- ---- 02 a: writing an indexed item: 6, 12, 15, 3
+
+-- raw length unfit for the code; "an index or ondex too large for its digits (without digits, any but 0)"
+abbrev pub UnfitIndexed : IndexNamed → ℕ → ℕ → ℕ → Type 0
+UnfitIndexed no-code index ondex raw = ⊥
+UnfitIndexed (code-row c) index ondex raw = (raw ≡ indexedRawSize c) × (index < 64 ^ c .index) × (ondex < 64 ^ c .ondex) → ⊥
+
+-- "a nonzero ondex for a "current only" code"
+abbrev pub WrittenOndex : IndexNamed → ℕ → Type 0
+WrittenOndex no-code ondex = ⊥
+WrittenOndex (code-row c) ondex = SetOndex c ondex
+
+abbrev pub indexedUnits : IndexNamed → ℕ
+indexedUnits no-code = 0
+indexedUnits (code-row c) = c .size / 4
+
+-- u elements to the unit
+abbrev pub writeIndexedRules : ℕ → IndexCode → ℕ → ℕ → ℕ → ℕ → List Rule
+writeIndexedRules u code index ondex raw room =
+    6 when (namedIndex code ≡ no-code) ∷
+    12 when (UnfitIndexed (namedIndex code) index ondex raw) ∷
+    15 when (WrittenOndex (namedIndex code) ondex) ∷
+    3 when (room < indexedUnits (namedIndex code) * u) ∷
     []

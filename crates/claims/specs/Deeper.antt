@@ -2,22 +2,20 @@
 use Prim.Native.Nat.{ℕ, zero, suc, _+_, _*_, _≤_}
 use mathlib.Core.Path.{_≡_, refl}
 use mathlib.Core.List.{List, [], _∷_, _++_}
-use mathlib.Core.Bool.{Bool, true, false}
 use native.Mathlib.Omega.{arith}
 use lib.ListN.{length}
-use Rattle.base.specs.Pick.{pick}
 use Rattle.format.specs.declared.Kind.{Kind}
-use Rattle.format.specs.declared.Kind.the-variants.{Fixed, Variable, Group, Genus}
+use Rattle.format.specs.declared.Kind.the-variants.{Fixed, Variable, Group, Genus, Indexed}
 use Rattle.format.specs.declared.Framed.{Framed}
 use Rattle.format.specs.declared.Framed.the-variants.{Item, Unframed}
 use Rattle.format.specs.declared.Verdict.{Verdict}
 use Rattle.format.specs.declared.Verdict.the-variants.{Accepted, Refused}
 use Rattle.format.specs.Units.{Domain}
-use Rattle.format.specs.Registry.{isOpaque}
-use Rattle.format.specs.Framing.{frame}
+use Rattle.format.specs.Registry.{isIndexed}
+use Rattle.format.specs.Framing.{frame, frameBy}
 use Rattle.format.specs.Cutting.{Cut, cut}
 use Rattle.format.specs.Cutting.Cut.{done, stopped, item}
-use Rattle.format.specs.Judging.{shift, andThen, judgeKind, judgeBy, inTurn, ownCheck, group, judge}
+use Rattle.format.specs.Judging.{shift, andThen, judgeKind, judgeBy, inTurn, ownCheck, group, judgeWith}
 use Rattle.format.specs.Report.{RefusalRow, rowsOf, refusal, refusalsOf, rows, refusals, remainder, placed, frameIn, judgeIn, report}
 use Rattle.claims.specs.Words.{judgeTo, refusalsTo, reportTo, NoEleven}
 use Rattle.claims.specs.Claims.{DeeperClaims}
@@ -50,10 +48,6 @@ unfolding placed
 placed-kept u Accepted w a f = rw (a tt)
 placed-kept u (Refused n p) w a f = rw (a f)
 
-pick-kept : (b : Bool) (v w v′ w′ : Verdict) → Kept v w → Kept v′ w′ → Kept (pick b v v′) (pick b w w′)
-pick-kept true v w v′ w′ a c = a
-pick-kept false v w v′ w′ a c = c
-
 turn-kept : (j k : List ℕ → Verdict) → ((s : List ℕ) → Kept (j s) (k s)) → (c : Cut) → Kept (inTurn j c) (inTurn k c)
 unfolding inTurn
 turn-kept j k h done = same Accepted
@@ -69,6 +63,7 @@ module _ (f g : ℕ → ℕ → List ℕ → Verdict) (e : (letter h : ℕ) (ys 
   kind-kept (Variable t lead n) h s = same _
   kind-kept (Group letter) h s = e letter h _
   kind-kept Genus h s = same _
+  kind-kept (Indexed c) h s = same _
 
   by-kept : (r : Framed) (s : List ℕ) → Kept (judgeBy r s f) (judgeBy r s g)
   unfolding judgeBy
@@ -82,14 +77,13 @@ group-kept zero m le letter h ys = λ f. absurd (f refl)
 group-kept (suc l) zero le letter h ys = absurd (omega arith)
 group-kept (suc l) (suc m) le letter h ys =
     then-kept _ _ _ _ (same _)
-    (pick-kept (isOpaque letter) _ _ _ _ (same _)
-    (shift-kept (4 * h) _ _ (turn-kept _ _ (λ s. by-kept _ _ (group-kept l m (omega arith)) (frame s) s) _)))
+    (shift-kept (4 * h) _ _ (turn-kept _ _ (λ s. by-kept _ _ (group-kept l m (omega arith)) (frameBy (isIndexed letter) s) s) _))
 
 -- ---- the report
 
 module _ (d : Domain) (l m : ℕ) (le : l ≤ m) where
   judge-kept : (xs : List ℕ) → Kept (judgeTo l d xs) (judgeTo m d xs)
-  unfolding judgeTo judge
+  unfolding judgeTo judgeWith
   judge-kept xs =
       let s = d .sextets xs in
       placed-kept (d .unit) _ _ (by-kept (group l) (group m) (group-kept l m le) (frame s) s)

@@ -14,7 +14,7 @@ use Rattle.base.specs.Cases.{lt-or-ge}
 use Rattle.base.specs.Digits.{Below, below-at, below-take}
 use Rattle.format.specs.declared.CodeRow.{CodeRow}
 use Rattle.format.specs.declared.Kind.{Kind}
-use Rattle.format.specs.declared.Kind.the-variants.{Fixed, Variable, Group, Genus}
+use Rattle.format.specs.declared.Kind.the-variants.{Fixed, Variable, Group, Genus, Indexed}
 use Rattle.format.specs.declared.Framed.{Framed}
 use Rattle.format.specs.declared.Framed.the-variants.{Item, Unframed}
 use Rattle.format.specs.declared.Verdict.{Verdict}
@@ -144,7 +144,7 @@ report d xs room =
 
 -- ---- writing
 
-toldWriting : W.Writing → Told
+unfoldable pub toldWriting : W.Writing → Told
 toldWriting (W.refused m p) = told m
 toldWriting (W.written n) = accepted
 
@@ -313,7 +313,7 @@ writes u (W.textual h) tag tags raw room = named u (W.textual h) tag tags raw ro
 -- ---- reading
 
 -- an item that was found is the one that the first unit opens
-data Reads (rs : List Rule) (k : Kind) (h n : ℕ) : Reading → Type 0 where
+pub data Reads (rs : List Rule) (k : Kind) (h n : ℕ) : Reading → Type 0 where
   there : None rs → Reads rs k h n (found k h n)
   not-there : {m p : ℕ} → First rs m → Reads rs k h n (refused m p)
 
@@ -333,24 +333,25 @@ kind-reads (Fixed c) h n s = skip-kind (Fixed c) h n s _ refl (own-judged 0 (Fix
 kind-reads (Variable t l c) h n s = skip-kind (Variable t l c) h n s _ refl (own-judged 0 (Variable t l c) h (take (4 * n) s))
 kind-reads (Group l) h n s = not-there (inl (refl, refl))
 kind-reads Genus h n s = not-there (inl (refl, refl))
+kind-reads (Indexed c) h n s = not-there (inl (refl, refl))
 
-behind-framing : (rs qs : List Rule) (k : Kind) (h n : ℕ) (r : Reading) → None rs → Reads qs k h n r → Reads (rs ++ qs) k h n r
+pub behind-framing : (rs qs : List Rule) (k : Kind) (h n : ℕ) (r : Reading) → None rs → Reads qs k h n r → Reads (rs ++ qs) k h n r
 behind-framing rs qs k h n r no-rs (there q) = there (by-none (rs ++ qs) (behind rs qs accepted no-rs (none q)))
 behind-framing rs qs k h n r no-rs (not-there {m = m} f) = not-there (by-first (rs ++ qs) m (behind rs qs (told m) no-rs (first f)))
 
 module _ (s : List ℕ) where
   abbrev fromFraming : List Rule
-  fromFraming = C.framing s ++ fromKind (C.itemKind s) (C.itemHead s) (C.itemSize s) s
+  fromFraming = C.framing false s ++ fromKind (C.itemKind false s) (C.itemHead false s) (C.itemSize false s) s
 
-  reads : Reads fromFraming (C.itemKind s) (C.itemHead s) (C.itemSize s) (reading s)
+  reads : Reads fromFraming (C.itemKind false s) (C.itemHead false s) (C.itemSize false s) (reading s)
   unfolding reading readFramed
   reads = go (frame s) refl
     where
-      go : (r : Framed) → frame s ≡ r → Reads fromFraming (C.itemKind s) (C.itemHead s) (C.itemSize s) (readFramed r s)
-      go (Unframed m p) e = not-there (in-front (C.framing s) (fromKind (C.itemKind s) (C.itemHead s) (C.itemSize s) s) m (unframed-first s m p e))
+      go : (r : Framed) → frame s ≡ r → Reads fromFraming (C.itemKind false s) (C.itemHead false s) (C.itemSize false s) (readFramed r s)
+      go (Unframed m p) e = not-there (in-front (C.framing false s) (fromKind (C.itemKind false s) (C.itemHead false s) (C.itemSize false s) s) m (unframed-first false s m p e))
       go (Item k h n) e =
-          let f = framed-found s k h n e in
-          rw (f .kind, f .head, f .size) (behind-framing (C.framing s) (fromKind (C.itemKind s) (C.itemHead s) (C.itemSize s) s) _ _ _ _ (f .none) (kind-reads (C.itemKind s) (C.itemHead s) (C.itemSize s) s))
+          let f = framed-found false s k h n e in
+          rw (f .kind, f .head, f .size) (behind-framing (C.framing false s) (fromKind (C.itemKind false s) (C.itemHead false s) (C.itemSize false s) s) _ _ _ _ (f .none) (kind-reads (C.itemKind false s) (C.itemHead false s) (C.itemSize false s) s))
 
 -- at or past the end there is no unit, which is 4
 no-unit : (s : List ℕ) → length s / 4 ≡ 0 → reading s ≡ refused 4 0
@@ -406,7 +407,7 @@ binary-read xs at room =
 
 -- ---- no sextet of a binary is outside the alphabet, so its reader gives neither 5 nor 19
 
-clean : (s : List ℕ) → Below 64 s → (start stop : ℕ) → Clean (sextet s) start stop
+pub clean : (s : List ℕ) → Below 64 s → (start stop : ℕ) → Clean (sextet s) start stop
 clean s b start stop i l u =
     ⊎-elim (λ g. below-at 64 s b i g) (λ g. omega (arith, List·getD-eq-default s 0 {n = i} g)) (lt-or-ge i (length s))
 
@@ -417,8 +418,8 @@ module _ (xs : List ℕ) (at room : ℕ) where
   all-known : (start stop : ℕ) → Clean (sextet fromOffset) start stop
   all-known = clean fromOffset (binary-below (drop at xs))
 
-  own-known : (start stop : ℕ) → Clean (sextet (take (4 * C.itemSize fromOffset) fromOffset)) start stop
-  own-known = clean _ (below-take 64 (4 * C.itemSize fromOffset) fromOffset (binary-below (drop at xs)))
+  own-known : (start stop : ℕ) → Clean (sextet (take (4 * C.itemSize false fromOffset) fromOffset)) start stop
+  own-known = clean _ (below-take 64 (4 * C.itemSize false fromOffset) fromOffset (binary-below (drop at xs)))
 
   -- in the first unit, in the header, behind it
   no-five : Allowed (1 ∷ 4 ∷ 6 ∷ 14 ∷ 18 ∷ 9 ∷ 8 ∷ 16 ∷ 10 ∷ 3 ∷ []) (C.readBinaryRules xs at room)
@@ -429,20 +430,20 @@ module _ (xs : List ℕ) (at room : ℕ) where
 
 -- ---- all of it
 
-toldTextWritten : TextWritten → Told
+unfoldable pub toldTextWritten : TextWritten → Told
 toldTextWritten (TextWritten.Written n) = accepted
 toldTextWritten (TextWritten.Refused m p) = told m
 
-toldBinaryWritten : BinaryWritten → Told
+unfoldable pub toldBinaryWritten : BinaryWritten → Told
 toldBinaryWritten (BinaryWritten.Written n) = accepted
 toldBinaryWritten (BinaryWritten.Refused m p) = told m
 
-text-outcome : (w : W.Writing) → toldTextWritten (W.textOutcome w) ≡ toldWriting w
+pub text-outcome : (w : W.Writing) → toldTextWritten (W.textOutcome w) ≡ toldWriting w
 unfolding W.textOutcome toldTextWritten toldWriting
 text-outcome (W.refused m p) = refl
 text-outcome (W.written n) = refl
 
-binary-outcome : (w : W.Writing) → toldBinaryWritten (W.binaryOutcome w) ≡ toldWriting w
+pub binary-outcome : (w : W.Writing) → toldBinaryWritten (W.binaryOutcome w) ≡ toldWriting w
 unfolding W.binaryOutcome toldBinaryWritten toldWriting
 binary-outcome (W.refused m p) = refl
 binary-outcome (W.written n) = refl

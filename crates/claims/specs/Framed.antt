@@ -3,7 +3,7 @@
 use Prim.Native.Nat.{ℕ, _+_, _*_, _/_, _≤_, _<_}
 use mathlib.Core.Path.{_≡_, refl, subst}
 use mathlib.Core.List.{List, [], _∷_}
-use mathlib.Core.Bool.{true, false}
+use mathlib.Core.Bool.{Bool, true, false}
 use mathlib.Core.Logic.{_⊎_, inl, inr, ⊎-elim}
 use native.Mathlib.Omega.{arith}
 use lib.ListN.{length}
@@ -13,12 +13,13 @@ use Rattle.base.specs.Pick.{pick, pick-by}
 use Rattle.base.specs.Cases.{lt-or-ge}
 use Rattle.format.specs.declared.Kind.{Kind}
 use Rattle.format.specs.declared.Opening.{Opening}
-use Rattle.format.specs.declared.Opening.the-variants.{Unknown, Short, LargeVariable, LargeGroup, Version}
+use Rattle.format.specs.declared.Opening.the-variants.{Unknown, Short, Long, LargeVariable, LargeGroup, Version}
 use Rattle.format.specs.declared.Framed.{Framed}
 use Rattle.format.specs.declared.Framed.the-variants.{Item, Unframed}
 use Rattle.format.specs.Alphabet.{strangerNumber}
-use Rattle.format.specs.Registry.{opening, headerUnits, extent}
-use Rattle.format.specs.Framing.{fit, known, second, digits4, headed, frameWith, sextet, frame}
+use Rattle.format.specs.Registry.{openingBy, headerUnits, extent}
+use Rattle.format.specs.Framing.{fit, known, second, digits4, headed, frameWith, sextet, frameBy}
+use Rattle.laws.specs.Framing.{by-with}
 use Rattle.claims.specs.Order.{Rule, _when_, First, None}
 use Rattle.claims.specs.Strangers.{Clean, strange, clean-other, clean-ordinary, bad-first, clean-on}
 use Rattle.claims.specs.Conditions.{Other, Ordinary, FirstIs, framingRules, openingOf, kindIn, itemKind, itemHead, itemSize, framing}
@@ -114,6 +115,9 @@ headed-by (Short k n) at len l =
     (skip (Short k n) (digits4 at) (4 when (len < 1)) _ _ (λ g. omega arith)
     (skip-strange (Short k n) (digits4 at) at 4 4 _ _ (λ j a b. absurd (omega arith))
     (fit-by (Short k n) at len k 1 n refl refl refl)))
+headed-by (Long k n) at len l =
+    skip (Long k n) (digits4 at) (6 when (Long k n ≡ Unknown)) _ _ (λ e. let z : _≡_ {A = ℕ} 0 1 = cc in omega arith)
+    (second-by (Long k n) at len _ refl refl)
 headed-by (LargeVariable t v) at len l =
     skip (LargeVariable t v) (digits4 at) (6 when (LargeVariable t v ≡ Unknown)) _ _ (λ e. let z : _≡_ {A = ℕ} 0 1 = cc in omega arith)
     (second-by (LargeVariable t v) at len _ refl refl)
@@ -124,38 +128,41 @@ headed-by Version at len l =
     skip Version (digits4 at) (6 when (Version ≡ Unknown)) _ _ (λ e. let z : _≡_ {A = ℕ} 0 1 = cc in omega arith)
     (second-by Version at len _ refl refl)
 
--- 4 (first unit), 5
-module _ (s : List ℕ) where
+-- 4 (first unit), 5; by either table
+module _ (t : Bool) (s : List ℕ) where
   abbrev Framing : List Rule → Framed → Type 0
-  Framing = By (openingOf s) (digits4 (sextet s))
+  Framing = By (openingOf t s) (digits4 (sextet s))
 
-  frame-by : Framing (framing s) (frame s)
-  unfolding frame frameWith
-  frame-by =
-      pick-by (Framing (framing s)) (ltb (length s / 4) 1) _ _ (λ e. told (inl (ltb-true (length s / 4) 1 e, refl)))
-      (λ e. skip _ _ (4 when (length s / 4 < 1)) (fromFirst (openingOf s) (sextet s) (length s / 4)) _
+  with-by : Framing (framing t s) (frameWith (openingBy t) (sextet s) (length s / 4))
+  unfolding frameWith
+  with-by =
+      pick-by (Framing (framing t s)) (ltb (length s / 4) 1) _ _ (λ e. told (inl (ltb-true (length s / 4) 1 e, refl)))
+      (λ e. skip _ _ (4 when (length s / 4 < 1)) (fromFirst (openingOf t s) (sextet s) (length s / 4)) _
       (λ l. omega (arith, ltb-false (length s / 4) 1 e))
-      (known-split (Framing (fromFirst (openingOf s) (sextet s) (length s / 4))) (sextet s) 0 _
-      (λ j a b k g. told (bad-first (sextet s) 0 4 j (fromCode (openingOf s) (sextet s) (length s / 4)) a b k g))
-      (λ k. skip-strange (openingOf s) (digits4 (sextet s)) (sextet s) 0 4 (fromCode (openingOf s) (sextet s) (length s / 4)) _ k
-      (headed-by (openingOf s) (sextet s) (length s / 4) (ltb-false (length s / 4) 1 e)))))
+      (known-split (Framing (fromFirst (openingOf t s) (sextet s) (length s / 4))) (sextet s) 0 _
+      (λ j a b k g. told (bad-first (sextet s) 0 4 j (fromCode (openingOf t s) (sextet s) (length s / 4)) a b k g))
+      (λ k. skip-strange (openingOf t s) (digits4 (sextet s)) (sextet s) 0 4 (fromCode (openingOf t s) (sextet s) (length s / 4)) _ k
+      (headed-by (openingOf t s) (sextet s) (length s / 4) (ltb-false (length s / 4) 1 e)))))
+
+  frame-by : Framing (framing t s) (frameBy t s)
+  frame-by = rw (by-with t s) with-by
 
 -- ---- as claims
 
-pub record Found (s : List ℕ) (k : Kind) (h n : ℕ) : Type 0 where
-  pub none : None (framing s)
-  pub kind : k ≡ itemKind s
-  pub head : h ≡ itemHead s
-  pub size : n ≡ itemSize s
+pub record Found (t : Bool) (s : List ℕ) (k : Kind) (h n : ℕ) : Type 0 where
+  pub none : None (framing t s)
+  pub kind : k ≡ itemKind t s
+  pub head : h ≡ itemHead t s
+  pub size : n ≡ itemSize t s
 
-found : (s : List ℕ) (k : Kind) (h n : ℕ) → Framing s (framing s) (Item k h n) → Found s k h n
-found s k h n (item none kind head size) = record { none = none; kind = kind; head = head; size = size }
+found : (t : Bool) (s : List ℕ) (k : Kind) (h n : ℕ) → Framing t s (framing t s) (Item k h n) → Found t s k h n
+found t s k h n (item none kind head size) = record { none = none; kind = kind; head = head; size = size }
 
-pub framed-found : (s : List ℕ) (k : Kind) (h n : ℕ) → frame s ≡ Item k h n → Found s k h n
-framed-found s k h n e = found s k h n (subst (Framing s (framing s)) e (frame-by s))
+pub framed-found : (t : Bool) (s : List ℕ) (k : Kind) (h n : ℕ) → frameBy t s ≡ Item k h n → Found t s k h n
+framed-found t s k h n e = found t s k h n (subst (Framing t s (framing t s)) e (frame-by t s))
 
-first : (s : List ℕ) (m p : ℕ) → Framing s (framing s) (Unframed m p) → First (framing s) m
-first s m p (told f) = f
+first : (t : Bool) (s : List ℕ) (m p : ℕ) → Framing t s (framing t s) (Unframed m p) → First (framing t s) m
+first t s m p (told f) = f
 
-pub unframed-first : (s : List ℕ) (m p : ℕ) → frame s ≡ Unframed m p → First (framing s) m
-unframed-first s m p e = first s m p (subst (Framing s (framing s)) e (frame-by s))
+pub unframed-first : (t : Bool) (s : List ℕ) (m p : ℕ) → frameBy t s ≡ Unframed m p → First (framing t s) m
+unframed-first t s m p e = first t s m p (subst (Framing t s (framing t s)) e (frame-by t s))

@@ -9,16 +9,16 @@ use lib.Dec.{ltb, leb, eqb}
 use borrow.Author.Tests.{ltb-true, ltb-false, eqb-true, eqb-false, le-leb, lt-leb, eq-eqb, ne-eqb}
 use Rattle.base.specs.Pick.{pick, pick-by}
 use Rattle.format.specs.declared.Kind.{Kind}
-use Rattle.format.specs.declared.Kind.the-variants.{Fixed, Variable, Group, Genus}
+use Rattle.format.specs.declared.Kind.the-variants.{Fixed, Variable, Group, Genus, Indexed}
 use Rattle.format.specs.declared.Opening.{Opening}
-use Rattle.format.specs.declared.Opening.the-variants.{Unknown, Short, LargeVariable, LargeGroup, Version}
+use Rattle.format.specs.declared.Opening.the-variants.{Unknown, Short, Long, LargeVariable, LargeGroup, Version}
 use Rattle.format.specs.Alphabet.{within}
 use Rattle.format.specs.Registry.{fixed, isType, isGroup, opening, headerUnits}
 use Rattle.laws.specs.Registry.{Finds, fixed-finds}
 use Rattle.format.specs.declared.Framed.{Framed}
 use Rattle.format.specs.declared.Framed.the-variants.{Item}
 use Rattle.format.specs.Units.{Domain}
-use Rattle.format.specs.Framing.{sextet, frame, frameRuled}
+use Rattle.format.specs.Framing.{sextet, frame, frameRuled, frameNext}
 use Rattle.format.specs.Report.{frameIn}
 use Rattle.damage.specs.Words.{headOf}
 use Rattle.laws.specs.Framing.{unscale}
@@ -49,6 +49,7 @@ module _ (a b : ℕ) where
   abbrev Units : Opening → Type 0
   Units Unknown = Unit {0}
   Units (Short k n) = headerOf a b ≡ 1
+  Units (Long k n) = headerOf a b ≡ 2
   Units (LargeVariable t l) = headerOf a b ≡ 2
   Units (LargeGroup l d) = headerOf a b ≡ 2
   Units Version = headerOf a b ≡ 2
@@ -56,6 +57,7 @@ module _ (a b : ℕ) where
   found-one : headerOf a b ≡ 1 → (chars letter : ℕ) (o : Opening) → Finds chars letter o → Units o
   found-one e chars letter Unknown f = tt
   found-one e chars letter (Short k n) f = e
+  found-one e chars letter (Long k n) f = absurd f
   found-one e chars letter (LargeVariable t l) f = absurd f
   found-one e chars letter (LargeGroup l d) f = absurd f
   found-one e chars letter Version f = absurd f
@@ -98,6 +100,7 @@ opened : (a b : ℕ) (o : Opening) → Units a b o → (o ≡ Unknown → ⊥) �
 unfolding headerUnits
 opened a b Unknown u not = absurd (not refl)
 opened a b (Short k n) u not = sym u
+opened a b (Long k n) u not = sym u
 opened a b (LargeVariable t l) u not = sym u
 opened a b (LargeGroup l d) u not = sym u
 opened a b Version u not = sym u
@@ -107,31 +110,31 @@ one-or-two a b c d = opened a b (opening a b c d) (opening-units a b c d)
 
 -- ---- of an item
 
-known-code : (s : List ℕ) → None (framing s) → openingOf s ≡ Unknown → ⊥
+known-code : (s : List ℕ) → None (framing false s) → openingOf false s ≡ Unknown → ⊥
 known-code s n = n .1 .1 .1 .0
 
 pub header-units : (s : List ℕ) (k : Kind) (h n : ℕ) → frame s ≡ Item k h n → h ≡ headerOf (sextet s 0) (sextet s 1)
 header-units s k h n e =
-    let f = framed-found s k h n e in
+    let f = framed-found false s k h n e in
     f .head ∙ one-or-two (sextet s 0) (sextet s 1) (sextet s 2) (sextet s 3) (known-code s (f .none))
 
 -- counted in elements
 pub header-elements : (d : Domain) (xs : List ℕ) (r : Framed) (k : Kind) (h n : ℕ) → frameIn d xs ≡ r → r ≡ Item k h n
     → headOf r ≡ headerOf (sextet (d .sextets xs) 0) (sextet (d .sextets xs) 1) * d .unit
-unfolding frameIn frameRuled
+unfolding frameIn frameRuled frameNext
 header-elements d xs r k h n e f =
     let q = unscale (d .unit) (frameRuled (d .sextets xs)) {k = k} {h = h} {n = n} (e ∙ f) in
-    rw (f, q .3, header-units (d .sextets xs) k (q .0) (q .1) (any-item true (d .sextets xs) k (q .0) (q .1) (q .2)))
+    rw (f, q .3, header-units (d .sextets xs) k (q .0) (q .1) (any-item false true (d .sextets xs) k (q .0) (q .1) (q .2)))
 
 -- ---- framing as claims
 
 pub framing-claims : FramingClaims
 framing-claims = record {
-  refuses = λ s m p e. refusal (4 ∷ 5 ∷ 19 ∷ 6 ∷ []) (framing s) m (λ z. z)
-      (inl tt & inl tt & inl tt & inl tt & inl tt & inl tt & inl tt & inl tt & end) (unframed-first s m p e);
-  accepts = λ s k h n e. framed-found s k h n e .none;
-  header = λ s k h n e. framed-found s k h n e .head;
-  extent-by = λ s k h n e. framed-found s k h n e .size;
-  kind-by = λ s k h n e. framed-found s k h n e .kind;
+  refuses = λ t s m p e. refusal (4 ∷ 5 ∷ 19 ∷ 6 ∷ []) (framing t s) m (λ z. z)
+      (inl tt & inl tt & inl tt & inl tt & inl tt & inl tt & inl tt & inl tt & end) (unframed-first t s m p e);
+  accepts = λ t s k h n e. framed-found t s k h n e .none;
+  header = λ t s k h n e. framed-found t s k h n e .head;
+  extent-by = λ t s k h n e. framed-found t s k h n e .size;
+  kind-by = λ t s k h n e. framed-found t s k h n e .kind;
   one-or-two = one-or-two;
 }

@@ -11,16 +11,18 @@ use lib.Dec.{ltb, leb, eqb}
 use borrow.Author.Tests.{ltb-true, ltb-false, leb-true, leb-false, eqb-true, eqb-false}
 use Rattle.base.specs.Pick.{pick, pick-by}
 use Rattle.format.specs.declared.CodeRow.{CodeRow}
+use Rattle.format.specs.declared.IndexRow.{IndexRow}
 use Rattle.format.specs.declared.Kind.{Kind}
-use Rattle.format.specs.declared.Kind.the-variants.{Fixed, Variable, Group, Genus}
+use Rattle.format.specs.declared.Kind.the-variants.{Fixed, Variable, Group, Genus, Indexed}
 use Rattle.format.specs.declared.Verdict.{Verdict}
 use Rattle.format.specs.declared.Verdict.the-variants.{Accepted, Refused}
-use Rattle.format.specs.Registry.{isOpaque}
+use Rattle.format.specs.Registry.{indexChars}
+use Rattle.format.specs.Values.{ondexOf}
 use Rattle.format.specs.Framing.{sextet}
-use Rattle.format.specs.Judging.{shift, andThen, unless, isShortest, scan, behind, hasLead, judgeKind, ownCheck}
+use Rattle.format.specs.Judging.{shift, andThen, unless, isShortest, scan, behind, hasLead, judgeKind, ownCheck, zeroBits, ondexRight}
 use Rattle.claims.specs.Order.{Rule, _when_, First, None}
 use Rattle.claims.specs.Rules.{in-front}
-use Rattle.claims.specs.Conditions.{Other, Ordinary, FirstIs, FitsSmall, judging, groupRules, ownRules}
+use Rattle.claims.specs.Conditions.{Other, Ordinary, FirstIs, FitsSmall, judging, groupRules, ownRules, SetOndex, indexedJudging}
 use Rattle.claims.specs.Strangers.{strange, bad-first}
 use Rattle.claims.specs.TextRules.{wrong-value, right-value}
 
@@ -171,6 +173,27 @@ lead-there lead count =
     pick-by (λ (b : Bool). b ≡ true → (0 < lead) × (count ≡ 0) → ⊥) (ltb 0 lead) _ _
     (λ e t q. omega (arith, ltb-true 0 count t, q .1)) (λ e t q. omega (arith, ltb-false 0 lead e, q .0))
 
+-- 15
+pub ondex-set : (c : IndexRow) (ondex : ℕ) → ondexRight c ondex ≡ false → SetOndex c ondex
+unfolding ondexRight
+ondex-set c ondex =
+    pick-by (λ (b : Bool). b ≡ false → SetOndex c ondex) (eqb (c .current) 0) _ _ (λ e f. absurd (true-false f))
+    (λ e f. (eqb-false (c .current) 0 e, eqb-false ondex 0 f))
+
+pub ondex-clear : (c : IndexRow) (ondex : ℕ) → ondexRight c ondex ≡ true → SetOndex c ondex → ⊥
+unfolding ondexRight
+ondex-clear c ondex =
+    pick-by (λ (b : Bool). b ≡ true → SetOndex c ondex → ⊥) (eqb (c .current) 0) _ _ (λ e t q. q .0 (eqb-true (c .current) 0 e))
+    (λ e t q. q .1 (eqb-true ondex 0 t))
+
+pub indexed-judged : (c : IndexRow) (h : ℕ) (s : List ℕ)
+    → Judged (indexedJudging (Indexed c) h s)
+    (andThen (shift (4 * h) (scan (drop (4 * h) s)))
+    (andThen (unless 8 (zeroBits s (indexChars c) (c .zeros))) (unless 15 (ondexRight c (ondexOf c s)))))
+indexed-judged c h s =
+    then-judged _ _ _ _ (behind-judged (4 * h) s)
+    (then-judged _ _ _ _ (unless-false 8 _) (unless-judged 15 _ _ (ondex-set c (ondexOf c s)) (ondex-clear c (ondexOf c s))))
+
 -- ---- an item: of a group its own check, where l more may be entered
 
 pub own-judged : (l : ℕ) (k : Kind) (h : ℕ) (s : List ℕ) → Judged (ownRules l k h s) (judgeKind k h s (ownCheck l))
@@ -187,16 +210,10 @@ own-judged l (Variable t lead n) h s =
     (trail _ (10 when ⊥) _ (λ q. q) (unless-judged 16 _ _ (wrong-value t lead (drop (4 * h) s)) (right-value t lead (drop (4 * h) s)))))))
 own-judged l (Group letter) h s = check l
   where
-    check : (m : ℕ) → Judged (groupRules m letter h s) (ownCheck m letter h (drop (4 * h) s))
+    check : (m : ℕ) → Judged (groupRules m h s) (ownCheck m letter h (drop (4 * h) s))
     check zero = refuses (inl (refl, refl))
     check (suc m) =
         let n : length (drop (4 * h) s) / 4 ≡ length s / 4 - h = omega (arith, length-drop (4 * h) s) in
-        skip (11 when (suc m ≡ 0)) _ _ (λ e. omega arith) (rw n (then-judged _ _ _ _ (short-judged h (length s / 4 - h)) (opaque (isOpaque letter))))
-      where
-        opaque : (b : Bool)
-            → Judged (5 when ((b ≡ true) × FirstIs Other (sextet s) (4 * h) (length s)) ∷
-            19 when ((b ≡ true) × FirstIs Ordinary (sextet s) (4 * h) (length s)) ∷ [])
-            (pick b (shift (4 * h) (scan (drop (4 * h) s))) Accepted)
-        opaque true = same _ ((λ q. (refl, q), λ q. q .1) & (λ q. (refl, q), λ q. q .1) & end) (behind-judged (4 * h) s)
-        opaque false = passes (λ q. true-false (sym (q .0)), (λ q. true-false (sym (q .0)), tt))
+        skip (11 when (suc m ≡ 0)) _ _ (λ e. omega arith) (rw n (short-judged h (length s / 4 - h)))
+own-judged l (Indexed c) h s = indexed-judged c h s
 own-judged l Genus h s = passes tt

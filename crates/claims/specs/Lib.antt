@@ -19,5 +19,8 @@ pub mod Demand2
 pub mod Deeper
 pub mod Short
 pub mod Text
+pub mod IndexedCalls
+pub mod Opened
+pub mod Signatures
 pub mod Proved
 pub mod Room

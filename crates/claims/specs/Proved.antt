@@ -8,6 +8,8 @@ use Rattle.claims.specs.Demand3.{text-demand3, binary-demand3}
 use Rattle.claims.specs.Deeper.{deeper-claims}
 use Rattle.claims.specs.Short.{short-form}
 use Rattle.claims.specs.Text.{text-claims}
+use Rattle.claims.specs.IndexedCalls.{indexed-calls}
+use Rattle.claims.specs.Signatures.{signature-claims}
 
 pub proved : Claims
 proved = record {
@@ -20,4 +22,6 @@ proved = record {
   deeper = deeper-claims;
   short-form = short-form;
   texts = text-claims;
+  indexed-calls = indexed-calls;
+  signatures = signature-claims;
 }

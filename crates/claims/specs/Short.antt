@@ -13,10 +13,10 @@ use Rattle.base.specs.Cases.{whether}
 use Rattle.format.specs.declared.Kind.the-variants.{Variable, Group}
 use Rattle.format.specs.declared.Framed.the-variants.{Item}
 use Rattle.format.specs.declared.Verdict.the-variants.{Accepted, Refused}
-use Rattle.format.specs.Registry.{isOpaque, isOverrideable}
+use Rattle.format.specs.Registry.{isIndexed, isOverrideable}
 use Rattle.format.specs.Framing.{frame}
 use Rattle.format.specs.Texts.{valueRight}
-use Rattle.format.specs.Judging.{shift, andThen, unless, isShortest, behind, hasLead, zeroBits, judgeKind, judgeBy, ownCheck, group, inTurn, contents, judge}
+use Rattle.format.specs.Judging.{shift, andThen, unless, isShortest, behind, hasLead, zeroBits, judgeKind, judgeBy, ownCheck, group, inTurn, contents, judgeWith, judge}
 use Rattle.laws.specs.Levels.{then-accepts}
 use Rattle.claims.specs.Claims.{ShortFormClaims}
 
@@ -35,35 +35,31 @@ units h size s e = omega (arith, length-drop (4 * h) s)
 
 large-variable : (l t lead n size : ℕ) (s : List ℕ) → frame s ≡ Item (Variable t lead n) 2 size → n < 4096 → behind 2 s ≡ Accepted
     → judge l s ≡ Refused 18 0
-unfolding judge judgeBy judgeKind andThen unless
+unfolding judgeWith judgeBy judgeKind andThen unless
 large-variable l t lead n size s e few known = rw (e, known, long n few)
 
 other-variable : (l t lead n h size : ℕ) (s : List ℕ) → frame s ≡ Item (Variable t lead n) h size → (h ≡ 1) ⊎ (4096 ≤ n)
     → judge l s
     ≡ andThen (behind h s)
     (andThen (unless 9 (hasLead lead n)) (andThen (unless 8 (zeroBits s (4 * h) (8 * lead))) (unless 16 (valueRight t lead (drop (4 * h) s)))))
-unfolding judge judgeBy judgeKind andThen unless
+unfolding judgeWith judgeBy judgeKind andThen unless
 other-variable l t lead n h size s e many = rw (e, short h n many)
 
 eleven : (letter h size : ℕ) (s : List ℕ) → frame s ≡ Item (Group letter) h size → judge 0 s ≡ Refused 11 0
-unfolding judge judgeBy judgeKind group ownCheck
+unfolding judgeWith judgeBy judgeKind group ownCheck
 eleven letter h size s e = rw e
 
 large-group : (l letter size : ℕ) (s : List ℕ) → frame s ≡ Item (Group letter) 2 size → length s ≡ 4 * size → size < 2 + 4096
     → judge (suc l) s ≡ Refused 18 0
-unfolding judge judgeBy judgeKind group ownCheck andThen unless
+unfolding judgeWith judgeBy judgeKind group ownCheck andThen unless
 large-group l letter size s e own few = rw (e, units 2 size s own, long (size - 2) (omega arith))
 
-other-group : (l letter h size : ℕ) (s : List ℕ) → frame s ≡ Item (Group letter) h size → length s ≡ 4 * size
+pub other-group : (l letter h size : ℕ) (s : List ℕ) → frame s ≡ Item (Group letter) h size → length s ≡ 4 * size
     → (h ≡ 1) ⊎ (4096 ≤ size - h)
     → judge (suc l) s
-    ≡ pick (isOpaque letter) (behind h s) (shift (4 * h) (inTurn (judge l) (contents (isOverrideable letter) (drop (4 * h) s))))
-unfolding judge judgeBy judgeKind group ownCheck andThen unless behind
-other-group l letter h size s e own many =
-    let u = units h size s own in
-    let ok = short h (size - h) many in
-    ⊎-elim (λ (o : isOpaque letter ≡ true). rw (e, u, ok, o, then-accepts)) (λ (o : isOpaque letter ≡ false). rw (e, u, ok, o))
-    (whether (isOpaque letter))
+    ≡ shift (4 * h) (inTurn (judgeWith (isIndexed letter) l) (contents (isIndexed letter) (isOverrideable letter) (drop (4 * h) s)))
+unfolding judgeWith judgeBy judgeKind group ownCheck andThen unless
+other-group l letter h size s e own many = rw (e, units h size s own, short h (size - h) many)
 
 pub short-form : ShortFormClaims
 short-form = record {

@@ -17,7 +17,7 @@ use Rattle.format.specs.Alphabet.{charOf, sextetOf}
 use Rattle.format.specs.Registry.{isType, isText, opening, extent}
 use Rattle.format.specs.Framing.{fit, known, second, headed, frameWith, frame}
 use Rattle.format.specs.Texts.{fills, fillOf, textRight, valueRight, textOf}
-use Rattle.format.specs.Judging.{shift, andThen, unless, isShortest, scan, behind, hasLead, zeroBits, judgeKind, judgeBy, judge}
+use Rattle.format.specs.Judging.{shift, andThen, unless, isShortest, scan, behind, hasLead, zeroBits, judgeKind, judgeBy, judge, judgeWith}
 use Rattle.format.specs.Values.{textIn}
 use Rattle.laws.specs.Alphabet.{sextet-char, char-past}
 use Rattle.laws.specs.Conversion.{text-to-binary-sextets, binary-to-text-sextets}
@@ -38,7 +38,7 @@ last (Refused m p) b c d e = refl
 
 verdict : (l t lead n h size : ℕ) (s : List ℕ) → frame s ≡ Item (Variable t lead n) h size
     → judge l s ≡ andThen (beforeText lead n h s) (unless 16 (valueRight t lead (drop (4 * h) s)))
-unfolding judge judgeBy judgeKind
+unfolding judgeWith judgeBy judgeKind
 verdict l t lead n h size s e = rw e (last (behind h s) _ _ _ _)
 
 -- by the words
@@ -133,11 +133,11 @@ framed-four = refl
 
 empty-text : (l : ℕ) → let s : List ℕ = 56 ∷ 0 ∷ 0 ∷ 0 ∷ [] in
     (frame s ≡ Item (Variable 0 0 0) 1 1) × (judge l s ≡ Accepted) × (textIn (Variable 0 0 0) 1 s ≡ [])
-unfolding judge judgeBy judgeKind andThen unless behind shift scan isShortest hasLead zeroBits valueRight isText textRight fillOf fills textIn textOf
+unfolding judgeWith judgeBy judgeKind andThen unless behind shift scan isShortest hasLead zeroBits valueRight isText textRight fillOf fills textIn textOf
 empty-text l = (framed-empty, rw framed-empty, refl)
 
 four-of-a : (l : ℕ) → judge l (56 ∷ 0 ∷ 0 ∷ 1 ∷ 0 ∷ 0 ∷ 0 ∷ 0 ∷ []) ≡ Refused 16 0
-unfolding judge judgeBy judgeKind andThen unless behind shift scan isShortest hasLead zeroBits valueRight isText textRight fillOf fills
+unfolding judgeWith judgeBy judgeKind andThen unless behind shift scan isShortest hasLead zeroBits valueRight isText textRight fillOf fills
 four-of-a l = rw framed-four
 
 pub text-claims : TextClaims

@@ -1,11 +1,13 @@
--- What demands 2 and 3, and 02 g, speak of. No proofs. Assumes nothing.
-use Prim.Native.Nat.{ℕ, _*_, _%_, _≤_}
+-- What demands 2 and 3, 02 g and 02 a speak of. No proofs. Assumes nothing.
+use Prim.Native.Nat.{ℕ, _*_, _%_, _≤_, _<_}
 use mathlib.Core.Path.{_≡_}
 use mathlib.Core.List.{List, [], _∷_, _++_}
+use mathlib.Core.Logic.{_⊎_}
 use lib.ListN.{length, drop}
 use lib.Dec.{leb, eqb}
 use Rattle.base.specs.Pick.{pick}
 use Rattle.base.specs.Digits.{Below}
+use Rattle.format.specs.declared.IndexRow.{IndexRow}
 use Rattle.format.specs.declared.Verdict.{Verdict}
 use Rattle.format.specs.declared.Verdict.the-variants.{Accepted, Refused}
 use Rattle.format.specs.Alphabet.{within}
@@ -97,3 +99,14 @@ reportTo l d xs =
 abbrev pub NoEleven : List RefusalRow → Type 0
 NoEleven [] = Unit {0}
 NoEleven (r ∷ rs) = (r .number ≡ 11 → ⊥) × NoEleven rs
+
+-- ---- the indexed table
+
+-- one of these rows
+abbrev pub OneOf : IndexRow → List IndexRow → Type 0
+OneOf c [] = ⊥
+OneOf c (r ∷ rs) = (c ≡ r) ⊎ OneOf c rs
+
+-- how an item of the twelve codes starts, by its first two sextets: `A` to `D`; `0A`, `0B`; `2A` to `2D`; `3A`, `3B`
+abbrev pub IndexedStart : ℕ → ℕ → Type 0
+IndexedStart a b = (a < 4) ⊎ (((a ≡ 52) × (b < 2)) ⊎ (((a ≡ 54) × (b < 4)) ⊎ ((a ≡ 55) × (b < 2))))

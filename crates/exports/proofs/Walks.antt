@@ -28,12 +28,12 @@ module _ (xs before : List ℕ) {after : List ℕ} {p : Place} {m : Moved} (e : 
   text-next = rw (← e) (sym (t .moves .state))
 
   pub text-yields : {o n d h : ℕ} {k : Kind} → m .found ≡ F.Item o n d k h → (item : List ℕ) {row state : List ℕ} → row ≡ itemOf o n d k h
-      → state ≡ slotsIn after ++ placeNumbers (m .place .depth) (m .place .at) (m .place .first)
+      → state ≡ slotsIn after ++ placeNumbers (m .place .depth) (m .place .at) (m .place .first) (m .place .indexed)
       → (0 ≡ textStepNumber (textStep xs (walkOf before) .found)) × ((0 ≡ textStepValue (textStep xs (walkOf before) .found))
       × ((row ≡ textYieldLeft (textStep xs (walkOf before) .found) item)
       × (state ≡ textStateLeft (textStep xs (walkOf before) .found) (textStep xs (walkOf before) .next) before)))
   unfolding textItem textStepNumber textStepValue textYieldLeft textStateLeft stateOf
-  text-yields g item r s = rw (text-found, text-next, g) (refl, (refl, (r, s ∙ ap (λ (x : List ℕ). x ++ placeNumbers (m .place .depth) (m .place .at) (m .place .first)) (sym (take-take maxDepth maxDepth after (omega arith))))))
+  text-yields g item r s = rw (text-found, text-next, g) (refl, (refl, (r, s ∙ ap (λ (x : List ℕ). x ++ placeNumbers (m .place .depth) (m .place .at) (m .place .first) (m .place .indexed)) (sym (take-take maxDepth maxDepth after (omega arith))))))
 
   pub text-refuses : {number place : ℕ} → m .found ≡ F.Refused number place → (item : List ℕ)
       → (number ≡ textStepNumber (textStep xs (walkOf before) .found)) × ((place ≡ textStepValue (textStep xs (walkOf before) .found))
@@ -59,12 +59,12 @@ module _ (xs before : List ℕ) {after : List ℕ} {p : Place} {m : Moved} (e : 
   binary-next = rw (← e) (sym (t .moves .state))
 
   pub binary-yields : {o n d h : ℕ} {k : Kind} → m .found ≡ F.Item o n d k h → (item : List ℕ) {row state : List ℕ} → row ≡ itemOf o n d k h
-      → state ≡ slotsIn after ++ placeNumbers (m .place .depth) (m .place .at) (m .place .first)
+      → state ≡ slotsIn after ++ placeNumbers (m .place .depth) (m .place .at) (m .place .first) (m .place .indexed)
       → (0 ≡ binaryStepNumber (binaryStep xs (walkOf before) .found)) × ((0 ≡ binaryStepValue (binaryStep xs (walkOf before) .found))
       × ((row ≡ binaryYieldLeft (binaryStep xs (walkOf before) .found) item)
       × (state ≡ binaryStateLeft (binaryStep xs (walkOf before) .found) (binaryStep xs (walkOf before) .next) before)))
   unfolding binaryItem binaryStepNumber binaryStepValue binaryYieldLeft binaryStateLeft stateOf
-  binary-yields g item r s = rw (binary-found, binary-next, g) (refl, (refl, (r, s ∙ ap (λ (x : List ℕ). x ++ placeNumbers (m .place .depth) (m .place .at) (m .place .first)) (sym (take-take maxDepth maxDepth after (omega arith))))))
+  binary-yields g item r s = rw (binary-found, binary-next, g) (refl, (refl, (r, s ∙ ap (λ (x : List ℕ). x ++ placeNumbers (m .place .depth) (m .place .at) (m .place .first) (m .place .indexed)) (sym (take-take maxDepth maxDepth after (omega arith))))))
 
   pub binary-refuses : {number place : ℕ} → m .found ≡ F.Refused number place → (item : List ℕ)
       → (number ≡ binaryStepNumber (binaryStep xs (walkOf before) .found)) × ((place ≡ binaryStepValue (binaryStep xs (walkOf before) .found))

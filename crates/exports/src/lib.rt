@@ -1,5 +1,6 @@
 // The public calls for C and Rust, on numbers and byte slices: a number, 0 for accepted, and what else there is to say behind
 // `answer`. Nothing is decided here.
+use exports_indexed::INDEXED;
 use exports_values::INFO;
 use exports_values::STATE;
 use format::BinaryFound;
@@ -15,11 +16,14 @@ ghost use Rattle.format.specs.Conversion.{textToBinary, toBinaryNumber, toBinar
 ghost use Rattle.format.specs.Units.{text, binary};
 ghost use Rattle.format.specs.Reading.{readText, valueLeft, readBinary, charsLeft};
 ghost use Rattle.format.specs.Writing.{writeText, textItemLeft, writeBinary, binaryItemLeft};
+ghost use Rattle.format.specs.Indexed.{readIndexedText, indexedLeft, readIndexedBinary};
+ghost use Rattle.format.specs.Indexed.{writeIndexedText, textIndexedLeft, writeIndexedBinary, binaryIndexedLeft};
 ghost use Rattle.walk_state.specs.Walking.{textStep, binaryStep};
 ghost use Rattle.exports_values.specs.Answers.{codeFrom};
 ghost use Rattle.exports_values.specs.Answers.{textFoundNumber, textFoundValue, textTagLeft, textInfoLeft};
 ghost use Rattle.exports_values.specs.Answers.{binaryFoundNumber, binaryFoundValue, binaryTagLeft, binaryInfoLeft};
 ghost use Rattle.exports_values.specs.Answers.{textWrittenNumber, textWrittenValue, binaryWrittenNumber, binaryWrittenValue};
+ghost use Rattle.exports_indexed.specs.Answers.{indexCodeFrom, textNumber, textValue, textInfo, binaryNumber, binaryValue, binaryInfo};
 ghost use Rattle.format.specs.Report.{reportAnswer, reportNumber, reportValue, reportLeft};
 ghost use Rattle.comparison.specs.Comparing.{compared};
 ghost use Rattle.passing.specs.Passing.{passedIn};
@@ -185,6 +189,76 @@ pub extern "C" fn cesr_write_binary(
     let characters = *tag;
     let outcome = writing::write_binary(code, characters, tags, raw, out);
     exports_answers::binary_written(outcome, answer)
+}
+
+// ---- reading and writing an indexed item
+
+// out: the raw value; answer: its length, or the place in the text. A refused call writes to no other place.
+#[no_mangle]
+pub extern "C" fn cesr_read_indexed_text(
+    stream: &[u8],
+    at: usize,
+    out: &mut [u8],
+    info: &mut [usize; INDEXED],
+    answer: &mut usize,
+) -> u8
+    ensures { λ r. ⌜ r ≡ textNumber (readIndexedText (now (stream .entry)) at (length (now (out .entry)))) ⌝ }
+    ensures { λ r. ⌜ now (answer .exit) ≡ textValue (readIndexedText (now (stream .entry)) at (length (now (out .entry)))) ⌝ }
+    ensures { λ r. ⌜ now (out .exit) ≡ indexedLeft (readIndexedText (now (stream .entry)) at (length (now (out .entry)))) (now (stream .entry)) at (now (out .entry)) ⌝ }
+    ensures { λ r. ⌜ now (info .exit) ≡ textInfo (readIndexedText (now (stream .entry)) at (length (now (out .entry)))) (now (info .entry)) ⌝ }
+{
+    exports_indexed::read_indexed_text(stream, at, out, info, answer)
+}
+
+// The raw value lies in the stream, where info says. answer: its length, or the place in the binary.
+#[no_mangle]
+pub extern "C" fn cesr_read_indexed_binary(
+    stream: &[u8],
+    at: usize,
+    info: &mut [usize; INDEXED],
+    answer: &mut usize,
+) -> u8
+    ensures { λ r. ⌜ r ≡ binaryNumber (readIndexedBinary (now (stream .entry)) at) ⌝ }
+    ensures { λ r. ⌜ now (answer .exit) ≡ binaryValue (readIndexedBinary (now (stream .entry)) at) ⌝ }
+    ensures { λ r. ⌜ now (info .exit) ≡ binaryInfo (readIndexedBinary (now (stream .entry)) at) (now (info .entry)) ⌝ }
+{
+    exports_indexed::read_indexed_binary(stream, at, info, answer)
+}
+
+// answer: the length written, or 0, the place of every refusal.
+#[no_mangle]
+pub extern "C" fn cesr_write_indexed_text(
+    selector: u8,
+    letter: u8,
+    index: usize,
+    ondex: usize,
+    raw: &[u8],
+    out: &mut [u8],
+    answer: &mut usize,
+) -> u8
+    ensures { λ r. ⌜ r ≡ textWrittenNumber (writeIndexedText (indexCodeFrom selector letter) index ondex (now (raw .entry)) (length (now (out .entry)))) ⌝ }
+    ensures { λ r. ⌜ now (answer .exit) ≡ textWrittenValue (writeIndexedText (indexCodeFrom selector letter) index ondex (now (raw .entry)) (length (now (out .entry)))) ⌝ }
+    ensures { λ r. ⌜ now (out .exit) ≡ textIndexedLeft (writeIndexedText (indexCodeFrom selector letter) index ondex (now (raw .entry)) (length (now (out .entry)))) (indexCodeFrom selector letter) index ondex (now (raw .entry)) (now (out .entry)) ⌝ }
+{
+    exports_indexed::write_indexed_text(selector, letter, index, ondex, raw, out, answer)
+}
+
+// answer: the length written, or 0, the place of every refusal.
+#[no_mangle]
+pub extern "C" fn cesr_write_indexed_binary(
+    selector: u8,
+    letter: u8,
+    index: usize,
+    ondex: usize,
+    raw: &[u8],
+    out: &mut [u8],
+    answer: &mut usize,
+) -> u8
+    ensures { λ r. ⌜ r ≡ binaryWrittenNumber (writeIndexedBinary (indexCodeFrom selector letter) index ondex (now (raw .entry)) (length (now (out .entry)))) ⌝ }
+    ensures { λ r. ⌜ now (answer .exit) ≡ binaryWrittenValue (writeIndexedBinary (indexCodeFrom selector letter) index ondex (now (raw .entry)) (length (now (out .entry)))) ⌝ }
+    ensures { λ r. ⌜ now (out .exit) ≡ binaryIndexedLeft (writeIndexedBinary (indexCodeFrom selector letter) index ondex (now (raw .entry)) (length (now (out .entry)))) (indexCodeFrom selector letter) index ondex (now (raw .entry)) (now (out .entry)) ⌝ }
+{
+    exports_indexed::write_indexed_binary(selector, letter, index, ondex, raw, out, answer)
 }
 
 // ---- the walk over a lent state

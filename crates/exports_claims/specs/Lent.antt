@@ -1,9 +1,13 @@
 -- The state that C lends is the walk's: zeros are the start, a state that was written is read back as it was, and so the calls step as the
 -- walk does. Assumes nothing.
-use Prim.Native.Nat.{ℕ, zero, suc, _+_}
+use Prim.Native.Nat.{ℕ, zero, suc, _+_, _<_}
 use mathlib.Core.Path.{_≡_, refl, sym, ap, _∙_}
 use mathlib.Core.List.{List, _++_}
 use mathlib.Core.Bool.{Bool, true, false}
+use mathlib.Core.Logic.{_⊎_, inl, inr}
+use lib.Dec.{ltb}
+use borrow.Author.Tests.{lt-ltb}
+use Rattle.base.specs.Pick.{pick}
 use native.Mathlib.Omega.{arith}
 use lib.ListN.{length, getD, replicate}
 use lib.Seq.{getD-append-add, take-at, take-all}
@@ -13,11 +17,11 @@ use Rattle.laws.specs.Domains.{text-reader, binary-reader}
 use Rattle.walk_state.specs.declared.Walk.{Walk}
 use Rattle.walk_state.specs.declared.Found.{Found}
 use Rattle.walk_state.specs.declared.Found.the-variants as F
-use Rattle.walk_state.specs.Walking.{start, stepIn, textItem, textStep, binaryItem, binaryStep}
+use Rattle.walk_state.specs.Walking.{start, isFit, stepIn, textItem, textStep, binaryItem, binaryStep}
 use Rattle.walk_claims.specs.Words.{Stops, after}
 use Rattle.walk_claims.specs.Runs.{stays, after-fits}
 use Rattle.walk_state.specs.Lent.{walkAt}
-use Rattle.exports_values.specs.Lent.{stateSize, placeIn, placeNumbers, walkOf, stateOf, textStateLeft, binaryStateLeft}
+use Rattle.exports_values.specs.Lent.{stateSize, tooMany, placeIn, placeNumbers, walkOf, stateOf, textStateLeft, binaryStateLeft}
 use Rattle.exports_claims.specs.Words.{textLent, binaryLent}
 use Rattle.exports_claims.specs.Claims.{LentClaims}
 
@@ -25,20 +29,52 @@ use Rattle.exports_claims.specs.Claims.{LentClaims}
 behind : (ends ys : List ℕ) → length ends ≡ maxDepth → (n : ℕ) → getD (ends ++ ys) (maxDepth + n) 0 ≡ getD ys n 0
 behind ends ys l n = rw (← l) (getD-append-add ends ys n 0)
 
-back-by : (ends : List ℕ) (depth at : ℕ) (first : Bool) → length ends ≡ maxDepth
-    → walkAt (ends ++ placeNumbers depth at first) (placeIn (ends ++ placeNumbers depth at first)) ≡ record { ends = ends; depth = depth; at = at; first = first }
-unfolding placeIn
-back-by ends depth at true l =
-    rw (take-at ends (placeNumbers depth at true) maxDepth l, behind ends (placeNumbers depth at true) l 0, behind ends (placeNumbers depth at true) l 1, behind ends (placeNumbers depth at true) l 2)
-back-by ends depth at false l =
-    rw (take-at ends (placeNumbers depth at false) maxDepth l, behind ends (placeNumbers depth at false) l 0, behind ends (placeNumbers depth at false) l 1, behind ends (placeNumbers depth at false) l 2)
+module _ (ends : List ℕ) (depth at : ℕ) (full : length ends ≡ maxDepth) where
+  abbrev numbers : Bool → Bool → List ℕ
+  numbers first indexed = ends ++ placeNumbers depth at first indexed
+
+  -- a number behind the slots
+  number : (first indexed : Bool) (n : ℕ) → getD (numbers first indexed) (maxDepth + n) 0 ≡ getD (placeNumbers depth at first indexed) n 0
+  number first indexed n = behind ends (placeNumbers depth at first indexed) full n
+
+  back-by : (first indexed : Bool)
+      → walkAt (numbers first indexed) (placeIn (numbers first indexed)) ≡ record { ends = ends; depth = depth; at = at; first = first; indexed = indexed }
+  unfolding placeIn
+  back-by true true =
+      rw (take-at ends (placeNumbers depth at true true) maxDepth full, number true true 0, number true true 1, number true true 2, number true true 3)
+  back-by true false =
+      rw (take-at ends (placeNumbers depth at true false) maxDepth full, number true false 0, number true false 1, number true false 2, number true false 3)
+  back-by false true =
+      rw (take-at ends (placeNumbers depth at false true) maxDepth full, number false true 0, number false true 1, number false true 2, number false true 3)
+  back-by false false =
+      rw (take-at ends (placeNumbers depth at false false) maxDepth full, number false false 0, number false false 1, number false false 2, number false false 3)
 
 back : (w : Walk) → length (w .ends) ≡ maxDepth → walkOf (stateOf w) ≡ w
 unfolding walkOf stateOf
 back w full =
-    ap (λ (x : List ℕ). walkAt (x ++ placeNumbers (w .depth) (w .at) (w .first)) (placeIn (x ++ placeNumbers (w .depth) (w .at) (w .first))))
+    ap (λ (x : List ℕ). walkAt (x ++ placeNumbers (w .depth) (w .at) (w .first) (w .indexed)) (placeIn (x ++ placeNumbers (w .depth) (w .at) (w .first) (w .indexed))))
     (take-all maxDepth (w .ends) (omega arith))
-    ∙ back-by (w .ends) (w .depth) (w .at) (w .first) full
+    ∙ back-by (w .ends) (w .depth) (w .at) full (w .first) (w .indexed)
+
+-- ---- a mark is 0 or 1
+
+-- for any other more groups are told to be open than may be
+abbrev tooManyOpen : ℕ → ℕ → ℕ → ℕ
+tooManyOpen mark other depth = pick (ltb 1 mark) tooMany (pick (ltb 1 other) tooMany depth)
+
+both : (b : Bool) → pick b tooMany tooMany ≡ tooMany
+both true = refl
+both false = refl
+
+either : (mark other depth : ℕ) → (1 < mark) ⊎ (1 < other) → tooManyOpen mark other depth ≡ tooMany
+either mark other depth (inl h) = rw (lt-ltb 1 mark h)
+either mark other depth (inr h) = rw (lt-ltb 1 other h) (both (ltb 1 mark))
+
+marks : (s : List ℕ) (n : ℕ) → (1 < getD s (maxDepth + 2) 0) ⊎ (1 < getD s (maxDepth + 3) 0) → isFit (walkOf s) n ≡ false
+unfolding isFit walkOf placeIn
+marks s n h = rw (either (getD s (maxDepth + 2) 0) (getD s (maxDepth + 3) 0) (getD s maxDepth 0) h)
+
+-- ---- zeros
 
 zeros : walkOf (replicate stateSize 0) ≡ start
 unfolding walkOf placeIn start
@@ -79,4 +115,4 @@ binary-walk xs (suc k) =
     (stays binary xs (after binary xs k)) (after-fits binary binary-reader xs (suc k) .nest .full))
 
 pub lent-claims : LentClaims
-lent-claims = record { zeros = zeros; back = back; text-walk = text-walk; binary-walk = binary-walk }
+lent-claims = record { zeros = zeros; back = back; marks = marks; text-walk = text-walk; binary-walk = binary-walk }

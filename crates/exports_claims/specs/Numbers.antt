@@ -6,6 +6,7 @@ use mathlib.Core.Logic.{_↔_}
 use native.Mathlib.Omega.{arith}
 use lib.ListN.{length}
 use Rattle.format.specs.declared.Code.{Code}
+use Rattle.format.specs.declared.IndexCode.{IndexCode}
 use Rattle.format.specs.declared.TextOffset.{TextOffset}
 use Rattle.format.specs.declared.BinaryOffset.{BinaryOffset}
 use Rattle.format.specs.declared.ToBinary.{ToBinary}
@@ -24,14 +25,21 @@ use Rattle.format.specs.declared.TextWritten.{TextWritten}
 use Rattle.format.specs.declared.TextWritten.the-variants as TW
 use Rattle.format.specs.declared.BinaryWritten.{BinaryWritten}
 use Rattle.format.specs.declared.BinaryWritten.the-variants as BW
+use Rattle.format.specs.declared.TextIndexed.{TextIndexed}
+use Rattle.format.specs.declared.TextIndexed.the-variants as TX
+use Rattle.format.specs.declared.BinaryIndexed.{BinaryIndexed}
+use Rattle.format.specs.declared.BinaryIndexed.the-variants as BX
 use Rattle.format.specs.Units.{Domain, text, binary}
 use Rattle.format.specs.Offsets.{textOffset, binaryOffset}
 use Rattle.format.specs.Conversion.{textToBinary, toBinaryNumber, binaryLeft, binaryToText, toTextNumber, textLeft}
 use Rattle.format.specs.Report.{reportAnswer, reportNumber, reportLeft}
 use Rattle.format.specs.Reading.{readText, valueLeft, readBinary, charsLeft}
 use Rattle.format.specs.Writing.{writeText, textItemLeft, writeBinary, binaryItemLeft}
-use Rattle.claims.specs.Claims.{Demand1}
+use Rattle.format.specs.Indexed.{readIndexedText, indexedLeft, readIndexedBinary}
+use Rattle.format.specs.Indexed.{writeIndexedText, textIndexedLeft, writeIndexedBinary, binaryIndexedLeft}
+use Rattle.claims.specs.Claims.{Demand1, IndexedCalls}
 use Rattle.claims.specs.Demand1.{demand1}
+use Rattle.claims.specs.IndexedCalls.{indexed-calls}
 use Rattle.walk_state.specs.declared.Walk.{Walk}
 use Rattle.walk_state.specs.declared.Found.{Found}
 use Rattle.walk_state.specs.declared.Found.the-variants as F
@@ -45,6 +53,8 @@ use Rattle.exports_values.specs.Answers.{textFoundNumber, textTagLeft, textInfo
 use Rattle.exports_values.specs.Answers.{textWrittenNumber, binaryWrittenNumber}
 use Rattle.exports_values.specs.Lent.{textStepNumber, textYieldLeft, textStateLeft, binaryStepNumber, binaryYieldLeft, binaryStateLeft}
 use Rattle.exports_claims.specs.Words.{InBinary, InText, Report, ReadText, ReadBinary, WroteText, WroteBinary, YieldsText, YieldsBinary}
+use Rattle.exports_indexed.specs.Answers.{textNumber, textInfo, binaryNumber, binaryInfo}
+use Rattle.exports_claims.specs.Words.{ReadIndexedText, ReadIndexedBinary}
 use Rattle.exports_claims.specs.Claims.{ZeroClaims, KeepClaims}
 
 -- ---- each kind of answer: its number is 0 exactly where it is accepted, if no refusal has the number 0; and any other leaves what is lent
@@ -84,6 +94,16 @@ unfolding binaryWrittenNumber
 binary-written-zero (BW.Written n) h = (λ _. tt, λ _. refl)
 binary-written-zero (BW.Refused m p) h = (λ e. absurd (omega (arith, e, h m p refl)), λ x. absurd x)
 
+text-indexed-zero : (a : TextIndexed) → ((m : ℕ) (p : TextOffset) → a ≡ TX.Refused m p → 0 < m) → (textNumber a ≡ 0) ↔ ReadIndexedText a
+unfolding textNumber
+text-indexed-zero (TX.Found q) h = (λ _. tt, λ _. refl)
+text-indexed-zero (TX.Refused m p) h = (λ e. absurd (omega (arith, e, h m p refl)), λ x. absurd x)
+
+binary-indexed-zero : (a : BinaryIndexed) → ((m : ℕ) (p : BinaryOffset) → a ≡ BX.Refused m p → 0 < m) → (binaryNumber a ≡ 0) ↔ ReadIndexedBinary a
+unfolding binaryNumber
+binary-indexed-zero (BX.Found q) h = (λ _. tt, λ _. refl)
+binary-indexed-zero (BX.Refused m p) h = (λ e. absurd (omega (arith, e, h m p refl)), λ x. absurd x)
+
 binary-keeps : (a : ToBinary) (s d : List ℕ) → (toBinaryNumber a ≡ 0 → ⊥) → binaryLeft a s d ≡ d
 unfolding toBinaryNumber binaryLeft
 binary-keeps (B.Written n) s d h = absurd (h refl)
@@ -122,6 +142,29 @@ binary-written-keeps : (a : BinaryWritten) (code : Code) (tag : List ℕ) (tags 
 unfolding binaryWrittenNumber binaryItemLeft
 binary-written-keeps (BW.Written n) code tag tags raw d h = absurd (h refl)
 binary-written-keeps (BW.Refused m p) code tag tags raw d h = refl
+
+text-indexed-keeps : (a : TextIndexed) (s : List ℕ) (at : ℕ) (d info : List ℕ) → (textNumber a ≡ 0 → ⊥)
+    → (indexedLeft a s at d ≡ d) × (textInfo a info ≡ info)
+unfolding textNumber indexedLeft textInfo
+text-indexed-keeps (TX.Found q) s at d info h = absurd (h refl)
+text-indexed-keeps (TX.Refused m p) s at d info h = (refl, refl)
+
+binary-indexed-keeps : (a : BinaryIndexed) (info : List ℕ) → (binaryNumber a ≡ 0 → ⊥) → binaryInfo a info ≡ info
+unfolding binaryNumber binaryInfo
+binary-indexed-keeps (BX.Found q) info h = absurd (h refl)
+binary-indexed-keeps (BX.Refused m p) info h = refl
+
+text-indexed-written-keeps : (a : TextWritten) (code : IndexCode) (index ondex : ℕ) (raw d : List ℕ) → (textWrittenNumber a ≡ 0 → ⊥)
+    → textIndexedLeft a code index ondex raw d ≡ d
+unfolding textWrittenNumber textIndexedLeft
+text-indexed-written-keeps (TW.Written n) code index ondex raw d h = absurd (h refl)
+text-indexed-written-keeps (TW.Refused m p) code index ondex raw d h = refl
+
+binary-indexed-written-keeps : (a : BinaryWritten) (code : IndexCode) (index ondex : ℕ) (raw d : List ℕ) → (binaryWrittenNumber a ≡ 0 → ⊥)
+    → binaryIndexedLeft a code index ondex raw d ≡ d
+unfolding binaryWrittenNumber binaryIndexedLeft
+binary-indexed-written-keeps (BW.Written n) code index ondex raw d h = absurd (h refl)
+binary-indexed-written-keeps (BW.Refused m p) code index ondex raw d h = refl
 
 -- ---- a step: no refusal has the number 0 or 255
 
@@ -188,6 +231,13 @@ zero-claims = record {
       (λ m p e. demand1 .write-text code tag tags raw d m p e .0 .not-accepted);
   write-binary = λ code tag tags raw d. binary-written-zero (writeBinary code tag tags raw (length d))
       (λ m p e. demand1 .write-binary code tag tags raw d m p e .0 .not-accepted);
+  read-indexed-text = λ s at d. text-indexed-zero (readIndexedText s at (length d))
+      (λ m p e. indexed-calls .read-text s at d m p e .0 .not-accepted);
+  read-indexed-binary = λ s at. binary-indexed-zero (readIndexedBinary s at) (λ m p e. indexed-calls .read-binary s at m p e .0 .not-accepted);
+  write-indexed-text = λ code index ondex raw d. text-written-zero (writeIndexedText code index ondex raw (length d))
+      (λ m p e. indexed-calls .write-text code index ondex raw d m p e .0 .not-accepted);
+  write-indexed-binary = λ code index ondex raw d. binary-written-zero (writeIndexedBinary code index ondex raw (length d))
+      (λ m p e. indexed-calls .write-binary code index ondex raw d m p e .0 .not-accepted);
   walk-text = λ s w. text-yields (stepIn text s w .found) (text-numbered s w);
   walk-binary = λ s w. binary-yields (stepIn binary s w .found) (binary-numbered s w);
   end-text = λ s w. text-ends (stepIn text s w .found) (text-numbered s w);
@@ -203,6 +253,10 @@ keep-claims = record {
   read-binary = λ s at d. binary-found-keeps (readBinary s at (length d) .found) s at d (readBinary s at (length d) .tag);
   write-text = λ code tag tags raw d. text-written-keeps (writeText code tag tags raw (length d)) code tag tags raw d;
   write-binary = λ code tag tags raw d. binary-written-keeps (writeBinary code tag tags raw (length d)) code tag tags raw d;
+  read-indexed-text = λ s at d. text-indexed-keeps (readIndexedText s at (length d)) s at d;
+  read-indexed-binary = λ s at. binary-indexed-keeps (readIndexedBinary s at);
+  write-indexed-text = λ code index ondex raw d. text-indexed-written-keeps (writeIndexedText code index ondex raw (length d)) code index ondex raw d;
+  write-indexed-binary = λ code index ondex raw d. binary-indexed-written-keeps (writeIndexedBinary code index ondex raw (length d)) code index ondex raw d;
   walk-text = λ s w. text-step-keeps (textStep s w .found) (textStep s w .next);
   walk-binary = λ s w. binary-step-keeps (binaryStep s w .found) (binaryStep s w .next);
 }

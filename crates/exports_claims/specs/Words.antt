@@ -17,6 +17,13 @@ use Rattle.format.specs.declared.TextWritten.{TextWritten}
 use Rattle.format.specs.declared.TextWritten.the-variants as TW
 use Rattle.format.specs.declared.BinaryWritten.{BinaryWritten}
 use Rattle.format.specs.declared.BinaryWritten.the-variants as BW
+use Rattle.format.specs.declared.TextIndexed.{TextIndexed}
+use Rattle.format.specs.declared.TextIndexed.the-variants as TX
+use Rattle.format.specs.declared.BinaryIndexed.{BinaryIndexed}
+use Rattle.format.specs.declared.BinaryIndexed.the-variants as BX
+use Rattle.format.specs.declared.IndexRow.{IndexRow}
+use Rattle.format.specs.declared.IndexedItem.{IndexedItem}
+use Rattle.format.specs.Offsets.{binaryOffset}
 use Rattle.walk_state.specs.declared.TextItem.{TextItem}
 use Rattle.walk_state.specs.declared.TextItem.the-variants as TI
 use Rattle.walk_state.specs.declared.BinaryItem.{BinaryItem}
@@ -56,6 +63,14 @@ abbrev pub WroteBinary : BinaryWritten → Type 0
 WroteBinary (BW.Written n) = Unit {0}
 WroteBinary (BW.Refused m p) = ⊥
 
+abbrev pub ReadIndexedText : TextIndexed → Type 0
+ReadIndexedText (TX.Found p) = Unit {0}
+ReadIndexedText (TX.Refused m p) = ⊥
+
+abbrev pub ReadIndexedBinary : BinaryIndexed → Type 0
+ReadIndexedBinary (BX.Found p) = Unit {0}
+ReadIndexedBinary (BX.Refused m p) = ⊥
+
 -- ---- a step that yields, and one that tells the end
 
 abbrev pub YieldsText : TextItem → Type 0
@@ -81,3 +96,15 @@ binaryLent xs zero = replicate stateSize 0
 binaryLent xs (suc k) =
     let a : BinaryStep = binaryStep xs (walkOf (binaryLent xs k)) in
     binaryStateLeft (a .found) (a .next) (binaryLent xs k)
+
+-- ---- two indexed codes, and an item
+
+-- 003's `A` and `2A`
+abbrev pub lone : IndexRow
+lone = record { chars = 1; selector = 0; letter = 0; size = 88; index = 1; ondex = 0; zeros = 4; current = 0 }
+
+abbrev pub paired : IndexRow
+paired = record { chars = 2; selector = 54; letter = 0; size = 92; index = 2; ondex = 2; zeros = 4; current = 0 }
+
+abbrev pub signature : IndexedItem
+signature = record { code = record { selector = 50; letter = 65 }; size = 23; start = binaryOffset 5; raw = 64; index = 64; ondex = 66 }

@@ -32,9 +32,9 @@ module _ (d : Domain) (xs : List ℕ) (budget : ℕ) (before : List ℕ) {after 
   unfolding stateBehind walkOf
   no-item z = told (rw (← e, ← (g .items), eq-eqb _ _ z) (g .kept z))
 
-  pub some-items : ¬ (r .items ≡ 0) → {state : List ℕ} → state ≡ slotsIn after ++ placeNumbers (r .place .depth) (r .place .at) (r .place .first)
+  pub some-items : ¬ (r .items ≡ 0) → {state : List ℕ} → state ≡ slotsIn after ++ placeNumbers (r .place .depth) (r .place .at) (r .place .first) (r .place .indexed)
       → Gives d xs budget before number place (r .items) state
   unfolding stateBehind walkOf stateOf
   some-items z s =
       told (rw (← e, ← (g .items), ne-eqb _ _ z, ← (g .moves .state))
-      (s ∙ ap (λ (x : List ℕ). x ++ placeNumbers (r .place .depth) (r .place .at) (r .place .first)) (sym (take-take maxDepth maxDepth after (omega arith)))))
+      (s ∙ ap (λ (x : List ℕ). x ++ placeNumbers (r .place .depth) (r .place .at) (r .place .first) (r .place .indexed)) (sym (take-take maxDepth maxDepth after (omega arith)))))

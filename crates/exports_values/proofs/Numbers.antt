@@ -6,20 +6,21 @@ use native.Mathlib.Numerals.{add-one}
 use native.Mathlib.Omega.{arith}
 use lib.ListN.{length, getD, set, take, drop, drop-of-length-le}
 use lib.Seq.{take-suc, take-suc-set, take-all}
-use Rattle.base.specs.Stores.{store3}
+use Rattle.base.specs.Stores.{store4}
 use Rattle.format.specs.Judging.{maxDepth}
 use Rattle.walk_state.specs.declared.Walk.{Walk}
 use Rattle.walk_state.specs.declared.Place.{Place}
 use Rattle.walk_state.specs.Lent.{slotsIn, walkAt}
 use Rattle.exports_values.specs.Lent.{stateSize, placeIn, placeNumbers, walkOf, stateOf}
 
--- three numbers behind the ends
-pub numbers-put : (s : List ℕ) → length s ≡ stateSize → (depth at mark : ℕ)
-    → set (set (set s maxDepth depth) (maxDepth + 1) at) (maxDepth + 2) mark ≡ slotsIn s ++ (depth ∷ at ∷ mark ∷ [])
-numbers-put s l depth at mark =
-    let n : drop (maxDepth + 3) s ≡ [] = drop-of-length-le s {i = maxDepth + 3} (omega arith) in
-    store3 s (depth ∷ at ∷ mark ∷ []) maxDepth refl (omega arith) ∙ ap (λ (x : List ℕ). slotsIn s ++ (depth ∷ at ∷ mark ∷ []) ++ x) n
-    ∙ append-nil (slotsIn s ++ (depth ∷ at ∷ mark ∷ []))
+-- four numbers behind the ends
+pub numbers-put : (s : List ℕ) → length s ≡ stateSize → (depth at mark indexed : ℕ)
+    → set (set (set (set s maxDepth depth) (maxDepth + 1) at) (maxDepth + 2) mark) (maxDepth + 3) indexed ≡ slotsIn s ++ (depth ∷ at ∷ mark ∷ indexed ∷ [])
+numbers-put s l depth at mark indexed =
+    let n : drop (maxDepth + 4) s ≡ [] = drop-of-length-le s {i = maxDepth + 4} (omega arith) in
+    store4 s (depth ∷ at ∷ mark ∷ indexed ∷ []) maxDepth refl (omega arith)
+    ∙ ap (λ (x : List ℕ). slotsIn s ++ (depth ∷ at ∷ mark ∷ indexed ∷ []) ++ x) n
+    ∙ append-nil (slotsIn s ++ (depth ∷ at ∷ mark ∷ indexed ∷ []))
 
 -- ends one by one
 pub copied-more : (from to : List ℕ) (k : ℕ) → k < length from → k < length to → take k to ≡ take k from
@@ -31,14 +32,14 @@ copied-all from to k e h = rw e at h
 
 -- by value
 pub walk-of-parts : (s ends : List ℕ) (p : Place) → length ends ≡ maxDepth → slotsIn ends ≡ slotsIn s → p ≡ placeIn s
-    → record { ends = ends; depth = p .depth; at = p .at; first = p .first } ≡ walkOf s
+    → record { ends = ends; depth = p .depth; at = p .at; first = p .first; indexed = p .indexed } ≡ walkOf s
 unfolding walkOf
 walk-of-parts s ends p l e f =
-    rw f (ap (λ (x : List ℕ). record { ends = x; depth = placeIn s .depth; at = placeIn s .at; first = placeIn s .first })
+    rw f (ap (λ (x : List ℕ). record { ends = x; depth = placeIn s .depth; at = placeIn s .at; first = placeIn s .first; indexed = placeIn s .indexed })
     (sym (take-all maxDepth ends (omega arith)) ∙ e))
 
 pub state-of-parts : (w : Walk) (s : List ℕ) (p : Place) → slotsIn s ≡ slotsIn (w .ends) → walkAt (w .ends) p ≡ w
-    → slotsIn s ++ placeNumbers (p .depth) (p .at) (p .first) ≡ stateOf w
+    → slotsIn s ++ placeNumbers (p .depth) (p .at) (p .first) (p .indexed) ≡ stateOf w
 unfolding stateOf
 state-of-parts w s p e f =
-    rw e (ap (λ (v : Walk). slotsIn (w .ends) ++ placeNumbers (v .depth) (v .at) (v .first)) f)
+    rw e (ap (λ (v : Walk). slotsIn (w .ends) ++ placeNumbers (v .depth) (v .at) (v .first) (v .indexed)) f)

@@ -1,5 +1,5 @@
--- The walk over a state that C lends: numbers, which are the ends of the groups open, as many as may be, the number open, the position
--- and the first-item mark (0 or 1), in units. Assumes nothing.
+-- The walk over a state that C lends: numbers, which are the ends of the groups open, as many as may be, the number open, the position,
+-- the first-item mark and the mark of indexed items (0 or 1 each), in units. Assumes nothing.
 use Prim.Native.Nat.{ℕ, _+_}
 use mathlib.Core.Bool.{Bool}
 use mathlib.Core.List.{List, [], _∷_, _++_}
@@ -7,9 +7,10 @@ use lib.ListN.{getD}
 use lib.Dec.{ltb, eqb}
 use Rattle.base.specs.Pick.{pick}
 use Rattle.format.specs.Alphabet.{charOf}
+use Rattle.format.specs.Indexed.{codeOfRow}
 use Rattle.format.specs.Judging.{maxDepth}
 use Rattle.format.specs.declared.Kind.{Kind}
-use Rattle.format.specs.declared.Kind.the-variants.{Fixed, Variable, Group, Genus}
+use Rattle.format.specs.declared.Kind.the-variants.{Fixed, Variable, Group, Genus, Indexed}
 use Rattle.walk_state.specs.declared.Walk.{Walk}
 use Rattle.walk_state.specs.declared.Place.{Place}
 use Rattle.walk_state.specs.declared.TextItem.{TextItem}
@@ -21,37 +22,44 @@ use Rattle.walk_state.specs.Lent.{slotsIn, walkAt}
 -- ---- the state as numbers
 
 abbrev pub stateSize : ℕ
-stateSize = maxDepth + 3
+stateSize = maxDepth + 4
 
 -- one more than may be open, which is 13 over every stream
 abbrev pub tooMany : ℕ
 tooMany = maxDepth + 1
 
--- the state but its ends: the three numbers behind them. A mark that is neither 0 nor 1 is no state's
+-- a mark that is neither 0 nor 1 is no state's
+abbrev openBy : ℕ → ℕ → ℕ
+openBy mark depth = pick (ltb 1 mark) tooMany depth
+
+-- the state but its ends: the four numbers behind them
 unfoldable pub placeIn : List ℕ → Place
 placeIn s = record {
-  depth = pick (ltb 1 (getD s (maxDepth + 2) 0)) tooMany (getD s maxDepth 0);
+  depth = openBy (getD s (maxDepth + 2) 0) (openBy (getD s (maxDepth + 3) 0) (getD s maxDepth 0));
   at = getD s (maxDepth + 1) 0;
   first = eqb (getD s (maxDepth + 2) 0) 1;
+  indexed = eqb (getD s (maxDepth + 3) 0) 1;
 }
 
 unfoldable pub walkOf : List ℕ → Walk
 walkOf s = walkAt s (placeIn s)
 
-abbrev pub placeNumbers : ℕ → ℕ → Bool → List ℕ
-placeNumbers depth at first = depth ∷ at ∷ pick first 1 0 ∷ []
+abbrev pub placeNumbers : ℕ → ℕ → Bool → Bool → List ℕ
+placeNumbers depth at first indexed = depth ∷ at ∷ pick first 1 0 ∷ pick indexed 1 0 ∷ []
 
 unfoldable pub stateOf : Walk → List ℕ
-stateOf w = slotsIn (w .ends) ++ placeNumbers (w .depth) (w .at) (w .first)
+stateOf w = slotsIn (w .ends) ++ placeNumbers (w .depth) (w .at) (w .first) (w .indexed)
 
 -- ---- an item's code as three numbers
 
--- chars as for reading and writing; 7 for a small group, 8 for a large one, 9 for a genus/version; h: the header's units
+-- chars as for reading and writing; 7 for a small group, 8 for a large one, 9 for a genus/version, 10 for an indexed item; h: the header's
+-- units
 unfoldable pub sortOf : Kind → ℕ → ℕ
 sortOf (Fixed c) h = c .chars
 sortOf (Variable t lead count) h = pick (eqb h 1) 5 6
 sortOf (Group letter) h = pick (eqb h 1) 7 8
 sortOf Genus h = 9
+sortOf (Indexed c) h = 10
 
 -- the letter as a character; a genus/version has none
 unfoldable pub signOf : Kind → ℕ
@@ -59,13 +67,15 @@ signOf (Fixed c) = charOf (c .letter)
 signOf (Variable t lead count) = charOf t
 signOf (Group letter) = charOf letter
 signOf Genus = 0
+signOf (Indexed c) = codeOfRow c .letter
 
--- a variable's lead bytes, which tell its selector
+-- a variable's lead bytes, which tell its selector; an indexed item's selector as a character, 0 where its letter stands alone
 unfoldable pub leadOf : Kind → ℕ
 leadOf (Fixed c) = 0
 leadOf (Variable t lead count) = lead
 leadOf (Group letter) = 0
 leadOf Genus = 0
+leadOf (Indexed c) = codeOfRow c .selector
 
 -- ---- a step's answer: 0 for an item, 255 for the end, or 01's number and the place
 

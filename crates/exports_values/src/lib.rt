@@ -2,6 +2,7 @@
 // here.
 use comparison::Compared;
 use format::Code;
+use format::IndexRow;
 use format::Kind;
 use format::Primitive;
 use judging::MAX_DEPTH;
@@ -14,6 +15,7 @@ ghost use lib.Dec.{ltb, eqb};
 ghost use lib.ListN.{length};
 ghost use Rattle.base.specs.Pick.{pick};
 ghost use Rattle.format.specs.Alphabet.{charOf};
+ghost use Rattle.format.specs.Indexed.{codeOfRow};
 ghost use Rattle.format.specs.Judging.{maxDepth};
 ghost use Rattle.walk_state.specs.Lent.{slotsIn};
 ghost use Rattle.exports_values.specs.Answers.{charsOf, letterOf, codeFrom, infoOf, valueSize};
@@ -79,15 +81,17 @@ pub fn code_from(chars: u8, letter: u8) -> Code
     Code::Fixed { chars, letter }
 }
 
-// ---- a walk's state: the ends of the groups open, how many are open, the position, and the mark of a first item
+// ---- a walk's state: the ends of the groups open, how many are open, the position, the mark of a first item and that of indexed items
 
-pub const STATE: usize = MAX_DEPTH + 3;
+pub const STATE: usize = MAX_DEPTH + 4;
 
 const OPEN: usize = MAX_DEPTH;
 
 const AT: usize = MAX_DEPTH + 1;
 
 pub const MARK: usize = MAX_DEPTH + 2;
+
+pub const INDEXED: usize = MAX_DEPTH + 3;
 
 // One more than may be open.
 const TOO_MANY: usize = MAX_DEPTH + 1;
@@ -103,11 +107,17 @@ fn open_of(depth: usize, mark: usize) -> usize
 pub fn place_of(s: &[usize; STATE]) -> Place
     ensures { λ r. ⌜ r ≡ placeIn (now (s .entry)) ⌝ }
 {
-    let depth = open_of(s[OPEN], s[MARK]);
+    let open = s[OPEN];
+    let at = s[AT];
+    let mark = s[MARK];
+    let indexed = s[INDEXED];
+    let tabled = open_of(open, indexed);
+    let depth = open_of(tabled, mark);
     Place {
         depth,
-        at: s[AT],
-        first: s[MARK] == 1,
+        at,
+        first: mark == 1,
+        indexed: indexed == 1,
     }
 }
 
@@ -119,7 +129,7 @@ pub fn mark_of(yes: bool) -> usize
 
 // Too few numbers stay as they are.
 pub fn put_place(s: &mut [usize], p: Place)
-    ensures { λ _. ⌜ (length (now (s .entry)) ≡ stateSize → now (s .exit) ≡ slotsIn (now (s .entry)) ++ placeNumbers (p .depth) (p .at) (p .first)) ⌝ }
+    ensures { λ _. ⌜ (length (now (s .entry)) ≡ stateSize → now (s .exit) ≡ slotsIn (now (s .entry)) ++ placeNumbers (p .depth) (p .at) (p .first) (p .indexed)) ⌝ }
 {
     if s.len() < STATE {
         return;
@@ -127,6 +137,7 @@ pub fn put_place(s: &mut [usize], p: Place)
     s[OPEN] = p.depth;
     s[AT] = p.at;
     s[MARK] = mark_of(p.first);
+    s[INDEXED] = mark_of(p.indexed);
 }
 
 fn copy_slots(from: &[usize], to: &mut [usize])
@@ -152,6 +163,7 @@ pub fn walk_of(s: [usize; STATE]) -> Walk
         depth: p.depth,
         at: p.at,
         first: p.first,
+        indexed: p.indexed,
     }
 }
 
@@ -189,6 +201,7 @@ fn sort_of(kind: Kind, head: usize) -> usize
         } => sized(head, 5, 6),
         Kind::Group { letter: _ } => sized(head, 7, 8),
         Kind::Genus => 9,
+        Kind::Indexed(_) => 10,
     }
 }
 
@@ -214,7 +227,22 @@ fn sign_of(kind: Kind) -> usize
         } => character_of(letter),
         Kind::Group { letter } => character_of(letter),
         Kind::Genus => 0,
+        Kind::Indexed(c) => {
+            let letter = c.letter;
+            character_of(letter)
+        }
     }
+}
+
+// 0 where the letter stands alone
+fn selector_of(c: IndexRow) -> usize
+    ensures { λ r. ⌜ r ≡ codeOfRow c .selector ⌝ }
+{
+    let selector = c.selector;
+    if c.chars == 1 {
+        return 0;
+    }
+    character_of(selector)
 }
 
 fn lead_of(kind: Kind) -> usize
@@ -229,6 +257,7 @@ fn lead_of(kind: Kind) -> usize
         } => wide(lead),
         Kind::Group { letter: _ } => 0,
         Kind::Genus => 0,
+        Kind::Indexed(c) => selector_of(c),
     }
 }
 

@@ -13,15 +13,16 @@ use Rattle.format.specs.declared.Verdict.the-variants.{Accepted, Refused
 use Rattle.format.specs.Alphabet.{sextetOf, strangerNumber, charOf}
 use Rattle.format.specs.Units.{Domain, text, binary, bytesOf, sextetsOf, tripletOf, textSextets, binarySextets}
 use Rattle.format.specs.Conversion.{toBinary}
-use Rattle.format.specs.Registry.{codes, isType, isText, isGroup, isOpaque, isOverrideable, fixedAmong, fixed, opening, extent}
-use Rattle.format.specs.Framing.{fit, known, second, headed, frameWith, isOurs, ruled, frame, frameRuled, scale}
+use Rattle.format.specs.Registry.{codes, isType, isText, isGroup, isIndexed, isOverrideable, fixedAmong, fixed, opening, extent}
+use Rattle.format.specs.Registry.{indexedCodes, indexHead, indexedRow, indexedAmong, indexedBy, indexedOpening}
+use Rattle.format.specs.Framing.{fit, known, second, headed, frameWith, isOurs, ruled, frame, frameRuled, frameIndexed, frameNext, scale}
 use Rattle.format.specs.Cutting.{cutBy, cutF, cut}
 use Rattle.format.specs.Judging.{shift, andThen, unless, isShortest, scan, behind, hasLead, zeroBits, prepadRight, judgeKind, judgeBy}
-use Rattle.format.specs.Judging.{inTurn, frame4, frameRuled4, contents, ownCheck, group, judge}
+use Rattle.format.specs.Judging.{ondexRight, inTurn, frame4, frameNext4, contents, ownCheck, group, judgeWith}
 use Rattle.format.specs.Report.{ItemRow, RemainderRow, rowsOf, remainderOf, refusal, refusalsOf, rows, refusals, remainder}
 use Rattle.format.specs.Report.{placed, frameIn, judgeIn, rowsIn, remainderIn}
 use Rattle.format.specs.Report.{be4, verdictByte, rowBytes, refusalBytes, remainderBytes, concat, section, report}
-use Rattle.format.specs.Values.{bytesIn, rawStart, rawOf, textIn, tagOf}
+use Rattle.format.specs.Values.{bytesIn, rawStart, rawOf, ondexOf, textIn, tagOf}
 use Rattle.format.specs.Texts.{fills, fillOf, textRight, valueRight, textOf}
 
 infixr 5 _&_
@@ -130,8 +131,8 @@ order =
     example (around 64 (45 ∷ 45 ∷ 65 ∷ 65 ∷ 65 ∷ 65 ∷ 65 ∷ 65 ∷ [])) (refused 11 256) ∷  -- within 64 groups: 11, then 18
     example (45 ∷ 45 ∷ 65 ∷ 65 ∷ 65 ∷ 65 ∷ 65 ∷ 66 ∷ 77 ∷ 81 ∷ 65 ∷ 65 ∷ []) (refused 18 0) ∷  -- `--AAAAABMQAA`: 18, then its items
     example (45 ∷ 45 ∷ 65 ∷ 65 ∷ 65 ∷ 65 ∷ 65 ∷ 67 ∷ 45 ∷ 95 ∷ 65 ∷ 65 ∷ 65 ∷ 66 ∷ 65 ∷ 65 ∷ []) (refused 18 0) ∷  -- `--AAAAAC-_AAABAA`: an inner 7 too
-    example (45 ∷ 45 ∷ 75 ∷ 65 ∷ 65 ∷ 65 ∷ 65 ∷ 66 ∷ 33 ∷ 65 ∷ 65 ∷ 65 ∷ []) (refused 18 0) ∷  -- `--KAAAAB!AAA`: of an opaque group 18, then 5
-    example (45 ∷ 75 ∷ 65 ∷ 66 ∷ 65 ∷ 65 ∷ 33 ∷ 65 ∷ []) (refused 5 6) ∷  -- `-KABAA!A`: an opaque group, 5
+    example (45 ∷ 45 ∷ 75 ∷ 65 ∷ 65 ∷ 65 ∷ 65 ∷ 66 ∷ 33 ∷ 65 ∷ 65 ∷ 65 ∷ []) (refused 18 0) ∷  -- `--KAAAAB!AAA`: of `-K` too
+    example (45 ∷ 75 ∷ 65 ∷ 66 ∷ 65 ∷ 65 ∷ 33 ∷ 65 ∷ []) (refused 5 6) ∷  -- `-KABAA!A`: an inner 5
     -- 02 j: "report them as number 19 where they would have given 5, at the same place in the same order .. the first bad character is
     -- reported, of whichever kind"
     example (77 ∷ 43 ∷ 65 ∷ []) (unframed 4 0) ∷  -- `M+A`: 4 (first unit), then 19
@@ -142,7 +143,7 @@ order =
     example (55 ∷ 65 ∷ 65 ∷ 66 ∷ 43 ∷ 65 ∷ 65 ∷ 66 ∷ []) (unframed 19 0) ∷  -- `7AAB+AAB`: 19 in the second unit, then 4 (extent)
     example (48 ∷ 72 ∷ 69 ∷ 65 ∷ 65 ∷ 61 ∷ 47 ∷ 33 ∷ []) (refused 19 5) ∷  -- `0HEAA=/!`: 19 behind the header, then 8
     example (48 ∷ 72 ∷ 68 ∷ 65 ∷ 65 ∷ 33 ∷ 61 ∷ 61 ∷ []) (refused 5 5) ∷  -- `0HDAA!==`: 5, and no 19 behind it
-    example (45 ∷ 75 ∷ 65 ∷ 66 ∷ 65 ∷ 65 ∷ 47 ∷ 65 ∷ []) (refused 19 6) ∷  -- `-KABAA/A`: an opaque group, 19
+    example (45 ∷ 75 ∷ 65 ∷ 66 ∷ 65 ∷ 65 ∷ 47 ∷ 65 ∷ []) (refused 19 6) ∷  -- `-KABAA/A`: an inner 19
     example (45 ∷ 65 ∷ 65 ∷ 66 ∷ 77 ∷ 65 ∷ 65 ∷ 61 ∷ []) (refused 19 7) ∷  -- `-AABMAA=`: an inner 19 is the item's verdict
     example (77 ∷ 44 ∷ 65 ∷ 65 ∷ []) (unframed 5 0) ∷  -- `M,AA`: the neighbours of the three are other strangers
     example (77 ∷ 46 ∷ 65 ∷ 65 ∷ []) (unframed 5 0) ∷  -- `M.AA`
@@ -161,6 +162,8 @@ order =
     example (52 ∷ 65 ∷ 65 ∷ 66 ∷ 65 ∷ 65 ∷ 65 ∷ 33 ∷ []) (refused 5 7) ∷  -- `4AABAAA!`: 5 behind the header, then 16
     example (52 ∷ 65 ∷ 65 ∷ 66 ∷ 65 ∷ 65 ∷ 61 ∷ 65 ∷ []) (refused 19 6) ∷  -- `4AABAA=A`: 19, then 16
     example (45 ∷ 65 ∷ 65 ∷ 67 ∷ 52 ∷ 65 ∷ 65 ∷ 66 ∷ 65 ∷ 65 ∷ 65 ∷ 65 ∷ []) (refused 16 4) ∷  -- `-AAC4AABAAAA`: in a group, at the item's start
+    -- 02 a: "The header is one unit, or two for selectors 2 and 3"
+    example (45 ∷ 75 ∷ 65 ∷ 67 ∷ 50 ∷ 65 ∷ 65 ∷ 65 ∷ 33 ∷ 65 ∷ 65 ∷ 65 ∷ []) (refused 5 8) ∷  -- `-KAC2AAA!AAA`: 5 in the second unit, then 4 (extent)
     -- `-AACMQAA_AAA`: the first refusal stands, with number and place
     example (45 ∷ 65 ∷ 65 ∷ 67 ∷ 77 ∷ 81 ∷ 65 ∷ 65 ∷ 95 ∷ 65 ∷ 65 ∷ 65 ∷ []) (refused 8 4) ∷
     []
@@ -184,11 +187,12 @@ valueBy e (Unframed n p) s = []
 
 -- what the definitions give of a stream; to compute it is to open all of them
 unfoldable pub given : Domain → List ℕ → Expected → Seen
-unfolding around charOf rows remainder rowsOf remainderOf cut cutF cutBy frameIn judgeIn placed frameRuled frame frameWith ruled
-    isOurs headed second known fit opening extent fixed fixedAmong codes isType isText isGroup isOpaque isOverrideable scale
-    textSextets sextetOf strangerNumber judge judgeBy judgeKind group ownCheck inTurn contents frame4 frameRuled4 andThen shift unless isShortest scan
-    behind zeroBits hasLead prepadRight fills fillOf textRight valueRight textOf textIn binarySextets sextetsOf bytesOf tripletOf toBinary each
-    rawStart rawOf tagOf bytesIn
+unfolding around charOf rows remainder rowsOf remainderOf cut cutF cutBy frameIn judgeIn placed frameRuled frame frameIndexed frameNext
+    frameWith ruled isOurs headed second known fit opening extent fixed fixedAmong codes isType isText isGroup isIndexed isOverrideable
+    indexedOpening indexedBy indexedAmong indexedCodes indexedRow indexHead scale textSextets sextetOf strangerNumber judgeWith judgeBy
+    judgeKind group ownCheck inTurn contents frame4 frameNext4 andThen shift unless isShortest scan behind zeroBits hasLead prepadRight
+    ondexRight ondexOf fills fillOf textRight valueRight textOf textIn binarySextets sextetsOf bytesOf tripletOf toBinary each rawStart rawOf
+    tagOf bytesIn
 given d xs e = record { items = rowsIn d xs; left = remainderIn d xs; value = valueBy e (frame (d .sextets xs)) (d .sextets xs) }
 
 -- one item that is the whole stream
@@ -237,7 +241,7 @@ deck-holds = (
 pub order-holds : Holds text (λ s. s) order
 unfolding given order
 order-holds =
-    refl & refl & refl & refl & refl & refl & refl & refl & refl & refl & refl & refl & refl & refl & refl & refl &
+    refl & refl & refl & refl & refl & refl & refl & refl & refl & refl & refl & refl & refl & refl & refl & refl & refl &
     refl & refl & refl & refl & refl & refl & refl & refl & refl & refl & refl & refl & refl & refl & refl &
     refl & refl & refl & refl & refl & refl & refl & refl & refl & refl & refl & refl & end
 

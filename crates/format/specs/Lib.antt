@@ -12,7 +12,10 @@ pub mod Numbers
 pub mod Values
 pub mod Reading
 pub mod Writing
+pub mod Indexed
 pub mod Deck
+pub mod Signatures
 pub mod Characters
 pub mod RawSizes
 pub mod Calls
+pub mod SignatureCalls

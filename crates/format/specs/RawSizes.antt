@@ -8,12 +8,14 @@ use mathlib.Core.Bool.{Bool, true, false}
 use lib.Dec.{eqb}
 use Rattle.base.specs.Pick.{pick}
 use Rattle.format.specs.declared.CodeRow.{CodeRow}
+use Rattle.format.specs.declared.IndexRow.{IndexRow}
 use Rattle.format.specs.declared.Kind.the-variants.{Variable, Group}
 use Rattle.format.specs.declared.Opening.the-variants.{Short, LargeVariable, LargeGroup}
-use Rattle.format.specs.Registry.{codes, isType, isGroup, opening, extent}
+use Rattle.format.specs.Registry.{codes, isType, isGroup, opening, extent, indexedCodes, indexChars, indexHead}
 use Rattle.format.specs.Framing.{digits4}
 use Rattle.format.specs.Values.{rawStart}
 use Rattle.format.specs.Writing.{rawSize}
+use Rattle.format.specs.Indexed.{indexedRawSize}
 
 -- ---- raw bytes and tag characters
 
@@ -94,6 +96,41 @@ pub held : map holding codes ≡
     ∷ []
 unfolding codes rawSize rawStart
 held = refl
+
+-- ---- the same of the Indexed Code Table: 003's "Code Len", "Index" and "Ondex", and the signature's bytes by its scheme's name
+
+pub record IndexHolding : Type 0 where
+  pub selector : ℕ  -- its sextet, 0 where the letter stands alone
+  pub letter : ℕ
+  pub length : ℕ  -- the characters of code, index and ondex
+  pub index : ℕ
+  pub ondex : ℕ
+  pub raw : ℕ
+
+abbrev indexHolds : ℕ → ℕ → ℕ → ℕ → ℕ → ℕ → IndexHolding
+indexHolds selector letter chars index ondex bytes =
+    record { selector = selector; letter = letter; length = chars; index = index; ondex = ondex; raw = bytes }
+
+abbrev indexHolding : IndexRow → IndexHolding
+indexHolding c =
+    record { selector = c .selector; letter = c .letter; length = indexChars c; index = c .index; ondex = c .ondex; raw = indexedRawSize c }
+
+pub index-held : map indexHolding indexedCodes ≡
+    indexHolds 0 0 2 1 0 64  -- A#: Ed25519 indexed sig, both same
+    ∷ indexHolds 0 1 2 1 0 64  -- B#: Ed25519 indexed sig, current only
+    ∷ indexHolds 0 2 2 1 0 64  -- C#: ECDSA secp256k1 indexed sig, both same
+    ∷ indexHolds 0 3 2 1 0 64  -- D#: ECDSA secp256k1 indexed sig, current only
+    ∷ indexHolds 52 0 4 1 1 114  -- 0A##: Ed448 indexed sig, dual
+    ∷ indexHolds 52 1 4 1 1 114  -- 0B##: Ed448 indexed sig, current only
+    ∷ indexHolds 54 0 6 2 2 64  -- 2A####: Ed25519 indexed sig, big dual
+    ∷ indexHolds 54 1 6 2 2 64  -- 2B####: Ed25519 indexed sig, big current only
+    ∷ indexHolds 54 2 6 2 2 64  -- 2C####: ECDSA secp256k1 indexed sig, big dual
+    ∷ indexHolds 54 3 6 2 2 64  -- 2D####: ECDSA secp256k1 indexed sig, big current only
+    ∷ indexHolds 55 0 8 3 3 114  -- 3A######: Ed448 indexed sig, big dual
+    ∷ indexHolds 55 1 8 3 3 114  -- 3B######: Ed448 indexed sig, big current only
+    ∷ []
+unfolding indexedCodes indexedRawSize rawStart indexHead
+index-held = refl
 
 -- ---- 003, "Pad Size Calculation": `pad_size = (3 - (raw_size % 3)) % 3`, lead bytes counted in, of every code that holds raw bytes; "pad_size
 -- 1 -> 1-char code, pad_size 2 -> 2-char code, pad_size 0 -> 4-char code"

@@ -10,7 +10,7 @@ use lib.ListN.{length, take, drop, replicate}
 use Rattle.base.specs.Pick.{pick}
 use Rattle.format.specs.declared.CodeRow.{CodeRow}
 use Rattle.format.specs.declared.Kind.{Kind}
-use Rattle.format.specs.declared.Kind.the-variants.{Fixed, Variable, Group, Genus}
+use Rattle.format.specs.declared.Kind.the-variants.{Fixed, Variable, Group, Genus, Indexed}
 use Rattle.format.specs.declared.Framed.{Framed}
 use Rattle.format.specs.declared.Framed.the-variants.{Item, Unframed}
 use Rattle.format.specs.declared.Verdict.{Verdict}
@@ -39,18 +39,21 @@ codeOf (Fixed c) h = C.Fixed (c .chars) (charOf (c .letter))
 codeOf (Variable t lead count) h = pick (eqb h 1) (C.Small (charOf t)) (C.Large (charOf t))
 codeOf (Group letter) h = C.Fixed 0 0
 codeOf Genus h = C.Fixed 0 0
+codeOf (Indexed c) h = C.Fixed 0 0
 
 unfoldable pub isPrimitive : Kind → Bool
 isPrimitive (Fixed c) = true
 isPrimitive (Variable t lead count) = true
 isPrimitive (Group letter) = false
 isPrimitive Genus = false
+isPrimitive (Indexed c) = false
 
 unfoldable pub tagsOf : Kind → ℕ
 tagsOf (Fixed c) = c .tag
 tagsOf (Variable t lead count) = 0
 tagsOf (Group letter) = 0
 tagsOf Genus = 0
+tagsOf (Indexed c) = 0
 
 -- a framed primitive of n units; text: how many characters a text has
 unfoldable pub primitiveOf : Kind → ℕ → ℕ → ℕ → Primitive

@@ -1,15 +1,16 @@
--- 01, "Headers and extents": the code registry, and what a header's first unit says. Letters are sextets: A is 0, a is 26.
--- Assumes nothing.
+-- 01, "Headers and extents": the code registry, and what a header's first unit says; by 02 a a second table for the items of `-K` and `-L`.
+-- Letters are sextets: A is 0, a is 26. Assumes nothing.
 use Prim.Native.Nat.{ℕ, _+_, _-_, _*_, _/_}
 use mathlib.Core.List.{List, [], _∷_}
 use mathlib.Core.Bool.{Bool, true, false}
 use lib.Dec.{eqb, ltb, leb}
 use Rattle.base.specs.Pick.{pick}
 use Rattle.format.specs.declared.CodeRow.{CodeRow}
+use Rattle.format.specs.declared.IndexRow.{IndexRow}
 use Rattle.format.specs.declared.Kind.{Kind}
-use Rattle.format.specs.declared.Kind.the-variants.{Fixed, Variable, Group, Genus}
+use Rattle.format.specs.declared.Kind.the-variants.{Fixed, Variable, Group, Genus, Indexed}
 use Rattle.format.specs.declared.Opening.{Opening}
-use Rattle.format.specs.declared.Opening.the-variants.{Unknown, Short, LargeVariable, LargeGroup, Version}
+use Rattle.format.specs.declared.Opening.the-variants.{Unknown, Short, Long, LargeVariable, LargeGroup, Version}
 
 abbrev codeRow : ℕ → ℕ → ℕ → ℕ → ℕ → ℕ → CodeRow
 codeRow chars pad letter size lead tag = record { chars = chars; letter = letter; size = size; pad = pad; lead = lead; tag = tag }
@@ -112,9 +113,9 @@ isText t = eqb t 0
 unfoldable pub isGroup : ℕ → Bool
 isGroup l = ltb l 29
 
--- `-K` and `-L` are opaque here
-unfoldable pub isOpaque : ℕ → Bool
-isOpaque l = pick (eqb l 10) true (eqb l 11)
+-- `-K` and `-L`. 02 a: "Read their contents by the Indexed Code Table"
+unfoldable pub isIndexed : ℕ → Bool
+isIndexed l = pick (eqb l 10) true (eqb l 11)
 
 -- `-A` `-B` `-C`: a genus/version that is their first item must be `AAACAA`
 unfoldable pub isOverrideable : ℕ → Bool
@@ -147,12 +148,88 @@ opening a b c d =
     (pick (eqb b 63) Version Unknown)))  -- `-_GGGVVV`
     Unknown))))))  -- `_`
 
+-- ---- 02 a: "the Indexed Code Table of source document 003: twelve codes, with index and ondex"
+
+-- 003's columns: letter, and 1 where it says "current only". "Four zero pad bits stand before the raw bytes of `A` to `D` and `2A` to `2D`,
+-- none in the others." `A#` to `D#`
+abbrev pub letterIndexed : ℕ → ℕ → IndexRow
+letterIndexed letter current =
+    record { chars = 1; selector = 0; letter = letter; size = 88; index = 1; ondex = 0; zeros = 4; current = current }
+
+-- `0A##`, `0B##`
+abbrev pub zeroIndexed : ℕ → ℕ → IndexRow
+zeroIndexed letter current =
+    record { chars = 2; selector = 52; letter = letter; size = 156; index = 1; ondex = 1; zeros = 0; current = current }
+
+-- `2A####` to `2D####`
+abbrev pub twoIndexed : ℕ → ℕ → IndexRow
+twoIndexed letter current =
+    record { chars = 2; selector = 54; letter = letter; size = 92; index = 2; ondex = 2; zeros = 4; current = current }
+
+-- `3A######`, `3B######`
+abbrev pub threeIndexed : ℕ → ℕ → IndexRow
+threeIndexed letter current =
+    record { chars = 2; selector = 55; letter = letter; size = 160; index = 3; ondex = 3; zeros = 0; current = current }
+
+unfoldable pub indexedCodes : List IndexRow
+indexedCodes =
+    letterIndexed 0 0 ∷  -- A#: both same
+    letterIndexed 1 1 ∷  -- B#: current only
+    letterIndexed 2 0 ∷  -- C#: both same
+    letterIndexed 3 1 ∷  -- D#: current only
+    zeroIndexed 0 0 ∷  -- 0A##: dual
+    zeroIndexed 1 1 ∷  -- 0B##: current only
+    twoIndexed 0 0 ∷  -- 2A####: big dual
+    twoIndexed 1 1 ∷  -- 2B####: big current only
+    twoIndexed 2 0 ∷  -- 2C####: big dual
+    twoIndexed 3 1 ∷  -- 2D####: big current only
+    threeIndexed 0 0 ∷  -- 3A######: big dual
+    threeIndexed 1 1 ∷  -- 3B######: big current only
+    []
+
+-- 003's "Code Len": the characters of code, index and ondex
+abbrev pub indexChars : IndexRow → ℕ
+indexChars c = c .chars + c .index + c .ondex
+
+-- "The header is one unit, or two for selectors 2 and 3"
+unfoldable pub indexHead : IndexRow → ℕ
+indexHead c = pick (ltb (c .selector) 54) 1 2
+
+unfoldable pub indexedRow : IndexRow → Opening
+indexedRow c = pick (eqb (indexHead c) 1) (Short (Indexed c) (c .size / 4)) (Long (Indexed c) (c .size / 4))
+
+-- an indexed code by its selector, 0 where the letter stands alone, and its letter: everything else is unknown
+unfoldable pub indexedAmong : List IndexRow → ℕ → ℕ → Opening
+indexedAmong [] selector letter = Unknown
+indexedAmong (c ∷ cs) selector letter =
+    pick (eqb (c .selector) selector) (pick (eqb (c .letter) letter) (indexedRow c) (indexedAmong cs selector letter))
+    (indexedAmong cs selector letter)
+
+unfoldable pub indexedBy : ℕ → ℕ → Opening
+indexedBy selector letter = indexedAmong indexedCodes selector letter
+
+-- by the first unit's sextets: "Nothing but indexed items may stand there; any other start is 6"
+unfoldable pub indexedOpening : ℕ → ℕ → ℕ → ℕ → Opening
+indexedOpening a b c d =
+    pick (ltb a 52) (indexedBy 0 a)  -- one letter
+    (pick (eqb a 52) (indexedBy 52 b)  -- `0`+letter
+    (pick (eqb a 54) (indexedBy 54 b)  -- `2`+letter
+    (pick (eqb a 55) (indexedBy 55 b)  -- `3`+letter
+    Unknown)))
+
+-- by the table that is asked
+abbrev pub openingBy : Bool → ℕ → ℕ → ℕ → ℕ → Opening
+openingBy true = indexedOpening
+openingBy false = opening
+
 -- ---- headers and extents
 
--- "A header is the first unit, or the first two for selectors `7` `8` `9` and codes `--` `-_`"; none where the code is unknown
+-- "A header is the first unit, or the first two for selectors `7` `8` `9` and codes `--` `-_`", and by 02 a for the indexed selectors `2` and
+-- `3`; none where the code is unknown
 unfoldable pub headerUnits : Opening → ℕ
 headerUnits Unknown = 0
 headerUnits (Short k n) = 1
+headerUnits (Long k n) = 2
 headerUnits (LargeVariable t l) = 2
 headerUnits (LargeGroup l d) = 2
 headerUnits Version = 2
@@ -161,6 +238,7 @@ headerUnits Version = 2
 unfoldable pub extent : Opening → ℕ → ℕ
 extent Unknown n = 0
 extent (Short k size) n = size
+extent (Long k size) n = size
 extent (LargeVariable t l) n = 2 + n
 extent (LargeGroup l d) n = 2 + (d * 16777216 + n)
 extent Version n = 2

@@ -13,9 +13,9 @@ use Rattle.base.specs.Digits.{numberOf, digitsOf}
 use Rattle.base.specs.Each.{each}
 use Rattle.format.specs.declared.CodeRow.{CodeRow}
 use Rattle.format.specs.declared.Kind.{Kind}
-use Rattle.format.specs.declared.Kind.the-variants.{Fixed, Variable, Group, Genus}
+use Rattle.format.specs.declared.Kind.the-variants.{Fixed, Variable, Group, Genus, Indexed}
 use Rattle.format.specs.declared.Opening.{Opening}
-use Rattle.format.specs.declared.Opening.the-variants.{Unknown, Short, LargeVariable, LargeGroup, Version}
+use Rattle.format.specs.declared.Opening.the-variants.{Unknown, Short, Long, LargeVariable, LargeGroup, Version}
 use Rattle.format.specs.declared.Code.{Code}
 use Rattle.format.specs.declared.Code.the-variants as C
 use Rattle.format.specs.declared.TextWritten.{TextWritten}
@@ -46,6 +46,8 @@ namedFixed (Short (Fixed c) n) = row c
 namedFixed (Short (Variable t l c) n) = unknown
 namedFixed (Short (Group l) n) = unknown
 namedFixed (Short Genus n) = unknown
+namedFixed (Short (Indexed c) n) = unknown
+namedFixed (Long k n) = unknown
 namedFixed (LargeVariable t l) = unknown
 namedFixed (LargeGroup l d) = unknown
 namedFixed Version = unknown

@@ -26,6 +26,23 @@ pub struct CodeRow {
     pub tag: u8,
 }
 
+// A row of the indexed code table: a code of so many characters, a letter or a selector and a letter, both by their sextets.
+pub struct IndexRow {
+    pub chars: u8,
+    // `0`, `2` or `3`; 0 where the letter stands alone
+    pub selector: u8,
+    pub letter: u8,
+    // full size in text
+    pub size: u8,
+    // digits of index and of ondex, which stand behind the code
+    pub index: u8,
+    pub ondex: u8,
+    // zero pad bits before the raw bytes
+    pub zeros: u8,
+    // 1 for a "current only" code
+    pub current: u8,
+}
+
 // What a header says of its item. The code is the kind with the header's length, which tells small from large.
 pub enum Kind {
     Fixed(CodeRow),
@@ -33,12 +50,14 @@ pub enum Kind {
     Variable { letter: u8, lead: u8, count: usize },
     Group { letter: u8 },
     Genus,
+    Indexed(IndexRow),
 }
 
-// What the first unit says: a header of one unit with the item's full size in units, or what a second unit completes.
+// What the first unit says: a header of one unit, or of two, with the item's full size in units, or what a second unit completes.
 pub enum Opening {
     Unknown,
     Short { kind: Kind, size: usize },
+    Long { kind: Kind, size: usize },
     LargeVariable { letter: u8, lead: u8 },
     // digit: the first of the count's five
     LargeGroup { letter: u8, digit: u8 },
@@ -126,7 +145,36 @@ pub struct BinaryRead {
     pub tag: [u8; 11],
 }
 
-// What writing a primitive answers: the length written, or a number and, for 5 and 19, the index of the tag character or of the text's.
+// An indexed item's code as a caller names it, by characters of the alphabet: a selector, 0 where the letter stands alone, and a letter.
+pub struct IndexCode {
+    pub selector: u8,
+    pub letter: u8,
+}
+
+// An indexed item that was read, in either form: its code, its full size in units, where its raw value starts in the item's binary form,
+// how many bytes the raw value has, index and ondex.
+pub struct IndexedItem {
+    pub code: IndexCode,
+    pub size: usize,
+    pub start: BinaryOffset,
+    pub raw: usize,
+    pub index: usize,
+    pub ondex: usize,
+}
+
+// What reading an indexed item of a text answers.
+pub enum TextIndexed {
+    Found(IndexedItem),
+    Refused(u8, TextOffset),
+}
+
+// What reading an indexed item of a binary answers.
+pub enum BinaryIndexed {
+    Found(IndexedItem),
+    Refused(u8, BinaryOffset),
+}
+
+// What writing a primitive or an indexed item answers: the length written, or a number and, for 5 and 19, the index of the tag character or of the text's.
 pub enum TextWritten {
     Written(TextOffset),
     Refused(u8, usize),

@@ -1,6 +1,7 @@
 -- 02 h, "Only the short form": what a large code holds at least. Streams that count 4,096 units and one less, in the deck's own form and in
--- text (in binary it is the same: demand 2), and the numbers of a reader and a writer there; 02 c's texts under a large code. What is
--- expected is 02's word, and 01's on large codes. Text is written by its characters' numbers. Assumes nothing.
+-- text (in binary it is the same: demand 2), and the numbers of a reader and a writer there; 02 c's texts under a large code, and 02 a's
+-- large groups of indexed items. What is expected is 02's word, and 01's on large codes. Text is written by its characters' numbers.
+-- Assumes nothing.
 use Prim.Native.Nat.{ℕ, _+_, _-_, _*_}
 use mathlib.Core.Path.{_≡_, refl}
 use mathlib.Core.List.{List, [], _∷_}
@@ -41,8 +42,10 @@ pub record LargeHolds : Type 0 where
   pub text-not-filled : Gives text (λ s. s) (example (56 ∷ 65 ∷ 65 ∷ 65 ∷ 65 ∷ 66 ∷ 65 ∷ 65 ∷ 65 ∷ 65 ∷ 65 ∷ 66 ∷ zeros 4095) (refused 16 0))
   -- `--AAABAA-_AAABAA`: the first item of an `-A` group, "large too"
   pub first-item : Gives text (λ s. s) (example (45 ∷ 45 ∷ 65 ∷ 65 ∷ 65 ∷ 66 ∷ 65 ∷ 65 ∷ 45 ∷ 95 ∷ 65 ∷ 65 ∷ 65 ∷ 66 ∷ 65 ∷ 65 ∷ 52 ∷ 66 ∷ 95 ∷ 57 ∷ zeros 4093) (refused 7 8))
-  -- `--LAABAA`: a large group is opaque as a small one
-  pub opaque : Gives text (λ s. s) (example (45 ∷ 45 ∷ 76 ∷ 65 ∷ 65 ∷ 66 ∷ 65 ∷ 65 ∷ zeros 4096) accepted)
+  -- `--LAABAS`: 187 indexed items, "large too"
+  pub indexed-passes : Gives text (λ s. s) (example (45 ∷ 45 ∷ 76 ∷ 65 ∷ 65 ∷ 66 ∷ 65 ∷ 83 ∷ zeros 4114) accepted)
+  -- `--KAABAAEAAA`: a start of the master table alone
+  pub indexed-only : Gives text (λ s. s) (example (45 ∷ 45 ∷ 75 ∷ 65 ∷ 65 ∷ 66 ∷ 65 ∷ 65 ∷ 69 ∷ 65 ∷ 65 ∷ 65 ∷ zeros 4095) (refused 6 8))
   -- "A variable value opens with its 0, 1 or 2 zero lead bytes; the rest is raw"
   pub starts : (raws 0 4096 ≡ (6, 12288)) × (raws 1 4096 ≡ (7, 12287)) × (raws 2 4096 ≡ (8, 12286))
   -- a large header in B, `8AAHABAA`
@@ -61,7 +64,8 @@ large-holds = record {
   text-filled = refl;
   text-not-filled = refl;
   first-item = refl;
-  opaque = refl;
+  indexed-passes = refl;
+  indexed-only = refl;
   starts = (refl, refl, refl);
   header = refl;
 }

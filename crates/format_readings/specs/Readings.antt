@@ -63,15 +63,15 @@ readings =
     example (45 ∷ 65 ∷ 65 ∷ 68 ∷ 77 ∷ 65 ∷ 65 ∷ 66 ∷ 45 ∷ 95 ∷ 65 ∷ 65 ∷ 65 ∷ 66 ∷ 65 ∷ 65 ∷ []) accepted ∷  -- `-AADMAAB-_AAABAA`: the second item is a plain one
     example (45 ∷ 65 ∷ 65 ∷ 68 ∷ 45 ∷ 65 ∷ 65 ∷ 65 ∷ 45 ∷ 95 ∷ 65 ∷ 65 ∷ 65 ∷ 66 ∷ 65 ∷ 65 ∷ []) accepted ∷  -- `-AAD-AAA-_AAABAA`: an empty group is a first item and sets no mark
     example (45 ∷ 65 ∷ 65 ∷ 67 ∷ 45 ∷ 95 ∷ 65 ∷ 65 ∷ 65 ∷ 67 ∷ 65 ∷ 65 ∷ []) accepted ∷  -- `-AAC-_AAACAA`: `AAACAA` in -A
-    example (45 ∷ 75 ∷ 65 ∷ 66 ∷ 95 ∷ 95 ∷ 95 ∷ 95 ∷ []) accepted ∷  -- `-KAB____`: opaque: any units in the alphabet
-    example (45 ∷ 76 ∷ 65 ∷ 66 ∷ 95 ∷ 95 ∷ 95 ∷ 95 ∷ []) accepted ∷  -- `-LAB____`
+    example (45 ∷ 75 ∷ 65 ∷ 66 ∷ 95 ∷ 95 ∷ 95 ∷ 95 ∷ []) (refused 6 4) ∷  -- `-KAB____`: no units of any kind
+    example (45 ∷ 76 ∷ 65 ∷ 66 ∷ 95 ∷ 95 ∷ 95 ∷ 95 ∷ []) (refused 6 4) ∷  -- `-LAB____`
     example (45 ∷ 45 ∷ 76 ∷ 65 ∷ 65 ∷ 65 ∷ 65 ∷ 66 ∷ 95 ∷ 95 ∷ 95 ∷ 95 ∷ []) (refused 18 0) ∷  -- `--LAAAAB____`: a large one of one unit
-    example (45 ∷ 77 ∷ 65 ∷ 66 ∷ 95 ∷ 95 ∷ 95 ∷ 95 ∷ []) (refused 6 4) ∷  -- `-MAB____`: no other is
+    example (45 ∷ 77 ∷ 65 ∷ 66 ∷ 95 ∷ 95 ∷ 95 ∷ 95 ∷ []) (refused 6 4) ∷  -- `-MAB____`
     example (45 ∷ 72 ∷ 65 ∷ 66 ∷ 77 ∷ 81 ∷ 65 ∷ 65 ∷ []) (refused 8 4) ∷  -- `-HABMQAA`: the contents of -H are items
     example (45 ∷ 45 ∷ 65 ∷ 65 ∷ 65 ∷ 65 ∷ 65 ∷ 66 ∷ 77 ∷ 65 ∷ 65 ∷ 66 ∷ []) (refused 18 0) ∷  -- `--AAAAABMAAB`: a large group of one unit
     example (45 ∷ 45 ∷ 65 ∷ 66 ∷ 65 ∷ 65 ∷ 65 ∷ 65 ∷ []) (unframed 4 0) ∷  -- `--ABAAAA`: the first of five digits counts
     example (45 ∷ 45 ∷ 99 ∷ 95 ∷ 95 ∷ 95 ∷ 95 ∷ 95 ∷ []) (unframed 4 0) ∷  -- `--c_____`: an extent above 2 to the 32
-    example (around 64 (45 ∷ 75 ∷ 65 ∷ 65 ∷ [])) (refused 11 256) ∷  -- a sixty-fifth that is opaque: 11
+    example (around 64 (45 ∷ 75 ∷ 65 ∷ 65 ∷ [])) (refused 11 256) ∷  -- a sixty-fifth that is indexed: 11
     example (around 64 (45 ∷ 75 ∷ 65 ∷ 66 ∷ 77 ∷ 65 ∷ 65 ∷ 66 ∷ [])) (refused 11 256) ∷  -- and not empty
     example (around 64 (77 ∷ 65 ∷ 65 ∷ 66 ∷ [])) accepted ∷  -- a primitive within 64
     example (around 64 (45 ∷ 65 ∷ 65 ∷ 66 ∷ [])) (refused 4 256) ∷  -- its framing comes first
@@ -100,13 +100,13 @@ stranger =
     example (53 ∷ 66 ∷ 65 ∷ 66 ∷ 81 ∷ 33 ∷ 104 ∷ 112 ∷ []) (refused 5 5) ∷  -- `5BABQ!hp`: then 8
     example (48 ∷ 76 ∷ 65 ∷ 65 ∷ 66 ∷ 33 ∷ 68 ∷ 69 ∷ []) (refused 5 5) ∷  -- `0LAAB!DE`: 5, then 10
     example (56 ∷ 65 ∷ 65 ∷ 66 ∷ 65 ∷ 65 ∷ 65 ∷ 66 ∷ 65 ∷ 33 ∷ 104 ∷ 112 ∷ []) (refused 5 9) ∷  -- `8AABAAABA!hp`: behind a header of two units
-    example (around 64 (45 ∷ 75 ∷ 65 ∷ 66 ∷ 77 ∷ 33 ∷ 65 ∷ 66 ∷ [])) (refused 11 256) ∷  -- a sixty-fifth group that is opaque: 11, then 5
+    example (around 64 (45 ∷ 75 ∷ 65 ∷ 66 ∷ 77 ∷ 33 ∷ 65 ∷ 66 ∷ [])) (refused 11 256) ∷  -- a sixty-fifth group that is indexed: 11, then 5
     example (77 ∷ 65 ∷ 65 ∷ 61 ∷ []) (unframed 19 0) ∷  -- `MAA=`: 02 j, as `MAA!` above
     example (45 ∷ 95 ∷ 65 ∷ 43 ∷ 65 ∷ 65 ∷ 65 ∷ 65 ∷ []) (unframed 19 0) ∷  -- `-_A+AAAA`: 19, then 7
     example (45 ∷ 65 ∷ 65 ∷ 67 ∷ 77 ∷ 65 ∷ 65 ∷ 66 ∷ 77 ∷ 65 ∷ 47 ∷ 66 ∷ []) (refused 19 10) ∷  -- `-AACMAABMA/B`: in the second item
     example (53 ∷ 66 ∷ 65 ∷ 66 ∷ 81 ∷ 43 ∷ 104 ∷ 112 ∷ []) (refused 19 5) ∷  -- `5BABQ+hp`: then 8
     example (48 ∷ 76 ∷ 65 ∷ 65 ∷ 66 ∷ 61 ∷ 68 ∷ 69 ∷ []) (refused 19 5) ∷  -- `0LAAB=DE`: 19, then 10
-    example (around 64 (45 ∷ 75 ∷ 65 ∷ 66 ∷ 77 ∷ 43 ∷ 65 ∷ 66 ∷ [])) (refused 11 256) ∷  -- a sixty-fifth group that is opaque: 11, then 19
+    example (around 64 (45 ∷ 75 ∷ 65 ∷ 66 ∷ 77 ∷ 43 ∷ 65 ∷ 66 ∷ [])) (refused 11 256) ∷  -- a sixty-fifth group that is indexed: 11, then 19
     []
 
 pub stranger-holds : Holds text (λ s. s) stranger

@@ -1,5 +1,5 @@
-// Framing an item: one header rule on sextets, which are read from either form. Sizes are in units, places in sextets from the
-// item's start. A part of a stream from the item's start to the enclosing end is lent.
+// Framing an item by either table: one header rule on sextets, which are read from either form. Sizes are in units, places in sextets
+// from the item's start. A part of a stream from the item's start to the enclosing end is lent.
 use format::Framed;
 use format::Kind;
 use format::Opening;
@@ -8,7 +8,7 @@ ghost use lib.ListN.{getD};
 ghost use Rattle.format.specs.declared.Framed.the-variants.{Unframed};
 ghost use Rattle.format.specs.Alphabet.{strangerNumber};
 ghost use Rattle.format.specs.Units.{textSextets, binarySextets};
-ghost use Rattle.format.specs.Registry.{opening};
+ghost use Rattle.format.specs.Registry.{openingBy};
 ghost use Rattle.format.specs.Framing.{fit, known, second, headed, frameWith, isOurs, ruled, frameRuled};
 ghost use Rattle.framing.specs.Next.{nextBy};
 
@@ -78,6 +78,7 @@ fn frame_opening(op: Opening, cs: [u8; 12], len: usize) -> Framed
             place: 0,
         },
         Opening::Short { kind, size } => fitted(kind, 1, size, len),
+        Opening::Long { kind, size: _ } => seconded(cs, len, fitted(kind, 2, size, len)),
         Opening::LargeVariable { letter, lead } => {
             let count = registry::number(unit);
             let kind = Kind::Variable {
@@ -118,9 +119,9 @@ fn known_first(cs: [u8; 12], next: Framed) -> Framed
     next
 }
 
-// An item with these first sextets, which must end within so many units: 4, 5 or 19, 6, 4, 5 or 19, 4.
-pub fn frame_head(cs: [u8; 12], len: usize) -> Framed
-    ensures { λ r. ⌜ r ≡ frameWith opening (λ i. getD cs i 0) len ⌝ }
+// An item with these first sextets, which must end within so many units, by the table that is asked: 4, 5 or 19, 6, 4, 5 or 19, 4.
+pub fn frame_head(indexed: bool, cs: [u8; 12], len: usize) -> Framed
+    ensures { λ r. ⌜ r ≡ frameWith (openingBy indexed) (λ i. getD cs i 0) len ⌝ }
 {
     if len < 1 {
         return Framed::Unframed {
@@ -128,7 +129,7 @@ pub fn frame_head(cs: [u8; 12], len: usize) -> Framed
             place: 0,
         };
     }
-    let op = registry::opening([cs[0], cs[1], cs[2], cs[3]]);
+    let op = registry::opening_by(indexed, [cs[0], cs[1], cs[2], cs[3]]);
     let item = frame_opening(op, cs, len);
     known_first(cs, item)
 }
@@ -142,10 +143,10 @@ fn is_ours(cs: [u8; 12]) -> bool
 }
 
 // The same where a genus/version must be `AAACAA`: then 7.
-pub fn frame_ruled_head(cs: [u8; 12], len: usize) -> Framed
-    ensures { λ r. ⌜ r ≡ ruled (λ i. getD cs i 0) (frameWith opening (λ i. getD cs i 0) len) ⌝ }
+pub fn frame_ruled_head(indexed: bool, cs: [u8; 12], len: usize) -> Framed
+    ensures { λ r. ⌜ r ≡ ruled (λ i. getD cs i 0) (frameWith (openingBy indexed) (λ i. getD cs i 0) len) ⌝ }
 {
-    let framed = frame_head(cs, len);
+    let framed = frame_head(indexed, cs, len);
     match framed {
         Framed::Item {
             kind,
@@ -169,6 +170,7 @@ pub fn frame_ruled_head(cs: [u8; 12], len: usize) -> Framed
                     }
                 }
             }
+            Kind::Indexed(_) => framed,
         },
         Framed::Unframed {
             number: _,
@@ -177,30 +179,30 @@ pub fn frame_ruled_head(cs: [u8; 12], len: usize) -> Framed
     }
 }
 
-// The next item of a group or stream: 7 is asked where `first` says.
-pub fn frame_next_head(cs: [u8; 12], len: usize, first: bool) -> Framed
-    ensures { λ r. ⌜ r ≡ nextBy first (λ i. getD cs i 0) len ⌝ }
+// The next item of a group or stream, by the table that is asked: 7 is asked where `first` says.
+pub fn frame_next_head(indexed: bool, first: bool, cs: [u8; 12], len: usize) -> Framed
+    ensures { λ r. ⌜ r ≡ nextBy indexed first (λ i. getD cs i 0) len ⌝ }
 {
     if first {
-        frame_ruled_head(cs, len)
+        frame_ruled_head(indexed, cs, len)
     } else {
-        frame_head(cs, len)
+        frame_head(indexed, cs, len)
     }
 }
 
 // ---- either form
 
-// The item at the start of a part of a text or a binary, where 7 is asked.
+// The item at the start of a part of a text or a binary, by the master table, where 7 is asked.
 pub fn frame_ruled_text(s: &[u8]) -> Framed
     ensures { λ r. ⌜ r ≡ frameRuled (textSextets (now (s .entry))) ⌝ }
 {
     let head = framing_head::text_head(s);
-    frame_ruled_head(head, s.len() / 4)
+    frame_ruled_head(false, head, s.len() / 4)
 }
 
 pub fn frame_ruled_binary(s: &[u8]) -> Framed
     ensures { λ r. ⌜ r ≡ frameRuled (binarySextets (now (s .entry))) ⌝ }
 {
     let head = framing_head::binary_head(s);
-    frame_ruled_head(head, s.len() / 3)
+    frame_ruled_head(false, head, s.len() / 3)
 }

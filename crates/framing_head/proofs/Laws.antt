@@ -3,7 +3,7 @@ use mathlib.Core.Path.{_≡_, refl, sym, ap, _∙_}
 use mathlib.Core.List.{List, [], _∷_, _++_, map}
 use Prim.Native.Nat.{ℕ, _+_, _*_, _/_, _<_, _≤_, _-_}
 use native.Mathlib.Omega.{arith}
-use lib.ListN.{length, getD, length-map, List·getD-eq-default, take, length-take}
+use lib.ListN.{length, getD, length-map, List·getD-eq-default, take, drop, length-take, length-drop}
 use Rattle.base.specs.Lists.{list4, getD-table, same-table}
 use Rattle.base.specs.Each.{each, length-each}
 use Rattle.format.specs.Alphabet.{sextetOf, sextetTable}
@@ -11,7 +11,7 @@ use Rattle.format.specs.Units.{sextetsOf, textSextets, binarySextets}
 use Rattle.laws.specs.Units.{sextets-size}
 use Rattle.laws.specs.Local.{text-sextet, binary-sextet}
 use mathlib.Core.Logic.{⊎-elim}
-use lib.Seq.{getD-take}
+use lib.Seq.{getD-take, getD-drop, length-take-le, ext-getD}
 use Rattle.base.specs.Cases.{lt-or-ge}
 use Rattle.framing_head.specs.Heads.{unitOf, headOf}
 
@@ -34,6 +34,17 @@ head-length s = refl
 pub head-at : (s : List ℕ) (i : ℕ) → i < 12 → getD (headOf s) i 0 ≡ getD s i 0
 unfolding headOf
 head-at s i h = getD-table (λ i. getD s i 0) 12 i h
+
+-- a part that lies in the list and in its first sextets
+pub part-head : (s : List ℕ) (from n : ℕ) → from + n ≤ 12 → from + n ≤ length s → take n (drop from (headOf s)) ≡ take n (drop from s)
+part-head s from n few room =
+    let a : length (take n (drop from (headOf s))) ≡ n =
+    length-take-le n (drop from (headOf s)) (omega (arith, length-drop from (headOf s), head-length s)) in
+    let b : length (take n (drop from s)) ≡ n = length-take-le n (drop from s) (omega (arith, length-drop from s)) in
+    ext-getD 0 _ _ (a ∙ sym b) (λ i h.
+    let l : i < n = omega arith in
+    getD-take n (drop from (headOf s)) i 0 l ∙ getD-drop from (headOf s) i 0 ∙ head-at s (from + i) (omega arith)
+    ∙ sym (getD-take n (drop from s) i 0 l ∙ getD-drop from s i 0))
 
 -- ---- a text's sextets, by table
 

@@ -142,5 +142,5 @@ module _ (form : Form) (xs : List ℕ) (budget : ℕ) (before : List ℕ) (p : P
 -- ---- by value
 
 pub by-value : {before after : List ℕ} {r : Went} {t : Walked} → length after ≡ maxDepth → Goes before after r t
-    → record { next = record { ends = after; depth = r .place .depth; at = r .place .at; first = r .place .first }; items = r .items; pause = r .pause } ≡ t
+    → record { next = record { ends = after; depth = r .place .depth; at = r .place .at; first = r .place .first; indexed = r .place .indexed }; items = r .items; pause = r .pause } ≡ t
 by-value l g = rw (← (own-moved l (g .moves)), ← (g .items), ← (g .pause))

@@ -127,6 +127,7 @@ pub fn walk_on(w: Walk, form: Form, s: &[u8], budget: usize) -> Walked
             depth: p.depth,
             at: p.at,
             first: p.first,
+            indexed: p.indexed,
         },
         items: g.items,
         pause,

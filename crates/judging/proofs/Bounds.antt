@@ -11,17 +11,17 @@ use borrow.Author.Tests.{ltb-true}
 use Rattle.base.specs.Pick.{pick-by}
 use Rattle.base.specs.Cases.{lt-or-ge}
 use Rattle.format.specs.declared.Kind.{Kind}
-use Rattle.format.specs.declared.Kind.the-variants.{Fixed, Variable, Group, Genus}
+use Rattle.format.specs.declared.Kind.the-variants.{Fixed, Variable, Group, Genus, Indexed}
 use Rattle.format.specs.declared.Opening.{Opening}
-use Rattle.format.specs.declared.Opening.the-variants.{Unknown, Short, LargeVariable, LargeGroup, Version}
+use Rattle.format.specs.declared.Opening.the-variants.{Unknown, Short, Long, LargeVariable, LargeGroup, Version}
 use Rattle.format.specs.declared.Framed.{Framed}
 use Rattle.format.specs.declared.Framed.the-variants.{Item, Unframed}
 use Rattle.format.specs.declared.Verdict.{Verdict}
 use Rattle.format.specs.declared.Verdict.the-variants.{Accepted, Refused}
-use Rattle.format.specs.Registry.{isOpaque}
-use Rattle.format.specs.Framing.{fit, known, second, headed, frameWith, isOurs, ruled, frame, frameRuled, sextet}
+use Rattle.format.specs.Registry.{openingBy}
+use Rattle.format.specs.Framing.{fit, known, second, headed, frameWith, isOurs, ruled, sextet, frameBy, frameNext}
 use Rattle.format.specs.Judging.{shift, andThen, unless, scan, behind, judgeKind, ownCheck}
-use Rattle.laws.specs.Framing.{Known}
+use Rattle.laws.specs.Framing.{Known, by-with}
 
 -- ---- framing: a place lies in the header, and a header that is framed is in the alphabet
 
@@ -66,15 +66,33 @@ headed-head : (at : ℕ → ℕ) (o : Opening) (len : ℕ) → Known at 0 → He
 unfolding headed
 headed-head at Unknown len a = omega arith
 headed-head at (Short k n) len a = fit-head at k 1 n len (λ i h. unit-known at a i (omega arith))
+headed-head at (Long k n) len a = second-head at _ _ len a
 headed-head at (LargeVariable t l) len a = second-head at _ _ len a
 headed-head at (LargeGroup l d) len a = second-head at _ _ len a
 headed-head at Version len a = second-head at _ _ len a
 
-pub frame-head : (s : List ℕ) → Head (sextet s) (frame s)
-unfolding frame frameWith
-frame-head s =
-    pick-by (Head (sextet s)) (ltb (length s / 4) 1) _ _ (λ _. omega arith)
-    (λ _. known-head (sextet s) 0 _ (omega arith) (λ a. headed-head (sextet s) _ (length s / 4) a))
+with-head : (op : ℕ → ℕ → ℕ → ℕ → Opening) (at : ℕ → ℕ) (len : ℕ) → Head at (frameWith op at len)
+unfolding frameWith
+with-head op at len =
+    pick-by (Head at) (ltb len 1) _ _ (λ _. omega arith) (λ _. known-head at 0 _ (omega arith) (λ a. headed-head at _ len a))
+
+ruled-head : (at : ℕ → ℕ) (f : Framed) → Head at f → Head at (ruled at f)
+unfolding ruled
+ruled-head at (Item (Fixed c) h n) k = k
+ruled-head at (Item (Variable t l c) h n) k = k
+ruled-head at (Item (Group l) h n) k = k
+ruled-head at (Item Genus h n) k = pick-by (Head at) (isOurs at) _ _ (λ _. k) (λ _. omega arith)
+ruled-head at (Item (Indexed c) h n) k = k
+ruled-head at (Unframed m p) k = k
+
+-- by either table, and where 7 may be asked
+pub by-head : (t : Bool) (s : List ℕ) → Head (sextet s) (frameBy t s)
+by-head t s = rw (by-with t s) (with-head (openingBy t) (sextet s) (length s / 4))
+
+pub next-head : (t first : Bool) (s : List ℕ) → Head (sextet s) (frameNext t first s)
+unfolding frameNext
+next-head t true s = ruled-head (sextet s) (frameBy t s) (by-head t s)
+next-head t false s = by-head t s
 
 -- ---- judging: a place lies in the item, and what is accepted is in the alphabet behind the header
 
@@ -112,11 +130,10 @@ behind-near h s l = up (shift (4 * h) (scan (drop (4 * h) s))) (shift-near (4 * 
     up Accepted k = tt
     up (Refused m p) k = omega (arith, length-drop (4 * h) s)
 
-own-check-near : (l letter h : ℕ) (s : List ℕ) → h ≤ 2 → Near (length s + 8) (ownCheck l letter h (drop (4 * h) s))
-unfolding ownCheck behind
-own-check-near zero letter h s few = omega arith
-own-check-near (suc l) letter h s few =
-    then-near _ _ _ (unless-near _ 18 _) (pick-by (Near (length s + 8)) (isOpaque letter) _ _ (λ _. behind-near h s few) (λ _. tt))
+own-check-near : (l letter h m : ℕ) (s : List ℕ) → Near m (ownCheck l letter h s)
+unfolding ownCheck
+own-check-near zero letter h m s = omega arith
+own-check-near (suc l) letter h m s = unless-near _ 18 _
 
 -- the place of an item's own refusal
 pub own-near : (k : Kind) (h l : ℕ) (s : List ℕ) → h ≤ 2 → Near (length s + 8) (judgeKind k h s (ownCheck l))
@@ -126,17 +143,6 @@ own-near (Variable t a b) h l s few =
     then-near _ _ _ (behind-near h s few)
     (then-near _ _ _ (unless-near _ 18 _)
     (then-near _ _ _ (unless-near _ 9 _) (then-near _ _ _ (unless-near _ 8 _) (unless-near _ 16 _))))
-own-near (Group letter) h l s few = own-check-near l letter h s few
+own-near (Group letter) h l s few = own-check-near l letter h _ _
 own-near Genus h l s few = tt
-
-ruled-head-by : (at : ℕ → ℕ) (f : Framed) → Head at f → Head at (ruled at f)
-unfolding ruled
-ruled-head-by at (Item (Fixed c) h n) k = k
-ruled-head-by at (Item (Variable t l c) h n) k = k
-ruled-head-by at (Item (Group l) h n) k = k
-ruled-head-by at (Item Genus h n) k = pick-by (Head at) (isOurs at) _ _ (λ _. k) (λ _. omega arith)
-ruled-head-by at (Unframed m p) k = k
-
-pub ruled-head : (s : List ℕ) → Head (sextet s) (frameRuled s)
-unfolding frameRuled
-ruled-head s = ruled-head-by (sextet s) (frame s) (frame-head s)
+own-near (Indexed c) h l s few = then-near _ _ _ (behind-near h s few) (then-near _ _ _ (unless-near _ 8 _) (unless-near _ 15 _))

@@ -1,7 +1,6 @@
--- The code's checks are format's: the search for a stranger is the scan, and the first sextets are all that 8, 9, 10 and 16 look at.
+-- The code's checks are format's: the search for a stranger is the scan, and the first sextets are all that 8, 9, 10, 15 and 16 look at.
 -- Assumes nothing.
-use mathlib.Core.Path.{_≡_, refl, ap, sym, _∙_}
-use mathlib.Core.Bool.{true}
+use mathlib.Core.Path.{_≡_, refl, ap, _∙_}
 use mathlib.Core.List.{List, [], _∷_}
 use mathlib.Core.Logic.{⊎-elim}
 use Prim.Native.Nat.{ℕ, zero, suc, _+_, _-_, _*_, _/_, _<_, _≤_}
@@ -9,27 +8,27 @@ use native.Mathlib.Omega.{arith}
 use lib.ListN.{length, getD, take, drop, length-drop, length-map, drop-of-length-le}
 use lib.Seq.{getD-drop, take-all, length-take-le}
 use borrow.Author.Tests.{lt-ltb, le-ltb}
-use Rattle.base.specs.Pick.{pick, pick-by}
 use Rattle.base.specs.Cases.{lt-or-ge}
 use Rattle.base.specs.Lists.{map-take, map-drop}
-use Rattle.base.specs.Digits.{below-drop}
+use Rattle.base.specs.Digits.{numberOf, below-drop}
+use Rattle.format.specs.declared.IndexRow.{IndexRow}
 use Rattle.format.specs.declared.Kind.{Kind}
-use Rattle.format.specs.declared.Kind.the-variants.{Fixed, Variable, Group, Genus}
+use Rattle.format.specs.declared.Kind.the-variants.{Fixed, Variable, Group, Genus, Indexed}
 use Rattle.format.specs.declared.Verdict.{Verdict}
 use Rattle.format.specs.declared.Verdict.the-variants.{Accepted, Refused}
 use Rattle.format.specs.Alphabet.{sextetOf, strangerNumber}
 use Rattle.format.specs.Units.{textSextets, binarySextets}
 use Rattle.format.specs.Conversion.{firstStranger, firstNumber}
-use Rattle.format.specs.Registry.{isOpaque, zeroBitsOf, prepadOf}
-use Rattle.format.specs.Judging.{shift, andThen, unless, isShortest, hasLead, scan, behind, zeroBits, prepadRight, judgeKind, ownCheck}
+use Rattle.format.specs.Registry.{zeroBitsOf, prepadOf, indexChars, indexHead}
+use Rattle.format.specs.Values.{ondexOf}
+use Rattle.format.specs.Judging.{shift, andThen, unless, isShortest, scan, behind, zeroBits, prepadRight, judgeKind, ownCheck}
 use Rattle.laws.specs.Framing.{Shaped}
 use Rattle.laws.specs.Domains.{binary-reader}
-use Rattle.laws.specs.Levels.{then-accepts}
 use Rattle.laws.specs.Scan.{scan-below}
 use Rattle.laws.specs.Conversion.{binary-below}
 use Rattle.framing_head.specs.Heads.{headOf}
-use Rattle.framing_head.proofs.Laws.{head-at, within-head}
-use Rattle.judging_header.specs.Checks.{fixedChecks, variableChecks, groupChecks}
+use Rattle.framing_head.proofs.Laws.{head-at, part-head, within-head}
+use Rattle.judging_header.specs.Checks.{fixedChecks, variableChecks, indexedChecks, groupChecks}
 use Rattle.judging.specs.Own.{ownBy}
 use Rattle.judging.proofs.Texts.{nine-first, value-tells}
 
@@ -87,23 +86,17 @@ prepad-head : (s : List ℕ) (i p : ℕ) → i < 12 → prepadRight (headOf s) i
 unfolding prepadRight
 prepad-head s i p h = rw (head-at s i h)
 
--- a group, by what its checks answered
-module _ (letter h count l : ℕ) (v : Verdict) (e : v ≡ groupChecks h count l) where
-  pub group-opaque : (b r : Verdict) → r ≡ andThen v b → isOpaque letter ≡ true
-      → r ≡ andThen (groupChecks h count l) (pick (isOpaque letter) b Accepted)
-  group-opaque b r q o = rw (o, ← e) q
+-- ---- 15
 
-  -- nothing behind its header is looked at, or is outside the alphabet
-  pub group-plain : (b : Verdict) → pick (isOpaque letter) b Accepted ≡ Accepted
-      → v ≡ andThen (groupChecks h count l) (pick (isOpaque letter) b Accepted)
-  group-plain b p = rw (p, ← e) (sym (then-accepts v))
+-- digits that stand in a header of two units at most
+ondex-head : (s : List ℕ) (c : IndexRow) → indexChars c ≤ 8 → indexChars c ≤ length s → ondexOf c (headOf s) ≡ ondexOf c s
+unfolding ondexOf
+ondex-head s c few room = ap (numberOf 64) (part-head s (c .chars + c .index) (c .ondex) (omega arith) (omega arith))
 
-pub all-pass : (letter : ℕ) → pick (isOpaque letter) Accepted Accepted ≡ Accepted
-all-pass letter = pick-by (λ (v : Verdict). v ≡ Accepted) (isOpaque letter) _ _ (λ _. refl) (λ _. refl)
+-- ---- 11, 18
 
-own-group : (letter h n l : ℕ) (s : List ℕ) → length s ≡ 4 * n
-    → andThen (groupChecks h (n - h) l) (pick (isOpaque letter) (behind h s) Accepted) ≡ ownCheck l letter h (drop (4 * h) s)
-unfolding groupChecks ownCheck behind andThen
+own-group : (letter h n l : ℕ) (s : List ℕ) → length s ≡ 4 * n → groupChecks h (n - h) l ≡ ownCheck l letter h (drop (4 * h) s)
+unfolding groupChecks ownCheck
 own-group letter h n zero s long = refl
 own-group letter h n (suc l) s long =
     let e : length (drop (4 * h) s) / 4 ≡ n - h = omega (arith, length-drop (4 * h) s) in
@@ -112,7 +105,7 @@ own-group letter h n (suc l) s long =
 -- what the code finds of an item's own sextets, those of its n units, is what format's judging finds
 pub own-judged : (k : Kind) (h n l : ℕ) (s : List ℕ) → h ≤ 2 → length s ≡ 4 * n → Shaped k h n
     → ownBy k h n (headOf s) (behind h s) l ≡ judgeKind k h s (ownCheck l)
-unfolding ownBy judgeKind fixedChecks variableChecks
+unfolding ownBy judgeKind fixedChecks variableChecks indexedChecks
 own-judged (Fixed c) h n l s few long shape =
     let m : c .chars ≤ 4 = shape .0 .chars .1 in
     rw (zero-head s (c .chars) (zeroBitsOf c) (omega arith), prepad-head s (c .chars) (prepadOf c) (omega arith))
@@ -123,6 +116,12 @@ own-judged (Variable t lead count) h n l s few long shape =
     (nine-first lead count _ _ _ (value-tells t lead count h s few (shape .0) e)))
 own-judged (Group letter) h n l s few long shape = own-group letter h n l s long
 own-judged Genus h n l s few long shape = refl
+own-judged (Indexed c) h n l s few long shape =
+    let g : 4 * indexHead c ≤ c .size = shape .0 .long in
+    let m : indexChars c ≤ 4 * indexHead c = shape .0 .chars in
+    let q : 4 * n ≡ c .size = shape .1 in
+    let e : indexHead c ≡ h = shape .2 in
+    rw (zero-head s (indexChars c) (c .zeros) (omega arith), ondex-head s c (omega arith) (omega arith))
 
 -- ---- an item's own checks, from what the code has at hand
 

@@ -1,5 +1,5 @@
-// An item's own checks, which the walk and the single reader make: of a primitive 5 behind the header, 18, 9, 8, 16, 10; of a group 11, 18
-// and, if opaque, 5. A header's checks look at the item's first sextets, 0 past its end.
+// An item's own checks, which the walk and the single readers make: of a primitive 5 behind the header, 18, 9, 8, 16, 10; of an indexed item
+// 5, 8, 15; of a group 11, 18. A header's checks look at the item's first sextets, 0 past its end.
 use format::Framed;
 use format::Kind;
 use format::Verdict;
@@ -60,15 +60,15 @@ pub fn own_text(kind: Kind, h: usize, n: usize, cs: [u8; 12], item: &[u8], level
             let v = judging_header::variable_checks(letter, lead, count, h, cs);
             after(b, v)
         }
-        Kind::Group { letter } => {
-            let v = judging_header::group_checks(h, judging_header::units_behind(n, h), levels);
-            if registry::is_opaque(letter) {
-                after(v, behind_text(item, h))
-            } else {
-                v
-            }
+        Kind::Group { letter: _ } => {
+            let units = judging_header::units_behind(n, h);
+            judging_header::group_checks(h, units, levels)
         }
         Kind::Genus => Verdict::Accepted,
+        Kind::Indexed(c) => {
+            let b = behind_text(item, h);
+            after(b, judging_header::indexed_checks(c, cs))
+        }
     }
 }
 
@@ -83,12 +83,12 @@ pub fn own_binary(kind: Kind, h: usize, n: usize, cs: [u8; 12], levels: usize) -
             lead,
             count,
         } => judging_header::variable_checks(letter, lead, count, h, cs),
-        Kind::Group { letter: _ } => judging_header::group_checks(
-            h,
-            judging_header::units_behind(n, h),
-            levels,
-        ),
+        Kind::Group { letter: _ } => {
+            let units = judging_header::units_behind(n, h);
+            judging_header::group_checks(h, units, levels)
+        }
         Kind::Genus => Verdict::Accepted,
+        Kind::Indexed(c) => judging_header::indexed_checks(c, cs),
     }
 }
 

@@ -6,10 +6,12 @@ use lib.Dec.{eqb}
 use lib.ListN.{getD}
 use Rattle.base.specs.Pick.{pick}
 use Rattle.format.specs.declared.CodeRow.{CodeRow}
+use Rattle.format.specs.declared.IndexRow.{IndexRow}
 use Rattle.format.specs.declared.Verdict.{Verdict}
-use Rattle.format.specs.declared.Verdict.the-variants.{Accepted, Refused}
-use Rattle.format.specs.Registry.{isText, zeroBitsOf, prepadOf}
-use Rattle.format.specs.Judging.{andThen, unless, isShortest, hasLead, zeroBits, prepadRight}
+use Rattle.format.specs.declared.Verdict.the-variants.{Refused}
+use Rattle.format.specs.Registry.{isText, zeroBitsOf, prepadOf, indexChars}
+use Rattle.format.specs.Values.{ondexOf}
+use Rattle.format.specs.Judging.{andThen, unless, isShortest, hasLead, zeroBits, prepadRight, ondexRight}
 
 -- 8, 10
 unfoldable pub fixedChecks : CodeRow → List ℕ → Verdict
@@ -34,6 +36,10 @@ variableChecks t lead count h cs =
     andThen (unless 18 (isShortest h count))
     (andThen (unless 9 (hasLead lead count))
     (andThen (unless 8 (zeroBits cs (4 * h) (8 * lead))) (unless 16 (textFilled t lead count h cs))))
+
+-- 8, 15
+unfoldable pub indexedChecks : IndexRow → List ℕ → Verdict
+indexedChecks c cs = andThen (unless 8 (zeroBits cs (indexChars c) (c .zeros))) (unless 15 (ondexRight c (ondexOf c cs)))
 
 -- 11, 18
 unfoldable pub groupChecks : ℕ → ℕ → ℕ → Verdict

@@ -1,13 +1,17 @@
-// What an item's header and first sextets decide: of a fixed code 8 and 10, of a variable one 18, 9, 8 and 16, of a group 11 and 18. The
-// sextets are the item's own, 0 past its end.
+// What an item's header and first sextets decide: of a fixed code 8 and 10, of a variable one 18, 9, 8 and 16, of an indexed one 8 and 15,
+// of a group 11 and 18. The sextets are the item's own, 0 past its end.
 use format::CodeRow;
+use format::IndexRow;
 use format::Verdict;
 ghost use mathlib.Core.Path.{_≡_};
 ghost use Prim.Native.Nat.{_-_, _*_, _<_, _≤_};
-ghost use lib.ListN.{getD};
-ghost use Rattle.format.specs.Registry.{zeroBitsOf, prepadOf};
-ghost use Rattle.format.specs.Judging.{isShortest, hasLead, zeroBits, prepadRight};
-ghost use Rattle.judging_header.specs.Checks.{fixedChecks, variableChecks, filledRight, textFilled, groupChecks};
+ghost use lib.Dec.{eqb};
+ghost use lib.ListN.{getD, take, drop};
+ghost use Rattle.base.specs.Digits.{numberOf};
+ghost use Rattle.format.specs.Registry.{zeroBitsOf, prepadOf, indexChars};
+ghost use Rattle.format.specs.Values.{ondexOf};
+ghost use Rattle.format.specs.Judging.{isShortest, hasLead, zeroBits, prepadRight, ondexRight};
+ghost use Rattle.judging_header.specs.Checks.{fixedChecks, variableChecks, filledRight, textFilled, indexedChecks, groupChecks};
 
 fn wide(x: u8) -> u32
     ensures { λ r. ⌜ (r ≡ x) × (r < 256) ⌝ }
@@ -30,7 +34,7 @@ fn shift_for(z: u32) -> u32
 }
 
 fn zero_bits(cs: [u8; 12], i: usize, z: u32) -> bool
-    requires { ⌜ i ≤ 255 ⌝ }
+    requires { ⌜ i ≤ 765 ⌝ }
     ensures { λ r. ⌜ r ≡ zeroBits cs i z ⌝ }
 {
     let a = wide(sextet_at(cs, i));
@@ -185,6 +189,67 @@ pub fn variable_checks(letter: u8, lead: u8, count: usize, h: usize, cs: [u8; 12
     if !text_filled(letter, lead, count, h, cs) {
         return Verdict::Refused {
             number: 16,
+            place: 0,
+        };
+    }
+    Verdict::Accepted
+}
+
+// ---- 8 and 15 of an indexed item
+
+// Whether so many digits from a sextet on are zero.
+fn digits_zero(cs: [u8; 12], from: usize, count: usize) -> bool
+    requires { ⌜ (from ≤ 510) × (count ≤ 255) ⌝ }
+    ensures { λ r. ⌜ r ≡ eqb (numberOf 64 (take count (drop from cs))) 0 ⌝ }
+{
+    let mut i = 0;
+    while i < count {
+        if sextet_at(cs, from + i) != 0 {
+            return false;
+        }
+        i += 1;
+    }
+    true
+}
+
+// The ondex stands behind code and index; a "current only" code has none but 0.
+fn ondex_right(c: IndexRow, cs: [u8; 12]) -> bool
+    ensures { λ r. ⌜ r ≡ ondexRight c (ondexOf c cs) ⌝ }
+{
+    if c.current == 0 {
+        return true;
+    }
+    let chars = c.chars;
+    let index = c.index;
+    let ondex = c.ondex;
+    let from = wide(chars) + wide(index);
+    digits_zero(cs, from as usize, wide(ondex) as usize)
+}
+
+// The characters of code, index and ondex.
+fn index_chars(c: IndexRow) -> usize
+    ensures { λ r. ⌜ (r ≡ indexChars c) × (r ≤ 765) ⌝ }
+{
+    let chars = c.chars;
+    let index = c.index;
+    let ondex = c.ondex;
+    (wide(chars) + wide(index) + wide(ondex)) as usize
+}
+
+pub fn indexed_checks(c: IndexRow, cs: [u8; 12]) -> Verdict
+    ensures { λ r. ⌜ r ≡ indexedChecks c cs ⌝ }
+{
+    let i = index_chars(c);
+    let zeros = c.zeros;
+    if !zero_bits(cs, i, wide(zeros)) {
+        return Verdict::Refused {
+            number: 8,
+            place: 0,
+        };
+    }
+    if !ondex_right(c, cs) {
+        return Verdict::Refused {
+            number: 15,
             place: 0,
         };
     }

@@ -2,6 +2,7 @@
 use Prim.Native.Nat.{ℕ, _*_, _/_, _≤_, _<_}
 use mathlib.Core.Path.{_≡_, sym, ap, _∙_, subst}
 use mathlib.Core.List.{List}
+use mathlib.Core.Bool.{Bool, true, false}
 use native.Mathlib.Omega.{arith}
 use native.Mathlib.Nat.{le-div-iff-mul-le, mul-le-mul-right, mul-pos, le-trans}
 use lib.ListN.{length, getD, take}
@@ -10,12 +11,12 @@ use Rattle.format.specs.declared.Kind.{Kind}
 use Rattle.format.specs.declared.Framed.{Framed}
 use Rattle.format.specs.declared.Framed.the-variants.{Item}
 use Rattle.format.specs.Units.{Domain}
-use Rattle.format.specs.Registry.{opening}
-use Rattle.format.specs.Framing.{sextet, frame, frameRuled, frameWith, scale}
-use Rattle.format.specs.Judging.{frame4, frameRuled4}
+use Rattle.format.specs.Registry.{opening, indexedOpening}
+use Rattle.format.specs.Framing.{sextet, frame, frameIndexed, frameRuled, frameWith, scale}
+use Rattle.format.specs.Judging.{frame4}
 use Rattle.format.specs.Report.{frameIn}
 use Rattle.damage.specs.Words.{Agree, Frames}
-use Rattle.laws.specs.Registry.{opening-opens}
+use Rattle.laws.specs.Registry.{opening-opens, indexed-opens}
 use Rattle.laws.specs.Domains.{Reader, plain, plain-reader}
 use Rattle.laws.specs.Framing.{Same, Good, Lawful, ruledWith, frameWith-good, ruledWith-good, unscale}
 
@@ -80,10 +81,7 @@ unfolding frameIn frameRuled frame
 frames d R = frames-by d R (ruledWith opening) (ruledWith-good opening opening-opens)
 
 -- framing within a group, on sextets themselves
-pub frames-any4 : Frames frame4
-unfolding frame4 frame
-frames-any4 = frames-by plain plain-reader (frameWith opening) (frameWith-good opening opening-opens)
-
-pub frames-ruled4 : Frames frameRuled4
-unfolding frameRuled4 frameRuled frame
-frames-ruled4 = frames-by plain plain-reader (ruledWith opening) (ruledWith-good opening opening-opens)
+pub frames-any4 : (t : Bool) → Frames (frame4 t)
+unfolding frame4 frame frameIndexed
+frames-any4 true = frames-by plain plain-reader (frameWith indexedOpening) (frameWith-good indexedOpening indexed-opens)
+frames-any4 false = frames-by plain plain-reader (frameWith opening) (frameWith-good opening opening-opens)

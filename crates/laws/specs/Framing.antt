@@ -3,23 +3,24 @@
 use Prim.Native.Nat.{ℕ, _+_, _*_, _/_, _≤_, _<_}
 use mathlib.Core.Path.{_≡_, refl, ap, _∙_}
 use mathlib.Core.List.{List}
-use mathlib.Core.Bool.{true, false}
+use mathlib.Core.Bool.{Bool, true, false}
 use native.Mathlib.Omega.{arith}
 use lib.Dec.{ltb}
 use lib.ListN.{length}
 use borrow.Author.Tests.{ltb-false, le-ltb}
 use Rattle.base.specs.Pick.{pick, pick-by}
 use Rattle.format.specs.declared.Kind.{Kind}
-use Rattle.format.specs.declared.Kind.the-variants.{Fixed, Variable, Group, Genus}
+use Rattle.format.specs.declared.Kind.the-variants.{Fixed, Variable, Group, Genus, Indexed}
 use Rattle.format.specs.declared.Opening.{Opening}
-use Rattle.format.specs.declared.Opening.the-variants.{Unknown, Short, LargeVariable, LargeGroup, Version}
+use Rattle.format.specs.declared.Opening.the-variants.{Unknown, Short, Long, LargeVariable, LargeGroup, Version}
 use Rattle.format.specs.declared.Framed.{Framed}
 use Rattle.format.specs.declared.Framed.the-variants.{Item, Unframed}
 use Rattle.format.specs.Alphabet.{strangerNumber}
-use Rattle.format.specs.Registry.{opening, extent}
+use Rattle.format.specs.Registry.{opening, indexHead, indexedOpening, openingBy, extent}
 use Rattle.format.specs.Framing.{fit, known, second, digits4, headed, frameWith, isOurs, ruled, sextet, frame, frameRuled, scale}
+use Rattle.format.specs.Framing.{frameIndexed, frameBy, frameNext}
 use Rattle.laws.specs.Alphabet.{number-some}
-use Rattle.laws.specs.Registry.{Sound, Opens, opening-opens, short-some}
+use Rattle.laws.specs.Registry.{Sound, IndexSound, Opens, opening-opens, indexed-opens, short-some}
 
 -- ---- what is said of an item
 
@@ -33,6 +34,7 @@ Shaped (Fixed c) h n = Sound c × (h ≡ 1) × (4 * n ≡ c .size)
 Shaped (Variable t l m) h n = (l ≤ 2) × (n ≡ h + m)
 Shaped (Group l) h n = Unit {0}
 Shaped Genus h n = (h ≡ 2) × (n ≡ 2)
+Shaped (Indexed c) h n = IndexSound c × (4 * n ≡ c .size) × (indexHead c ≡ h)
 
 -- an item that the framing f found at these sextets, with so many units left
 pub record Lawful (f : (ℕ → ℕ) → ℕ → Framed) (at : ℕ → ℕ) (len : ℕ) (k : Kind) (h n : ℕ) : Type 0 where
@@ -115,12 +117,24 @@ short-shaped (Fixed c) n o = (o .0, refl, o .1)
 short-shaped (Variable t l m) n o = (o .1, o .0)
 short-shaped (Group l) n o = tt
 short-shaped Genus n o = absurd o
+short-shaped (Indexed c) n o = o
+
+-- a header of two units that says all by the first
+long-opens : (k : Kind) (n : ℕ) → Opens (Long k n) → (2 ≤ n) × Shaped k 2 n
+long-opens (Fixed c) n o = absurd o
+long-opens (Variable t l m) n o = absurd o
+long-opens (Group l) n o = absurd o
+long-opens Genus n o = absurd o
+long-opens (Indexed c) n o = (omega (arith, o .0 .long, o .1, o .2), o)
 
 headed-good : (o : Opening) → Opens o → (at : ℕ → ℕ) (len : ℕ) → Good (headed o) at len (headed o at len)
 unfolding headed extent
 headed-good Unknown o at len = tt
 headed-good (Short k n) o at len =
     fit-good (headed (Short k n)) at k 1 n len (omega arith) (omega arith) (short-some k n o) (short-shaped k n o) (λ at′ len′ s l. refl)
+headed-good (Long k n) o at len =
+    let w = long-opens k n o in
+    long-good (λ m. k) (λ m. n) (λ m. w .0) (λ m. w .1) at len
 headed-good (LargeVariable t l) o at len = long-good (Variable t l) (λ m. 2 + m) (λ m. omega arith) (λ m. (o, refl)) at len
 headed-good (LargeGroup l d) o at len = long-good (λ m. Group l) (λ m. 2 + (d * 16777216 + m)) (λ m. omega arith) (λ m. tt) at len
 headed-good Version o at len = long-good (λ m. Genus) (λ m. 2) (λ m. omega arith) (λ m. (refl, refl)) at len
@@ -176,6 +190,7 @@ module _ (op : ℕ → ℕ → ℕ → ℕ → Opening) (opens : (a b c d : ℕ)
   ruled-good at len (Item (Fixed c) h n) g = passed at len (Fixed c) h n g (λ at′ s. refl)
   ruled-good at len (Item (Variable t l m) h n) g = passed at len (Variable t l m) h n g (λ at′ s. refl)
   ruled-good at len (Item (Group l) h n) g = passed at len (Group l) h n g (λ at′ s. refl)
+  ruled-good at len (Item (Indexed c) h n) g = passed at len (Indexed c) h n g (λ at′ s. refl)
   ruled-good at len (Item Genus h n) g =
       pick-by (Good (ruledWith op) at len) (isOurs at) (Item Genus h n) (Unframed 7 0)
       (λ e. passed at len Genus h n g
@@ -207,6 +222,7 @@ headed-told : (o : Opening) (at : ℕ → ℕ) (len : ℕ) → Told at (headed o
 unfolding headed
 headed-told Unknown at len = (omega arith, λ _. refl)
 headed-told (Short k n) at len = fit-told at k 1 n len
+headed-told (Long k n) at len = second-told at len _ (fit-told at k 2 _ len)
 headed-told (LargeVariable t l) at len = second-told at len _ (fit-told at _ 2 _ len)
 headed-told (LargeGroup l d) at len = second-told at len _ (fit-told at _ 2 _ len)
 headed-told Version at len = second-told at len _ (fit-told at _ 2 _ len)
@@ -223,26 +239,63 @@ ruled-told at (Unframed n p) t = t
 ruled-told at (Item (Fixed c) h n) t = tt
 ruled-told at (Item (Variable v l m) h n) t = tt
 ruled-told at (Item (Group l) h n) t = tt
+ruled-told at (Item (Indexed c) h n) t = tt
 ruled-told at (Item Genus h n) t =
     pick-by (Told at) (isOurs at) (Item Genus h n) (Unframed 7 0) (λ _. tt) (λ _. (omega arith, λ _. refl))
 
 -- ---- the same on a list of sextets
 
+pub opens-by : (t : Bool) (a b c d : ℕ) → Opens (openingBy t a b c d)
+opens-by true = indexed-opens
+opens-by false = opening-opens
+
+pub by-with : (t : Bool) (s : List ℕ) → frameBy t s ≡ frameWith (openingBy t) (sextet s) (length s / 4)
+unfolding frame frameIndexed
+by-with true s = refl
+by-with false s = refl
+
+pub by-good : (t : Bool) (s : List ℕ) → Good (frameWith (openingBy t)) (sextet s) (length s / 4) (frameBy t s)
+by-good t s = rw (by-with t s) (frameWith-good (openingBy t) (opens-by t) (sextet s) (length s / 4))
+
+pub by-told : (t : Bool) (s : List ℕ) → Told (sextet s) (frameBy t s)
+by-told t s = rw (by-with t s) (frameWith-told (openingBy t) (sextet s) (length s / 4))
+
+-- and where 7 may be asked
+abbrev pub nextWith : Bool → Bool → (ℕ → ℕ) → ℕ → Framed
+nextWith t true = ruledWith (openingBy t)
+nextWith t false = frameWith (openingBy t)
+
+pub nextWith-good : (t first : Bool) (at : ℕ → ℕ) (len : ℕ) → Good (nextWith t first) at len (nextWith t first at len)
+nextWith-good t true = ruledWith-good (openingBy t) (opens-by t)
+nextWith-good t false = frameWith-good (openingBy t) (opens-by t)
+
+pub next-with : (t first : Bool) (s : List ℕ) → frameNext t first s ≡ nextWith t first (sextet s) (length s / 4)
+unfolding frameNext
+next-with t true s = ap (ruled (sextet s)) (by-with t s)
+next-with t false s = by-with t s
+
+pub next-good : (t first : Bool) (s : List ℕ) → Good (nextWith t first) (sextet s) (length s / 4) (frameNext t first s)
+next-good t first s = rw (next-with t first s) (nextWith-good t first (sextet s) (length s / 4))
+
+pub next-told : (t first : Bool) (s : List ℕ) → Told (sextet s) (frameNext t first s)
+unfolding frameNext
+next-told t true s = ruled-told (sextet s) (frameBy t s) (by-told t s)
+next-told t false s = by-told t s
+
+-- the master table's
 pub frame-good : (s : List ℕ) → Good (frameWith opening) (sextet s) (length s / 4) (frame s)
-unfolding frame
-frame-good s = frameWith-good opening opening-opens (sextet s) (length s / 4)
+frame-good s = by-good false s
 
 pub frameRuled-good : (s : List ℕ) → Good (ruledWith opening) (sextet s) (length s / 4) (frameRuled s)
-unfolding frameRuled frame
-frameRuled-good s = ruledWith-good opening opening-opens (sextet s) (length s / 4)
+unfolding frameRuled frameNext
+frameRuled-good s = next-good false true s
 
 pub frame-told : (s : List ℕ) → Told (sextet s) (frame s)
-unfolding frame
-frame-told s = frameWith-told opening (sextet s) (length s / 4)
+frame-told s = by-told false s
 
 pub frameRuled-told : (s : List ℕ) → Told (sextet s) (frameRuled s)
-unfolding frameRuled
-frameRuled-told s = ruled-told (sextet s) (frame s) (frame-told s)
+unfolding frameRuled frameNext
+frameRuled-told s = next-told false true s
 
 -- ---- counted in elements, u to the unit
 

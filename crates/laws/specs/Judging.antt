@@ -8,18 +8,18 @@ use lib.ListN.{length, take, drop}
 use lib.Seq.{length-take-le}
 use Rattle.base.specs.Pick.{pick-by}
 use Rattle.format.specs.declared.Kind.{Kind}
-use Rattle.format.specs.declared.Kind.the-variants.{Fixed, Variable, Group, Genus}
+use Rattle.format.specs.declared.Kind.the-variants.{Fixed, Variable, Group, Genus, Indexed}
 use Rattle.format.specs.declared.Framed.{Framed}
 use Rattle.format.specs.declared.Framed.the-variants.{Item, Unframed}
 use Rattle.format.specs.declared.Verdict.{Verdict}
 use Rattle.format.specs.declared.Verdict.the-variants.{Accepted, Refused}
-use Rattle.format.specs.Registry.{isOpaque, isOverrideable}
-use Rattle.format.specs.Framing.{sextet, frame, frameRuled, scale}
+use Rattle.format.specs.Registry.{isIndexed, isOverrideable}
+use Rattle.format.specs.Framing.{sextet, frame, frameBy, frameNext, scale}
 use Rattle.format.specs.Cutting.{Cut, cutBy, cutF, cut}
 use Rattle.format.specs.Cutting.Cut.{done, stopped, item}
-use Rattle.format.specs.Judging.{shift, andThen, unless, scan, behind, judgeKind, judgeBy, inTurn, frame4, frameRuled4, contents}
-use Rattle.format.specs.Judging.{ownCheck, group, judge}
-use Rattle.laws.specs.Framing.{Good, Lawful, Told, frame-good, frameRuled-good, frame-told, frameRuled-told}
+use Rattle.format.specs.Judging.{shift, andThen, unless, scan, behind, judgeKind, judgeBy, inTurn, frame4, frameNext4, contents}
+use Rattle.format.specs.Judging.{ownCheck, group, judge, judgeWith}
+use Rattle.laws.specs.Framing.{Good, Lawful, Told, by-good, by-told, next-good, next-told}
 use Rattle.laws.specs.Framing.{unscale, unscale-unframed}
 
 -- ---- the laws that are asked
@@ -53,13 +53,13 @@ module _ (f : (ℕ → ℕ) → ℕ → Framed) (g : List ℕ → Framed) (good 
     tells = λ s n p e. subst (Told (sextet s)) (unscale-unframed 4 (g s) n p e) (tells s);
   }
 
-frame4-cuts : Cuts frame4
+frame4-cuts : (t : Bool) → Cuts (frame4 t)
 unfolding frame4
-frame4-cuts = cuts _ frame frame-good frame-told
+frame4-cuts t = cuts _ (frameBy t) (by-good t) (by-told t)
 
-frameRuled4-cuts : Cuts frameRuled4
-unfolding frameRuled4
-frameRuled4-cuts = cuts _ frameRuled frameRuled-good frameRuled-told
+frameNext4-cuts : (t first : Bool) → Cuts (frameNext4 t first)
+unfolding frameNext4
+frameNext4-cuts t first = cuts _ (frameNext t first) (next-good t first) (next-told t first)
 
 -- ---- the induction
 
@@ -83,15 +83,15 @@ module _ (Q : List ℕ → Type 0) (P : Verdict → Type 0) (R : Reaches Q P) wh
   fine-turns f C (suc t) [] q = tt
   fine-turns f C (suc t) (x ∷ s) q = fine-by f C (x ∷ s) q (f (x ∷ s)) refl (λ ys. cutF f t ys) (λ ys. fine-turns f C t ys)
 
-  fine-cut : (s : List ℕ) → Q s → Fine (cut frame4 s)
+  fine-cut : (t : Bool) (s : List ℕ) → Q s → Fine (cut (frame4 t) s)
   unfolding cut
-  fine-cut s q = fine-turns frame4 frame4-cuts (length s) s q
+  fine-cut t s q = fine-turns (frame4 t) (frame4-cuts t) (length s) s q
 
-  fine-contents : (first : Bool) (s : List ℕ) → Q s → Fine (contents first s)
+  fine-contents : (t first : Bool) (s : List ℕ) → Q s → Fine (contents t first s)
   unfolding contents
-  fine-contents first [] q = tt
-  fine-contents true (x ∷ s) q = fine-by frameRuled4 frameRuled4-cuts (x ∷ s) q (frameRuled4 (x ∷ s)) refl (cut frame4) fine-cut
-  fine-contents false (x ∷ s) q = fine-by frame4 frame4-cuts (x ∷ s) q (frame4 (x ∷ s)) refl (cut frame4) fine-cut
+  fine-contents t first [] q = tt
+  fine-contents t first (x ∷ s) q =
+      fine-by (frameNext4 t first) (frameNext4-cuts t first) (x ∷ s) q (frameNext4 t first (x ∷ s)) refl (cut (frame4 t)) (fine-cut t)
 
   and-then : (v w : Verdict) → P v → P w → P (andThen v w)
   unfolding andThen
@@ -130,6 +130,8 @@ module _ (Q : List ℕ → Type 0) (P : Verdict → Type 0) (R : Reaches Q P) wh
       (and-then _ _ (unless-by 8 _ (omega arith)) (unless-by 16 _ (omega arith)))))
   kind-by (Group l) h s go q g = g l h (drop (4 * h) s) (R .drops (4 * h) s q)
   kind-by Genus h s go q g = R .accepts
+  kind-by (Indexed c) h s go q g =
+      and-then _ _ (behind-by h s q) (and-then _ _ (unless-by 8 _ (omega arith)) (unless-by 15 _ (omega arith)))
 
   judge-by : (r : Framed) (s : List ℕ) (go : ℕ → ℕ → List ℕ → Verdict) → Told (sextet s) r → Q s → Inner go → P (judgeBy r s go)
   unfolding judgeBy
@@ -139,20 +141,17 @@ module _ (Q : List ℕ → Type 0) (P : Verdict → Type 0) (R : Reaches Q P) wh
   pub check-by : (l : ℕ) → Inner (ownCheck l)
   unfolding ownCheck
   check-by zero letter h ys q = R .refuses 11 (omega arith)
-  check-by (suc l) letter h ys q =
-      and-then _ _ (unless-by 18 _ (omega arith))
-      (pick-by P (isOpaque letter) _ _ (λ _. R .counts-on h _ (R .scans ys q)) (λ _. R .accepts))
+  check-by (suc l) letter h ys q = unless-by 18 _ (omega arith)
 
   group-by : (l : ℕ) → Inner (group l)
   unfolding group
   group-by zero letter h ys q = check-by zero letter h ys q
   group-by (suc l) letter h ys q =
       and-then _ _ (check-by (suc l) letter h ys q)
-      (pick-by P (isOpaque letter) _ _ (λ _. R .accepts)
-      (λ _. R .counts-on h _
-      (in-turn _ (λ s q′. judge-by (frame s) s _ (frame-told s) q′ (group-by l))
-      (contents (isOverrideable letter) ys) (fine-contents (isOverrideable letter) ys q))))
+      (R .counts-on h _
+      (in-turn _ (λ s q′. judge-by (frameBy (isIndexed letter) s) s _ (by-told (isIndexed letter) s) q′ (group-by l))
+      (contents (isIndexed letter) (isOverrideable letter) ys) (fine-contents (isIndexed letter) (isOverrideable letter) ys q)))
 
   pub every-verdict : (l : ℕ) (s : List ℕ) → Q s → P (judge l s)
-  unfolding judge
-  every-verdict l s q = judge-by (frame s) s (group l) (frame-told s) q (group-by l)
+  unfolding judgeWith
+  every-verdict l s q = judge-by (frame s) s (group l) (by-told false s) q (group-by l)

@@ -9,18 +9,18 @@ use lib.ListN.{length, take, drop}
 use lib.Seq.{slice, length-slice, slice-empty, length-take-le, getD-take, drop-drop, take-take, take-nil}
 use Rattle.base.specs.Pick.{pick, pick-by}
 use Rattle.format.specs.declared.Kind.{Kind}
-use Rattle.format.specs.declared.Kind.the-variants.{Fixed, Variable, Group, Genus}
+use Rattle.format.specs.declared.Kind.the-variants.{Fixed, Variable, Group, Genus, Indexed}
 use Rattle.format.specs.declared.Framed.{Framed}
 use Rattle.format.specs.declared.Framed.the-variants.{Item, Unframed}
 use Rattle.format.specs.declared.Verdict.{Verdict}
 use Rattle.format.specs.declared.Verdict.the-variants.{Accepted, Refused}
-use Rattle.format.specs.Registry.{opening}
-use Rattle.format.specs.Framing.{sextet, frame, frameRuled, frameWith, ruled, isOurs, scale}
+use Rattle.format.specs.Registry.{openingBy}
+use Rattle.format.specs.Framing.{sextet, frameBy, frameNext, frameWith, ruled, isOurs, scale}
 use Rattle.format.specs.Cutting.{cutBy, cut}
 use Rattle.format.specs.Cutting.Cut.{stopped, item}
-use Rattle.format.specs.Judging.{shift, andThen, inTurn, frame4, frameRuled4, contents, judgeKind, judgeBy, group, judge}
+use Rattle.format.specs.Judging.{shift, andThen, inTurn, frame4, frameNext4, contents, judgeKind, judgeBy, group, judgeWith}
 use Rattle.damage.specs.Cuts as C
-use Rattle.laws.specs.Framing.{Good, Lawful, frame-good}
+use Rattle.laws.specs.Framing.{Good, Lawful, by-with, by-good}
 use Rattle.laws.specs.Frames.{frames-any4}
 
 -- ---- verdicts
@@ -72,99 +72,97 @@ part-take s at n stop h =
 
 -- ---- framing: 7 is asked of the first item of an overrideable group
 
-abbrev pub frameNext : Bool → List ℕ → Framed
-frameNext first xs = pick first (frameRuled xs) (frame xs)
-
 ruled-item : (at : ℕ → ℕ) (r : Framed) (k : Kind) (h n : ℕ) → ruled at r ≡ Item k h n → r ≡ Item k h n
 unfolding ruled
 ruled-item at (Item (Fixed c) h′ n′) k h n e = e
 ruled-item at (Item (Variable t l c) h′ n′) k h n e = e
 ruled-item at (Item (Group l) h′ n′) k h n e = e
+ruled-item at (Item (Indexed c) h′ n′) k h n e = e
 ruled-item at (Unframed m p) k h n e = e
 ruled-item at (Item Genus h′ n′) k h n e =
     pick-by (λ (r : Framed). r ≡ Item k h n → Item Genus h′ n′ ≡ Item k h n) (isOurs at) (Item Genus h′ n′) (Unframed 7 0) (λ _ q. q)
     (λ _ q. let z : _≡_ {A = ℕ} 0 1 = cc in absurd (omega arith)) e
 
 -- an item where 7 is asked is an item anywhere
-pub any-item : (first : Bool) (xs : List ℕ) (k : Kind) (h n : ℕ) → frameNext first xs ≡ Item k h n → frame xs ≡ Item k h n
-unfolding frameRuled
-any-item true xs k h n e = ruled-item (sextet xs) (frame xs) k h n e
-any-item false xs k h n e = e
+pub any-item : (t first : Bool) (xs : List ℕ) (k : Kind) (h n : ℕ) → frameNext t first xs ≡ Item k h n → frameBy t xs ≡ Item k h n
+unfolding frameNext
+any-item t true xs k h n e = ruled-item (sextet xs) (frameBy t xs) k h n e
+any-item t false xs k h n e = e
 
-item-good : (xs : List ℕ) (k : Kind) (h n : ℕ) → frame xs ≡ Item k h n → Lawful (frameWith opening) (sextet xs) (length xs / 4) k h n
-item-good xs k h n e = subst (Good (frameWith opening) (sextet xs) (length xs / 4)) e (frame-good xs)
+item-good : (t : Bool) (xs : List ℕ) (k : Kind) (h n : ℕ) → frameBy t xs ≡ Item k h n
+    → Lawful (frameWith (openingBy t)) (sextet xs) (length xs / 4) k h n
+item-good t xs k h n e = subst (Good (frameWith (openingBy t)) (sextet xs) (length xs / 4)) e (by-good t xs)
 
-pub item-sizes : (xs : List ℕ) (k : Kind) (h n : ℕ) → frame xs ≡ Item k h n → (0 < h) × (h ≤ n) × (n ≤ length xs / 4)
-item-sizes xs k h n e = let g = item-good xs k h n e in (g .some, g .inside, g .room)
+pub item-sizes : (t : Bool) (xs : List ℕ) (k : Kind) (h n : ℕ) → frameBy t xs ≡ Item k h n → (0 < h) × (h ≤ n) × (n ≤ length xs / 4)
+item-sizes t xs k h n e = let g = item-good t xs k h n e in (g .some, g .inside, g .room)
 
 -- an item's own sextets
-pub frame-own : (xs : List ℕ) (k : Kind) (h n : ℕ) → frame xs ≡ Item k h n → frame (take (n * 4) xs) ≡ Item k h n
-unfolding frame
-frame-own xs k h n e =
-    let g = item-good xs k h n e in
-    let b = item-sizes xs k h n e in
-    g .alike (sextet (take (n * 4) xs)) (length (take (n * 4) xs) / 4) (λ i l. getD-take (n * 4) xs i 0 (omega arith))
+pub frame-own : (t : Bool) (xs : List ℕ) (k : Kind) (h n : ℕ) → frameBy t xs ≡ Item k h n → frameBy t (take (n * 4) xs) ≡ Item k h n
+frame-own t xs k h n e =
+    let g = item-good t xs k h n e in
+    let b = item-sizes t xs k h n e in
+    by-with t (take (n * 4) xs)
+    ∙ g .alike (sextet (take (n * 4) xs)) (length (take (n * 4) xs) / 4) (λ i l. getD-take (n * 4) xs i 0 (omega arith))
     (omega (arith, length-take-le (n * 4) xs (omega arith)))
 
-pub judge-own : (l : ℕ) (xs : List ℕ) (k : Kind) (h n : ℕ) → frame xs ≡ Item k h n
-    → judge l (take (n * 4) xs) ≡ judgeKind k h (take (n * 4) xs) (group l)
-unfolding judge judgeBy
-judge-own l xs k h n e = rw (frame-own xs k h n e)
+pub judge-own : (t : Bool) (l : ℕ) (xs : List ℕ) (k : Kind) (h n : ℕ) → frameBy t xs ≡ Item k h n
+    → judgeWith t l (take (n * 4) xs) ≡ judgeKind k h (take (n * 4) xs) (group l)
+unfolding judgeWith judgeBy
+judge-own t l xs k h n e = rw (frame-own t xs k h n e)
 
 -- ---- contents, item by item
 
-next4 : (first : Bool) (xs : List ℕ) (r : Framed) → frameNext first xs ≡ r → pick first (frameRuled4 xs) (frame4 xs) ≡ scale 4 r
-unfolding frame4 frameRuled4
-next4 true xs r e = ap (scale 4) e
-next4 false xs r e = ap (scale 4) e
+next4 : (t first : Bool) (xs : List ℕ) (r : Framed) → frameNext t first xs ≡ r → frameNext4 t first xs ≡ scale 4 r
+unfolding frameNext4
+next4 t first xs r e = ap (scale 4) e
 
-contents-false : (xs : List ℕ) → contents false xs ≡ cut frame4 xs
-unfolding contents
-contents-false [] = sym (C.cut-nil frame4 frames-any4)
-contents-false (x ∷ xs) = sym (C.cut-step frame4 frames-any4 x xs)
+contents-false : (t : Bool) (xs : List ℕ) → contents t false xs ≡ cut (frame4 t) xs
+unfolding contents frameNext4 frameNext frame4
+contents-false t [] = sym (C.cut-nil (frame4 t) (frames-any4 t))
+contents-false t (x ∷ xs) = sym (C.cut-step (frame4 t) (frames-any4 t) x xs)
 
-contents-item : (first : Bool) (xs : List ℕ) (k : Kind) (h n : ℕ) → frameNext first xs ≡ Item k h n
-    → contents first xs ≡ item (take (n * 4) xs) (contents false (drop (n * 4) xs))
+contents-item : (t first : Bool) (xs : List ℕ) (k : Kind) (h n : ℕ) → frameNext t first xs ≡ Item k h n
+    → contents t first xs ≡ item (take (n * 4) xs) (contents t false (drop (n * 4) xs))
 unfolding contents scale cutBy
-contents-item first [] k h n e = absurd (omega (arith, item-sizes [] k h n (any-item first [] k h n e)))
-contents-item first (x ∷ xs) k h n e = rw (next4 first (x ∷ xs) (Item k h n) e, contents-false (drop (n * 4) (x ∷ xs)))
+contents-item t first [] k h n e = absurd (omega (arith, item-sizes t [] k h n (any-item t first [] k h n e)))
+contents-item t first (x ∷ xs) k h n e = rw (next4 t first (x ∷ xs) (Item k h n) e, contents-false t (drop (n * 4) (x ∷ xs)))
 
-contents-refused : (first : Bool) (xs : List ℕ) (m p : ℕ) → 0 < length xs → frameNext first xs ≡ Unframed m p
-    → contents first xs ≡ stopped m p xs
+contents-refused : (t first : Bool) (xs : List ℕ) (m p : ℕ) → 0 < length xs → frameNext t first xs ≡ Unframed m p
+    → contents t first xs ≡ stopped m p xs
 unfolding contents scale cutBy
-contents-refused first [] m p l e = absurd (omega arith)
-contents-refused first (x ∷ xs) m p l e = rw (next4 first (x ∷ xs) (Unframed m p) e)
+contents-refused t first [] m p l e = absurd (omega arith)
+contents-refused t first (x ∷ xs) m p l e = rw (next4 t first (x ∷ xs) (Unframed m p) e)
 
--- ---- the verdict on the items of a group from at to its end, where l more groups may be entered
+-- ---- the verdict on the items of a group from at to its end, by the table that is asked, where l more groups may be entered
 
-unfoldable pub level : List ℕ → ℕ → Bool → ℕ → ℕ → Verdict
-level s l first at stop = shift (4 * at) (inTurn (judge l) (contents first (part s at stop)))
+unfoldable pub level : List ℕ → Bool → ℕ → Bool → ℕ → ℕ → Verdict
+level s t l first at stop = shift (4 * at) (inTurn (judgeWith t l) (contents t first (part s at stop)))
 
-pub level-end : (s : List ℕ) (l : ℕ) (first : Bool) (at : ℕ) → level s l first at at ≡ Accepted
+pub level-end : (s : List ℕ) (t : Bool) (l : ℕ) (first : Bool) (at : ℕ) → level s t l first at at ≡ Accepted
 unfolding level inTurn shift contents
-level-end s l first at = rw (slice-empty (4 * at) s)
+level-end s t l first at = rw (slice-empty (4 * at) s)
 
-pub level-refused : (s : List ℕ) (l : ℕ) (first : Bool) (at stop m p : ℕ) → 4 * stop ≤ length s → at < stop
-    → frameNext first (part s at stop) ≡ Unframed m p → level s l first at stop ≡ Refused m (4 * at + p)
+pub level-refused : (s : List ℕ) (t : Bool) (l : ℕ) (first : Bool) (at stop m p : ℕ) → 4 * stop ≤ length s → at < stop
+    → frameNext t first (part s at stop) ≡ Unframed m p → level s t l first at stop ≡ Refused m (4 * at + p)
 unfolding level inTurn shift
-level-refused s l first at stop m p long lt e =
-    rw (contents-refused first (part s at stop) m p (omega (arith, part-length s at stop long)) e)
+level-refused s t l first at stop m p long lt e =
+    rw (contents-refused t first (part s at stop) m p (omega (arith, part-length s at stop long)) e)
 
-pub level-item : (s : List ℕ) (l : ℕ) (first : Bool) (at stop : ℕ) (k : Kind) (h n : ℕ) → 4 * stop ≤ length s → at ≤ stop
-    → frameNext first (part s at stop) ≡ Item k h n
-    → level s l first at stop
-    ≡ andThen (shift (4 * at) (judgeKind k h (part s at (at + n)) (group l))) (level s l false (at + n) stop)
+pub level-item : (s : List ℕ) (t : Bool) (l : ℕ) (first : Bool) (at stop : ℕ) (k : Kind) (h n : ℕ) → 4 * stop ≤ length s → at ≤ stop
+    → frameNext t first (part s at stop) ≡ Item k h n
+    → level s t l first at stop
+    ≡ andThen (shift (4 * at) (judgeKind k h (part s at (at + n)) (group l))) (level s t l false (at + n) stop)
 unfolding level inTurn
-level-item s l first at stop k h n long le e =
-    let f : frame (part s at stop) ≡ Item k h n = any-item first (part s at stop) k h n e in
-    let b = item-sizes (part s at stop) k h n f in
+level-item s t l first at stop k h n long le e =
+    let f : frameBy t (part s at stop) ≡ Item k h n = any-item t first (part s at stop) k h n e in
+    let b = item-sizes t (part s at stop) k h n f in
     let pl : length (part s at stop) ≡ 4 * stop - 4 * at = part-length s at stop long in
     let tl : length (take (n * 4) (part s at stop)) ≡ n * 4 = length-take-le (n * 4) (part s at stop) (omega arith) in
     let c : n * 4 ≡ 4 * n = omega arith in
     let o : 4 * at + 4 * n ≡ 4 * (at + n) = omega arith in
     rw (
-      contents-item first (part s at stop) k h n e,
-      judge-own l (part s at stop) k h n f,
+      contents-item t first (part s at stop) k h n e,
+      judge-own t l (part s at stop) k h n f,
       tl,
       shift-then,
       shift-shift,
@@ -177,19 +175,20 @@ level-item s l first at stop k h n long le e =
 -- ---- items accepted whole
 
 -- the item from a unit on ends in front of stop, has r units and is accepted, where l groups may be entered
-pub record Taken (s : List ℕ) (l : ℕ) (first : Bool) (at stop r : ℕ) : Type 0 where
+pub record Taken (s : List ℕ) (t : Bool) (l : ℕ) (first : Bool) (at stop r : ℕ) : Type 0 where
   pub kind : Kind
   pub head : ℕ
-  pub framed : frameNext first (part s at stop) ≡ Item kind head r
+  pub framed : frameNext t first (part s at stop) ≡ Item kind head r
   pub judged : judgeKind kind head (part s at (at + r)) (group l) ≡ Accepted
 
-module _ (s : List ℕ) (l : ℕ) (first : Bool) (at stop r : ℕ) (long : 4 * stop ≤ length s) (le : at ≤ stop) (t : Taken s l first at stop r) where
+module _ (s : List ℕ) (t : Bool) (l : ℕ) (first : Bool) (at stop r : ℕ) (long : 4 * stop ≤ length s) (le : at ≤ stop)
+    (w : Taken s t l first at stop r) where
   pub taken-sizes : (0 < r) × (at + r ≤ stop)
   taken-sizes =
-      let b = item-sizes (part s at stop) (t .kind) (t .head) r (any-item first (part s at stop) (t .kind) (t .head) r (t .framed)) in
+      let b = item-sizes t (part s at stop) (w .kind) (w .head) r (any-item t first (part s at stop) (w .kind) (w .head) r (w .framed)) in
       (omega (arith, b .0, b .1), omega (arith, b .2, part-length s at stop long))
 
   -- it leaves the rest
-  pub taken-level : level s l first at stop ≡ level s l false (at + r) stop
+  pub taken-level : level s t l first at stop ≡ level s t l false (at + r) stop
   unfolding andThen shift
-  taken-level = level-item s l first at stop (t .kind) (t .head) r long le (t .framed) ∙ rw (t .judged)
+  taken-level = level-item s t l first at stop (w .kind) (w .head) r long le (w .framed) ∙ rw (w .judged)

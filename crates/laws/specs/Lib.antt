@@ -5,6 +5,7 @@ pub mod Registry
 pub mod Domains
 pub mod Framing
 pub mod Frames
+pub mod Indexed
 pub mod Judging
 pub mod Local
 pub mod Items

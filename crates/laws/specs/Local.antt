@@ -12,9 +12,9 @@ use Rattle.base.specs.Cases.{lt-or-ge}
 use Rattle.base.specs.Lists.{getD-map-within}
 use Rattle.base.specs.Each.{each, each-front, each-drop, take3}
 use Rattle.format.specs.declared.Kind.{Kind}
-use Rattle.format.specs.declared.Kind.the-variants.{Fixed, Variable, Group, Genus}
+use Rattle.format.specs.declared.Kind.the-variants.{Fixed, Variable, Group, Genus, Indexed}
 use Rattle.format.specs.declared.Opening.{Opening}
-use Rattle.format.specs.declared.Opening.the-variants.{Unknown, Short, LargeVariable, LargeGroup, Version}
+use Rattle.format.specs.declared.Opening.the-variants.{Unknown, Short, Long, LargeVariable, LargeGroup, Version}
 use Rattle.format.specs.declared.Framed.{Framed}
 use Rattle.format.specs.declared.Framed.the-variants.{Item, Unframed}
 use Rattle.format.specs.Alphabet.{sextetOf}
@@ -47,6 +47,7 @@ headed-there : (o : Opening) (at at′ : ℕ → ℕ) (len : ℕ) → There len 
 unfolding headed
 headed-there Unknown at at′ len t = refl
 headed-there (Short k n) at at′ len t = refl
+headed-there (Long k n) at at′ len t = long-there (λ m. k) (extent (Long k n)) at at′ len t
 headed-there (LargeVariable c l) at at′ len t = long-there (Variable c l) (extent (LargeVariable c l)) at at′ len t
 headed-there (LargeGroup l d) at at′ len t = long-there (λ m. Group l) (extent (LargeGroup l d)) at at′ len t
 headed-there Version at at′ len t = long-there (λ m. Genus) (extent Version) at at′ len t
@@ -73,6 +74,7 @@ ruled-same f at at′ len (Unframed n p) g t = refl
 ruled-same f at at′ len (Item (Fixed c) h n) g t = refl
 ruled-same f at at′ len (Item (Variable v l m) h n) g t = refl
 ruled-same f at at′ len (Item (Group l) h n) g t = refl
+ruled-same f at at′ len (Item (Indexed c) h n) g t = refl
 ruled-same f at at′ len (Item Genus h n) g t =
     let two : 2 ≤ len = omega (arith, g .room, g .shape .1) in
     rw (

@@ -6,15 +6,17 @@ use mathlib.Core.List.{List, [], _∷_}
 use mathlib.Core.Bool.{Bool, true, false}
 use native.Mathlib.Omega.{arith}
 use lib.Dec.{T, ltb, leb, eqb, ltb→lt, leb→le, eqb→eq}
-use borrow.Author.Tests.{ltb-true, eqb-true, eq-eqb, ne-eqb}
+use borrow.Author.Tests.{ltb-true, eqb-true, eqb-false, eq-eqb, ne-eqb}
 use Rattle.base.specs.Pick.{pick, pick-by}
 use Rattle.base.specs.Table.{both, both-left, both-right}
 use Rattle.format.specs.declared.CodeRow.{CodeRow}
+use Rattle.format.specs.declared.IndexRow.{IndexRow}
 use Rattle.format.specs.declared.Kind.{Kind}
-use Rattle.format.specs.declared.Kind.the-variants.{Fixed, Variable, Group, Genus}
+use Rattle.format.specs.declared.Kind.the-variants.{Fixed, Variable, Group, Genus, Indexed}
 use Rattle.format.specs.declared.Opening.{Opening}
-use Rattle.format.specs.declared.Opening.the-variants.{Unknown, Short, LargeVariable, LargeGroup, Version}
+use Rattle.format.specs.declared.Opening.the-variants.{Unknown, Short, Long, LargeVariable, LargeGroup, Version}
 use Rattle.format.specs.Registry.{codes, zeroBitsOf, prepadOf, isType, isGroup, fixedAmong, fixed, opening}
+use Rattle.format.specs.Registry.{indexedCodes, indexChars, indexHead, indexedRow, indexedAmong, indexedBy, indexedOpening}
 
 -- ---- the tests
 
@@ -131,6 +133,49 @@ sound c t =
       tag = λ e. tag-of c (rw (ne-eqb (c .tag) 0 e) at filled);
     }
 
+-- ---- the indexed table, by a test of its own
+
+-- a header within the item, whole units, a raw value that starts on a whole byte behind it or within its last unit
+isIndexSound : IndexRow → Bool
+isIndexSound c =
+    both (eqb (c .size % 4) 0)
+    (both (leb (4 * indexHead c) (c .size))
+    (both (leb 1 (c .chars))
+    (both (leb (indexChars c) (4 * indexHead c))
+    (both (eqb ((6 * indexChars c + c .zeros) % 8) 0) (leb (6 * indexChars c + c .zeros) (6 * c .size))))))
+
+allIndexSound : List IndexRow → Bool
+allIndexSound [] = true
+allIndexSound (c ∷ cs) = both (isIndexSound c) (allIndexSound cs)
+
+indexed-sound : T (allIndexSound indexedCodes)
+unfolding allIndexSound isIndexSound indexedCodes indexHead
+indexed-sound = tt
+
+pub record IndexSound (c : IndexRow) : Type 0 where
+  pub whole : c .size % 4 ≡ 0
+  pub long : 4 * indexHead c ≤ c .size
+  pub coded : 1 ≤ c .chars
+  pub chars : indexChars c ≤ 4 * indexHead c
+  pub bytes : (6 * indexChars c + c .zeros) % 8 ≡ 0
+  pub inside : 6 * indexChars c + c .zeros ≤ 6 * c .size
+
+index-sound : (c : IndexRow) → T (isIndexSound c) → IndexSound c
+unfolding isIndexSound
+index-sound c t =
+    let a = both-right (eqb (c .size % 4) 0) _ t in
+    let b = both-right (leb (4 * indexHead c) (c .size)) _ a in
+    let d = both-right (leb 1 (c .chars)) _ b in
+    let e = both-right (leb (indexChars c) (4 * indexHead c)) _ d in
+    record {
+      whole = eqb→eq _ _ (both-left (eqb (c .size % 4) 0) _ t);
+      long = leb→le _ _ (both-left (leb (4 * indexHead c) (c .size)) _ a);
+      coded = leb→le _ _ (both-left (leb 1 (c .chars)) _ b);
+      chars = leb→le _ _ (both-left (leb (indexChars c) (4 * indexHead c)) _ d);
+      bytes = eqb→eq _ _ (both-left (eqb ((6 * indexChars c + c .zeros) % 8) 0) _ e);
+      inside = leb→le _ _ (both-right (eqb ((6 * indexChars c + c .zeros) % 8) 0) _ e);
+    }
+
 -- ---- what a search finds
 
 -- a sound row of the code that was asked for, with its size in units
@@ -140,6 +185,8 @@ Finds chars letter (Short (Fixed c) n) = Sound c × (4 * n ≡ c .size) × (c .c
 Finds chars letter (Short (Variable t l m) n) = ⊥
 Finds chars letter (Short (Group l) n) = ⊥
 Finds chars letter (Short Genus n) = ⊥
+Finds chars letter (Short (Indexed c) n) = ⊥
+Finds chars letter (Long k n) = ⊥
 Finds chars letter (LargeVariable t l) = ⊥
 Finds chars letter (LargeGroup l d) = ⊥
 Finds chars letter Version = ⊥
@@ -167,6 +214,12 @@ Opens (Short (Fixed c) n) = Sound c × (4 * n ≡ c .size)
 Opens (Short (Variable t l m) n) = (n ≡ 1 + m) × (l ≤ 2)
 Opens (Short (Group l) n) = 0 < n
 Opens (Short Genus n) = ⊥
+Opens (Short (Indexed c) n) = IndexSound c × (4 * n ≡ c .size) × (indexHead c ≡ 1)
+Opens (Long (Fixed c) n) = ⊥
+Opens (Long (Variable t l m) n) = ⊥
+Opens (Long (Group l) n) = ⊥
+Opens (Long Genus n) = ⊥
+Opens (Long (Indexed c) n) = IndexSound c × (4 * n ≡ c .size) × (indexHead c ≡ 2)
 Opens (LargeVariable t l) = l ≤ 2
 Opens (LargeGroup l d) = Unit {0}
 Opens Version = Unit {0}
@@ -177,6 +230,8 @@ finds-opens chars letter (Short (Fixed c) n) f = (f .0, f .1)
 finds-opens chars letter (Short (Variable t l m) n) f = absurd f
 finds-opens chars letter (Short (Group l) n) f = absurd f
 finds-opens chars letter (Short Genus n) f = absurd f
+finds-opens chars letter (Short (Indexed c) n) f = absurd f
+finds-opens chars letter (Long k n) f = absurd f
 finds-opens chars letter (LargeVariable t l) f = absurd f
 finds-opens chars letter (LargeGroup l d) f = absurd f
 finds-opens chars letter Version f = absurd f
@@ -203,9 +258,42 @@ opening-opens a b c d =
     pick-by Opens (eqb b 62) _ _ (λ _. tested (isGroup c) _ tt) (λ _. tested (eqb b 63) _ tt)))
     (λ _. tt)))))))
 
+head-two : (c : IndexRow) → eqb (indexHead c) 1 ≡ false → indexHead c ≡ 2
+unfolding indexHead
+head-two c = pick-by (λ (h : ℕ). eqb h 1 ≡ false → h ≡ 2) (ltb (c .selector) 54) 1 2 (λ _ e. absurd (eqb-false 1 1 e refl)) (λ _ e. refl)
+
+row-opens : (c : IndexRow) → IndexSound c → Opens (indexedRow c)
+unfolding indexedRow
+row-opens c s =
+    pick-by Opens (eqb (indexHead c) 1) _ _ (λ e. (s, omega (arith, s .whole), eqb-true _ _ e))
+    (λ e. (s, omega (arith, s .whole), head-two c e))
+
+indexed-among : (cs : List IndexRow) → T (allIndexSound cs) → (selector letter : ℕ) → Opens (indexedAmong cs selector letter)
+unfolding indexedAmong allIndexSound
+indexed-among [] t selector letter = tt
+indexed-among (c ∷ cs) t selector letter =
+    let next = indexed-among cs (both-right (isIndexSound c) (allIndexSound cs) t) selector letter in
+    pick-by Opens (eqb (c .selector) selector) _ _
+    (λ _. pick-by Opens (eqb (c .letter) letter) _ _
+    (λ _. row-opens c (index-sound c (both-left (isIndexSound c) (allIndexSound cs) t))) (λ _. next))
+    (λ _. next)
+
+indexed-opens-by : (selector letter : ℕ) → Opens (indexedBy selector letter)
+unfolding indexedBy
+indexed-opens-by = indexed-among indexedCodes indexed-sound
+
+pub indexed-opens : (a b c d : ℕ) → Opens (indexedOpening a b c d)
+unfolding indexedOpening
+indexed-opens a b c d =
+    pick-by Opens (ltb a 52) _ _ (λ _. indexed-opens-by 0 a) (λ _.
+    pick-by Opens (eqb a 52) _ _ (λ _. indexed-opens-by 52 b) (λ _.
+    pick-by Opens (eqb a 54) _ _ (λ _. indexed-opens-by 54 b) (λ _.
+    pick-by Opens (eqb a 55) _ _ (λ _. indexed-opens-by 55 b) (λ _. tt))))
+
 -- a short item is not empty, and it is no genus/version
 pub short-some : (k : Kind) (n : ℕ) → Opens (Short k n) → 0 < n
 short-some (Fixed c) n o = omega (arith, o .0 .some)
 short-some (Variable t l m) n o = omega arith
 short-some (Group l) n o = o
 short-some Genus n o = absurd o
+short-some (Indexed c) n o = omega (arith, o .0 .long, o .1, o .2)

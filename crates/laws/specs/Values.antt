@@ -12,7 +12,7 @@ use Rattle.base.specs.Lists.{map-take, map-drop, part-length}
 use Rattle.base.specs.Digits.{Below, below-take, below-drop}
 use Rattle.base.specs.Each.{each, each-back, length-each}
 use Rattle.format.specs.declared.Kind.{Kind}
-use Rattle.format.specs.declared.Kind.the-variants.{Fixed, Variable, Group, Genus}
+use Rattle.format.specs.declared.Kind.the-variants.{Fixed, Variable, Group, Genus, Indexed}
 use Rattle.format.specs.Alphabet.{sextetOf}
 use Rattle.format.specs.Registry.{isText}
 use Rattle.format.specs.Units.{bytesOf, sextetsOf, tripletOf, textSextets, binarySextets}
@@ -59,6 +59,7 @@ Led (Fixed c) = Unit {0}
 Led (Variable t l m) = 0 < l → 0 < m
 Led (Group l) = Unit {0}
 Led Genus = Unit {0}
+Led (Indexed c) = Unit {0}
 
 pub raw-inside : (k : Kind) (h n : ℕ) → h ≤ n → Shaped k h n → Led k → rawStart k h ≤ 3 * n
 unfolding rawStart
@@ -72,3 +73,4 @@ raw-inside (Variable t (suc l) m) h n le s led =
     pick-by (λ (i : ℕ). i ≤ 3 * n) (isText t) _ _ (λ _. omega (arith, s .1)) (λ _. omega (arith, s .0, s .1, led (omega arith)))
 raw-inside (Group l) h n le s led = omega arith
 raw-inside Genus h n le s led = omega arith
+raw-inside (Indexed c) h n le s led = omega (arith, s .0 .inside, s .1)

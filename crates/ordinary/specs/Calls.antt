@@ -10,7 +10,7 @@ use lib.ListN.{length, getD, take, drop, length-map, length-take, List·getD-map
 use Rattle.base.specs.Pick.{pick, pick-by}
 use Rattle.base.specs.Lists.{map-take, map-drop}
 use Rattle.format.specs.declared.Kind.{Kind}
-use Rattle.format.specs.declared.Kind.the-variants.{Fixed, Variable, Group, Genus}
+use Rattle.format.specs.declared.Kind.the-variants.{Fixed, Variable, Group, Genus, Indexed}
 use Rattle.format.specs.declared.Framed.{Framed}
 use Rattle.format.specs.declared.Framed.the-variants.{Item, Unframed}
 use Rattle.format.specs.declared.Verdict.{Verdict}
@@ -95,7 +95,7 @@ unfoldable pub readingFive : Reading → Reading
 readingFive (refused m p) = refused (asFive m) p
 readingFive (found k h n) = found k h n
 
-judged-five : (k : Kind) (h n : ℕ) (v : Verdict) → judged k h n (verdictFive v) ≡ readingFive (judged k h n v)
+pub judged-five : (k : Kind) (h n : ℕ) (v : Verdict) → judged k h n (verdictFive v) ≡ readingFive (judged k h n v)
 unfolding judged verdictFive readingFive
 judged-five k h n Accepted = refl
 judged-five k h n (Refused m p) = refl
@@ -104,7 +104,7 @@ judged-five k h n (Refused m p) = refl
 own-header : (s : List ℕ) (k : Kind) (h n : ℕ) → frame s ≡ Item k h n → (i : ℕ) → i < 4 * h → sextet (take (4 * n) s) i < 64
 own-header s k h n e =
     let z : n * 4 ≡ 4 * n = omega arith in
-    rw z at (header-known (take (n * 4) s) k h n (frame-own s k h n e))
+    rw z at (header-known false (take (n * 4) s) k h n (frame-own false s k h n e))
 
 framed-reads : (s : List ℕ) (r : Framed) → frame s ≡ r → readFramed (framedFive r) (map plain s) ≡ readingFive (readFramed r s)
 unfolding readFramed framedFive readingFive asFive
@@ -118,7 +118,7 @@ framed-reads s (Item k h n) e =
 
 reading-five : (s : List ℕ) → reading (map plain s) ≡ readingFive (reading s)
 unfolding reading
-reading-five s = rw (frame-five s) (framed-reads s (frame s) refl)
+reading-five s = rw (frame-five false s) (framed-reads s (frame s) refl)
 
 -- what is read is in the alphabet
 read-known : (s : List ℕ) (k : Kind) (h n : ℕ) → reading s ≡ found k h n → take (4 * n) (map plain s) ≡ take (4 * n) s
@@ -132,7 +132,7 @@ answer-five at s room (found k h n) e =
     rw (read-known s k h n e) (pick-to textReadFive (ltb room (length (valueOf k h (take (4 * n) s)))) _ _ _ _ (λ _. refl) (λ _. refl))
 
 -- a masked text from an offset on
-from-masked : (s : List ℕ) (at : ℕ) → text .sextets (from at (masked s)) ≡ map plain (text .sextets (from at s))
+pub from-masked : (s : List ℕ) (at : ℕ) → text .sextets (from at (masked s)) ≡ map plain (text .sextets (from at s))
 unfolding from
 from-masked s at = rw (← map-drop mask at s) (sextets-masked (drop at s))
 

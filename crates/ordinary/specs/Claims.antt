@@ -11,6 +11,7 @@ use Rattle.format.specs.declared.Code.{Code}
 use Rattle.format.specs.declared.Framed.the-variants.{Unframed}
 use Rattle.format.specs.declared.Verdict.the-variants.{Refused}
 use Rattle.format.specs.declared.TextFound.the-variants as TF
+use Rattle.format.specs.declared.TextIndexed.the-variants as TI
 use Rattle.format.specs.declared.TextWritten.the-variants as TW
 use Rattle.format.specs.declared.BinaryWritten.the-variants as BW
 use Rattle.format.specs.Units.{text}
@@ -18,12 +19,13 @@ use Rattle.format.specs.Conversion.{textToBinary, binaryLeft}
 use Rattle.format.specs.Report.{RefusalRow, rowsIn, refusalsIn, remainderIn, frameIn, judgeIn, report, reportAnswer}
 use Rattle.format.specs.Reading.{readText, valueLeft}
 use Rattle.format.specs.Writing.{named, charsOf, writeText, textItemLeft, writeBinary, binaryItemLeft}
+use Rattle.format.specs.Indexed.{readIndexedText, indexedLeft}
 use Rattle.walk_state.specs.declared.Walk.{Walk}
 use Rattle.walk_state.specs.declared.Found.the-variants as F
 use Rattle.walk_state.specs.Walking.{stepIn}
 use Rattle.walk_claims.specs.Words.{after}
 use Rattle.ordinary.specs.Words.{masked, maskedText, OrdinaryAt, asFive, verdictFive, framedFive, rowFive, refusalFive, remainderFive, reportFive}
-use Rattle.ordinary.specs.Words.{toBinaryFive, textReadFive, textWrittenFive, binaryWrittenFive, steppedFive, Exactly, Each}
+use Rattle.ordinary.specs.Words.{toBinaryFive, textReadFive, textIndexedFive, textWrittenFive, binaryWrittenFive, steppedFive, Exactly, Each}
 
 -- ---- "every caller should report them as number 19 where they would have given 5, at the same place in the same order." If `!` stands for
 -- each of the three, each answer is the same, but that 5 is given for 19
@@ -43,7 +45,11 @@ pub record MaskedClaims : Type 0 where
   pub reads : (s : List ℕ) (at room : ℕ) → readText (masked s) at room ≡ textReadFive (readText s at room)
   pub reads-left : (s : List ℕ) (at : ℕ) (d : List ℕ)
       → valueLeft (readText (masked s) at (length d) .found) (masked s) at d ≡ valueLeft (readText s at (length d) .found) s at d
-  -- writing one, of its tag characters, and of a text's own (02 c)
+  -- reading an indexed item (02 a); what its writer is given has no characters
+  pub reads-indexed : (s : List ℕ) (at room : ℕ) → readIndexedText (masked s) at room ≡ textIndexedFive (readIndexedText s at room)
+  pub reads-indexed-left : (s : List ℕ) (at : ℕ) (d : List ℕ)
+      → indexedLeft (readIndexedText (masked s) at (length d)) (masked s) at d ≡ indexedLeft (readIndexedText s at (length d)) s at d
+  -- writing a primitive, of its tag characters, and of a text's own (02 c)
   pub writes-text : (code : Code) (tag : List ℕ) (tags : ℕ) (raw : List ℕ) (room : ℕ)
       → writeText code (masked tag) tags (maskedText (named code) raw) room ≡ textWrittenFive (writeText code tag tags raw room)
   pub text-left : (code : Code) (tag : List ℕ) (tags : ℕ) (raw d : List ℕ) → let chars = maskedText (named code) raw in
@@ -69,6 +75,8 @@ pub record NineteenClaims : Type 0 where
       → Exactly (textToBinary s room ≡ B.Refused 19 p) ((textToBinary (masked s) room ≡ B.Refused 5 p) × OrdinaryAt s (p .0))
   pub read : (s : List ℕ) (at room : ℕ) (p : TextOffset)
       → Exactly (readText s at room .found ≡ TF.Refused 19 p) ((readText (masked s) at room .found ≡ TF.Refused 5 p) × OrdinaryAt s (p .0))
+  pub read-indexed : (s : List ℕ) (at room : ℕ) (p : TextOffset)
+      → Exactly (readIndexedText s at room ≡ TI.Refused 19 p) ((readIndexedText (masked s) at room ≡ TI.Refused 5 p) × OrdinaryAt s (p .0))
   -- a writer's place is that among the characters asked: a text's own, for every other code the tag's
   pub written-text : (code : Code) (tag : List ℕ) (tags : ℕ) (raw : List ℕ) (room p : ℕ)
       → Exactly (writeText code tag tags raw room ≡ TW.Refused 19 p)

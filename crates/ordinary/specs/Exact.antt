@@ -41,7 +41,7 @@ use Rattle.walk_state.specs.declared.Found.{Found}
 use Rattle.walk_state.specs.declared.Found.the-variants as F
 use Rattle.walk_state.specs.declared.Stepped.{Stepped}
 use Rattle.walk_state.specs.Walking.{stopOf, foundIn, stepIn}
-use Rattle.laws.specs.Levels.{part, frameNext}
+use Rattle.laws.specs.Levels.{part}
 use Rattle.claims.specs.Demand1.{asked as asks}
 use Rattle.walk_claims.specs.Words.{unitsIn, tailOf}
 use Rattle.walk_claims.specs.Steps.{asked, step-by, in-by}
@@ -51,16 +51,16 @@ use Rattle.ordinary.specs.Marks.{number-ordinary}
 use Rattle.ordinary.specs.Reports.{framed-masked, judged-masked}
 use Rattle.ordinary.specs.Calls.{converts, reads, writes-text, writes-binary}
 use Rattle.ordinary.specs.Walks.{steps}
-use Rattle.ordinary.specs.Places.{Shown, On, FramedOn, behind-shown, within-shown, on-within, kind-on, check-on, frame-on, frameRuled-on}
+use Rattle.ordinary.specs.Places.{Shown, On, FramedOn, behind-shown, within-shown, on-within, kind-on, check-on, frame-on, next-on}
 use Rattle.ordinary.specs.Places.{in-text, framed-on, judged-on, rows-on}
 
 -- ---- one number at a place
 
 -- a 5 or 19 is the number of the character there
-abbrev Numbered : List ℕ → ℕ → ℕ → Type 0
+abbrev pub Numbered : List ℕ → ℕ → ℕ → Type 0
 Numbered s n p = asFive n ≡ 5 → n ≡ strangerNumber (sextetOf (getD s p 0))
 
-shown : (s : List ℕ) (n p : ℕ) → Shown sextetOf s n p → Numbered s n p
+pub shown : (s : List ℕ) (n p : ℕ) → Shown sextetOf s n p → Numbered s n p
 shown s n p h e = h e .1
 
 exact : (s : List ℕ) (n p : ℕ) → Numbered s n p → Exactly (n ≡ 19) ((asFive n ≡ 5) × OrdinaryAt s p)
@@ -83,10 +83,10 @@ module _ {X P : Type 0} (refuse : ℕ → P → X) (five : X → X) (place : P �
     (fives : (n : ℕ) (p : P) → five (refuse n p) ≡ refuse (asFive n) p)
     (same : (m n : ℕ) (p q : P) → refuse m p ≡ refuse n q → (m ≡ n) × (p ≡ q)) where
   -- it is a refusal, or no refusal has 5 for 19 in it
-  abbrev Seen : X → Type 0
+  abbrev pub Seen : X → Type 0
   Seen x = ((n : ℕ) × (p : P) × (x ≡ refuse n p)) ⊎ ((m : ℕ) (q : P) → five x ≡ refuse m q → ⊥)
 
-  exactly : (s : List ℕ) (x y : X) → y ≡ five x → Seen x → ((n : ℕ) (p : P) → x ≡ refuse n p → Numbered s n (place p))
+  pub exactly : (s : List ℕ) (x y : X) → y ≡ five x → Seen x → ((n : ℕ) (p : P) → x ≡ refuse n p → Numbered s n (place p))
       → (p : P) → Exactly (x ≡ refuse 19 p) ((y ≡ refuse 5 p) × OrdinaryAt s (place p))
   unfolding asFive
   exactly s x y e v h p = (λ f. (e ∙ ap five f ∙ fives 19 p, exact s 19 (place p) (h 19 p f) .0 refl .1), λ q. go v (q .0) (q .1))
@@ -169,11 +169,11 @@ converted s room p =
 
 -- ---- reading
 
-abbrev ReadOn : List ℕ → Reading → Type 0
+abbrev pub ReadOn : List ℕ → Reading → Type 0
 ReadOn s (refused m p) = Shown (λ x. x) s m p
 ReadOn s (found k h n) = Unit {0}
 
-judged-read : (s : List ℕ) (k : Kind) (h n : ℕ) (v : Verdict) → On (λ x. x) s v → ReadOn s (judged k h n v)
+pub judged-read : (s : List ℕ) (k : Kind) (h n : ℕ) (v : Verdict) → On (λ x. x) s v → ReadOn s (judged k h n v)
 unfolding judged
 judged-read s k h n Accepted o = tt
 judged-read s k h n (Refused m p) o = o
@@ -189,7 +189,7 @@ framed-read s (Item k h n) f =
 
 reading-on : (s : List ℕ) → ReadOn s (reading s)
 unfolding reading
-reading-on s = framed-read s (frame s) (frame-on s)
+reading-on s = framed-read s (frame s) (frame-on false s)
 
 abbrev FoundOn : List ℕ → TextFound → Type 0
 FoundOn s (TF.Found q) = Unit {0}
@@ -304,10 +304,6 @@ module _ (s : List ℕ) (w : Walk) where
       (within-shown (λ x. x) (4 * stop) (textSextets s) m (4 * at + p)
       (behind-shown (λ x. x) (4 * at) (take (4 * stop) (textSextets s)) m p o))))
 
-  next-on : (first : Bool) (t : List ℕ) → FramedOn (λ x. x) t (frameNext first t)
-  next-on true t = frameRuled-on t
-  next-on false t = frame-on t
-
   step-on : StepOn (stepIn text s w .found)
   unfolding foundIn asFive
   step-on =
@@ -315,7 +311,7 @@ module _ (s : List ℕ) (w : Walk) where
       (λ _ _. step-by (textSextets s) (unitsIn text s) (tailOf text s) w (λ r. StepOn (foundIn 4 (r .found)))
       (λ _ _ e. absurd (omega arith)) (λ _ _. tt)
       (λ m p _ e. part-on (w .at) (stopOf w (unitsIn text s)) m p
-      (subst (FramedOn (λ x. x) (part (textSextets s) (w .at) (stopOf w (unitsIn text s)))) e (next-on (asked w) _)))
+      (subst (FramedOn (λ x. x) (part (textSextets s) (w .at) (stopOf w (unitsIn text s)))) e (next-on (w .indexed) (asked w) _)))
       (λ k h m q p _ _ e. part-on (w .at) (w .at + m) q p
       (subst (On (λ x. x) (part (textSextets s) (w .at) (w .at + m))) e (kind-on k h _ (ownCheck (maxDepth - w .depth)) (check-on (maxDepth - w .depth)))))
       (λ k h m _ _ _. tt))

@@ -1,6 +1,6 @@
 -- Framing looks at a mark only for its number: a header of values is framed as it was, any other has 5 for 19. Assumes nothing.
 use Prim.Native.Nat.{ℕ, _+_, _*_, _/_, _<_, _≤_}
-use mathlib.Core.Path.{_≡_, refl, ap, _∙_, subst}
+use mathlib.Core.Path.{_≡_, refl, ap, sym, _∙_, subst}
 use mathlib.Core.List.{List, map}
 use mathlib.Core.Bool.{Bool, true, false}
 use mathlib.Core.Logic.{⊎-elim}
@@ -11,15 +11,15 @@ use lib.ListN.{length, getD, length-map}
 use Rattle.base.specs.Pick.{pick, pick-by}
 use Rattle.base.specs.Cases.{lt-or-ge}
 use Rattle.format.specs.declared.Kind.{Kind}
-use Rattle.format.specs.declared.Kind.the-variants.{Fixed, Variable, Group, Genus}
+use Rattle.format.specs.declared.Kind.the-variants.{Fixed, Variable, Group, Genus, Indexed}
 use Rattle.format.specs.declared.Opening.{Opening}
-use Rattle.format.specs.declared.Opening.the-variants.{Unknown, Short, LargeVariable, LargeGroup, Version}
+use Rattle.format.specs.declared.Opening.the-variants.{Unknown, Short, Long, LargeVariable, LargeGroup, Version}
 use Rattle.format.specs.declared.Framed.{Framed}
 use Rattle.format.specs.declared.Framed.the-variants.{Item, Unframed}
 use Rattle.format.specs.Alphabet.{strangerNumber}
-use Rattle.format.specs.Registry.{opening, extent}
-use Rattle.format.specs.Framing.{fit, known, second, digits4, headed, frameWith, isOurs, ruled, sextet, frame, frameRuled, scale}
-use Rattle.laws.specs.Framing.{Known, Good, Lawful, long, known-by, frame-good}
+use Rattle.format.specs.Registry.{openingBy, extent}
+use Rattle.format.specs.Framing.{fit, known, second, digits4, headed, frameWith, isOurs, ruled, sextet, frameBy, frameNext, frameRuled, scale}
+use Rattle.laws.specs.Framing.{Known, Good, Lawful, long, known-by, by-with, by-good}
 use Rattle.ordinary.specs.Words.{asFive, framedFive}
 use Rattle.ordinary.specs.Marks.{pick-to, plain, plain-test, plain-value, plain-number, plain-at}
 
@@ -58,18 +58,19 @@ module _ (at : ℕ → ℕ) (first : Known at 0) where
   unfolding headed extent
   headed-header Unknown len = tt
   headed-header (Short k n) len = fit-header k 1 n len (λ i u. four at 0 first i (omega arith) (omega arith))
+  headed-header (Long k n) len = long-header (λ m. k) (extent (Long k n)) len
   headed-header (LargeVariable t l) len = long-header (Variable t l) (extent (LargeVariable t l)) len
   headed-header (LargeGroup l d) len = long-header (λ m. Group l) (extent (LargeGroup l d)) len
   headed-header Version len = long-header (λ m. Genus) (extent Version) len
 
-frame-header : (s : List ℕ) → Header (sextet s) (frame s)
-unfolding frame frameWith
-frame-header s =
+with-header : (op : ℕ → ℕ → ℕ → ℕ → Opening) (s : List ℕ) → Header (sextet s) (frameWith op (sextet s) (length s / 4))
+unfolding frameWith
+with-header op s =
     pick-by (Header (sextet s)) (ltb (length s / 4) 1) _ _ (λ _. tt)
     (λ _. known-by (Header (sextet s)) (sextet s) 0 _ (λ j b. tt) (λ k. headed-header (sextet s) k _ (length s / 4)))
 
-pub header-known : (s : List ℕ) (k : Kind) (h n : ℕ) → frame s ≡ Item k h n → (i : ℕ) → i < 4 * h → sextet s i < 64
-header-known s k h n e = subst (Header (sextet s)) e (frame-header s)
+pub header-known : (t : Bool) (s : List ℕ) (k : Kind) (h n : ℕ) → frameBy t s ≡ Item k h n → (i : ℕ) → i < 4 * h → sextet s i < 64
+header-known t s k h n e = subst (Header (sextet s)) (sym (by-with t s) ∙ e) (with-header (openingBy t) s)
 
 -- ---- the same tests, the same answers
 
@@ -111,6 +112,7 @@ module _ (at at′ : ℕ → ℕ) (e : (i : ℕ) → at′ i ≡ plain (at i)) w
   unfolding headed framedFive asFive extent
   headed-five Unknown len = refl
   headed-five (Short k n) len = fit-five k 1 n len
+  headed-five (Long k n) len = long-five (λ m. k) (extent (Long k n)) len
   headed-five (LargeVariable t l) len = long-five (Variable t l) (extent (LargeVariable t l)) len
   headed-five (LargeGroup l d) len = long-five (λ m. Group l) (extent (LargeGroup l d)) len
   headed-five Version len = long-five (λ m. Genus) (extent Version) len
@@ -123,9 +125,11 @@ module _ (at at′ : ℕ → ℕ) (e : (i : ℕ) → at′ i ≡ plain (at i)) w
 
 -- ---- lists
 
-pub frame-five : (s : List ℕ) → frame (map plain s) ≡ framedFive (frame s)
-unfolding frame
-frame-five s = rw (length-map s plain) (with-five (sextet s) (sextet (map plain s)) (plain-at s) opening (length s / 4))
+-- by either table
+pub frame-five : (t : Bool) (s : List ℕ) → frameBy t (map plain s) ≡ framedFive (frameBy t s)
+frame-five t s =
+    by-with t (map plain s)
+    ∙ rw (length-map s plain, by-with t s) (with-five (sextet s) (sextet (map plain s)) (plain-at s) (openingBy t) (length s / 4))
 
 same-ours : (s : List ℕ) → ((i : ℕ) → i < 8 → sextet s i < 64) → isOurs (sextet (map plain s)) ≡ isOurs (sextet s)
 unfolding isOurs
@@ -140,19 +144,26 @@ genus-five h n true = refl
 genus-five h n false = refl
 
 -- 7 is asked of a genus/version, whose two units are known
-ruled-five : (s : List ℕ) (r : Framed) → frame s ≡ r → ruled (sextet (map plain s)) (framedFive r) ≡ framedFive (ruled (sextet s) r)
+ruled-five : (t : Bool) (s : List ℕ) (r : Framed) → frameBy t s ≡ r
+    → ruled (sextet (map plain s)) (framedFive r) ≡ framedFive (ruled (sextet s) r)
 unfolding ruled framedFive
-ruled-five s (Unframed n p) e = refl
-ruled-five s (Item (Fixed c) h n) e = refl
-ruled-five s (Item (Variable t l m) h n) e = refl
-ruled-five s (Item (Group l) h n) e = refl
-ruled-five s (Item Genus h n) e =
-    let g = subst (Good (frameWith opening) (sextet s) (length s / 4)) e (frame-good s) in
-    rw (same-ours s (λ i u. header-known s Genus h n e i (omega (arith, g .shape .0)))) (genus-five h n (isOurs (sextet s)))
+ruled-five t s (Unframed n p) e = refl
+ruled-five t s (Item (Fixed c) h n) e = refl
+ruled-five t s (Item (Variable v l m) h n) e = refl
+ruled-five t s (Item (Group l) h n) e = refl
+ruled-five t s (Item (Indexed c) h n) e = refl
+ruled-five t s (Item Genus h n) e =
+    let g = subst (Good (frameWith (openingBy t)) (sextet s) (length s / 4)) e (by-good t s) in
+    rw (same-ours s (λ i u. header-known t s Genus h n e i (omega (arith, g .shape .0)))) (genus-five h n (isOurs (sextet s)))
+
+pub next-five : (t first : Bool) (s : List ℕ) → frameNext t first (map plain s) ≡ framedFive (frameNext t first s)
+unfolding frameNext
+next-five t true s = rw (frame-five t s) (ruled-five t s (frameBy t s) refl)
+next-five t false s = frame-five t s
 
 pub frameRuled-five : (s : List ℕ) → frameRuled (map plain s) ≡ framedFive (frameRuled s)
-unfolding frameRuled
-frameRuled-five s = rw (frame-five s) (ruled-five s (frame s) refl)
+unfolding frameRuled frameNext
+frameRuled-five s = next-five false true s
 
 pub scale-five : (u : ℕ) (r : Framed) → scale u (framedFive r) ≡ framedFive (scale u r)
 unfolding scale framedFive

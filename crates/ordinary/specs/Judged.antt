@@ -14,22 +14,22 @@ use Rattle.base.specs.Cases.{lt-or-ge}
 use Rattle.base.specs.Lists.{map-take, map-drop}
 use Rattle.base.specs.Digits.{Below, below-at, below-all}
 use Rattle.format.specs.declared.Kind.{Kind}
-use Rattle.format.specs.declared.Kind.the-variants.{Fixed, Variable, Group, Genus}
+use Rattle.format.specs.declared.Kind.the-variants.{Fixed, Variable, Group, Genus, Indexed}
 use Rattle.format.specs.declared.Framed.{Framed}
 use Rattle.format.specs.declared.Framed.the-variants.{Item, Unframed}
 use Rattle.format.specs.declared.Verdict.{Verdict}
 use Rattle.format.specs.declared.Verdict.the-variants.{Accepted, Refused}
-use Rattle.format.specs.Registry.{isOpaque, isOverrideable}
-use Rattle.format.specs.Framing.{sextet, frame, frameRuled, scale}
+use Rattle.format.specs.Registry.{isIndexed, isOverrideable}
+use Rattle.format.specs.Framing.{sextet, frameBy, frameNext, scale}
 use Rattle.format.specs.Cutting.{Cut, cutBy, cutF, cut}
 use Rattle.format.specs.Cutting.Cut.{done, stopped, item}
-use Rattle.format.specs.Judging.{shift, andThen, unless, scan, behind, judgeKind, judgeBy, inTurn, frame4, frameRuled4, contents}
-use Rattle.format.specs.Judging.{ownCheck, group, judge}
+use Rattle.format.specs.Judging.{shift, andThen, unless, scan, behind, judgeKind, judgeBy, inTurn, frame4, frameNext4, contents}
+use Rattle.format.specs.Judging.{ownCheck, group, judgeWith, judge}
 use Rattle.laws.specs.Levels.{shift-accepted}
 use Rattle.roundtrip.specs.Reads.{low-scan}
 use Rattle.ordinary.specs.Words.{asFive, verdictFive, framedFive}
 use Rattle.ordinary.specs.Marks.{pick-to, plain, plain-test, plain-number, plain-all}
-use Rattle.ordinary.specs.Framed.{header-known, frame-five, frameRuled-five, scale-five}
+use Rattle.ordinary.specs.Framed.{header-known, frame-five, next-five, scale-five}
 
 -- ---- verdicts
 
@@ -94,12 +94,15 @@ kind-five (Variable t l m) h s go low g =
     (λ _. then-five _ _ _ _ (unless-five 8 _ (λ e. omega arith)) (λ _. unless-five 16 _ (λ e. omega arith))))))
 kind-five (Group l) h s go low g = rw (← map-drop plain (4 * h) s) (g l h (drop (4 * h) s))
 kind-five Genus h s go low g = refl
+kind-five (Indexed c) h s go low g =
+    then-five _ _ _ _ (behind-five h s)
+    (λ a. rw (whole h s low a) (then-five _ _ _ _ (unless-five 8 _ (λ e. omega arith)) (λ _. unless-five 15 _ (λ e. omega arith))))
 
-by-five : (s : List ℕ) (go : ℕ → ℕ → List ℕ → Verdict) → Inner go → (r : Framed) → frame s ≡ r
+by-five : (t : Bool) (s : List ℕ) (go : ℕ → ℕ → List ℕ → Verdict) → Inner go → (r : Framed) → frameBy t s ≡ r
     → judgeBy (framedFive r) (map plain s) go ≡ verdictFive (judgeBy r s go)
 unfolding judgeBy framedFive verdictFive
-by-five s go g (Item k h n) e = kind-five k h s go (header-known s k h n e) g
-by-five s go g (Unframed n p) e = refl
+by-five t s go g (Item k h n) e = kind-five k h s go (header-known t s k h n e) g
+by-five t s go g (Unframed n p) e = refl
 
 -- ---- items one behind the other: any framing of elements that a mask f changes
 
@@ -125,21 +128,20 @@ module _ (f : ℕ → ℕ) (frame′ : List ℕ → Framed) (e : (xs : List ℕ)
   unfolding cut
   cut-five xs = rw (length-map xs f) (turns-five (length xs) xs)
 
-frame4-five : (s : List ℕ) → frame4 (map plain s) ≡ framedFive (frame4 s)
+frame4-five : (t : Bool) (s : List ℕ) → frame4 t (map plain s) ≡ framedFive (frame4 t s)
 unfolding frame4
-frame4-five s = rw (frame-five s) (scale-five 4 (frame s))
+frame4-five t s = rw (frame-five t s) (scale-five 4 (frameBy t s))
 
-frameRuled4-five : (s : List ℕ) → frameRuled4 (map plain s) ≡ framedFive (frameRuled4 s)
-unfolding frameRuled4
-frameRuled4-five s = rw (frameRuled-five s) (scale-five 4 (frameRuled s))
+frameNext4-five : (t first : Bool) (s : List ℕ) → frameNext4 t first (map plain s) ≡ framedFive (frameNext4 t first s)
+unfolding frameNext4
+frameNext4-five t first s = rw (next-five t first s) (scale-five 4 (frameNext t first s))
 
-contents-five : (first : Bool) (s : List ℕ) → contents first (map plain s) ≡ cutFive plain (contents first s)
+contents-five : (t first : Bool) (s : List ℕ) → contents t first (map plain s) ≡ cutFive plain (contents t first s)
 unfolding contents cutFive
-contents-five first [] = refl
-contents-five true (x ∷ s) =
-    rw (frameRuled4-five (x ∷ s)) (cut-by plain (frameRuled4 (x ∷ s)) (x ∷ s) (cut frame4) (cut-five plain frame4 frame4-five))
-contents-five false (x ∷ s) =
-    rw (frame4-five (x ∷ s)) (cut-by plain (frame4 (x ∷ s)) (x ∷ s) (cut frame4) (cut-five plain frame4 frame4-five))
+contents-five t first [] = refl
+contents-five t first (x ∷ s) =
+    rw (frameNext4-five t first (x ∷ s))
+    (cut-by plain (frameNext4 t first (x ∷ s)) (x ∷ s) (cut (frame4 t)) (cut-five plain (frame4 t) (frame4-five t)))
 
 turn-five : (j : List ℕ → Verdict) → ((s : List ℕ) → j (map plain s) ≡ verdictFive (j s)) → (c : Cut)
     → inTurn j (cutFive plain c) ≡ verdictFive (inTurn j c)
@@ -155,31 +157,28 @@ turn-five j h (item i c) =
 pub check-five : (l : ℕ) → Inner (ownCheck l)
 unfolding ownCheck verdictFive asFive
 check-five zero letter h ys = refl
-check-five (suc l) letter h ys =
-    rw (length-map ys plain)
-    (then-five _ _ _ _ (unless-five 18 _ (λ e. omega arith))
-    (λ _. pick-to verdictFive (isOpaque letter) _ _ _ _ (λ _. rw (scan-five ys) (shift-five (4 * h) (scan ys))) (λ _. refl)))
+check-five (suc l) letter h ys = rw (length-map ys plain) (unless-five 18 _ (λ e. omega arith))
 
-judge-by-five : (go : ℕ → ℕ → List ℕ → Verdict) → Inner go → (s : List ℕ)
-    → judgeBy (frame (map plain s)) (map plain s) go ≡ verdictFive (judgeBy (frame s) s go)
-judge-by-five go g s = rw (frame-five s) (by-five s go g (frame s) refl)
+judge-by-five : (t : Bool) (go : ℕ → ℕ → List ℕ → Verdict) → Inner go → (s : List ℕ)
+    → judgeBy (frameBy t (map plain s)) (map plain s) go ≡ verdictFive (judgeBy (frameBy t s) s go)
+judge-by-five t go g s = rw (frame-five t s) (by-five t s go g (frameBy t s) refl)
 
-within-five : (go : ℕ → ℕ → List ℕ → Verdict) → Inner go → (first : Bool) (ys : List ℕ)
-    → inTurn (λ zs. judgeBy (frame zs) zs go) (contents first (map plain ys))
-    ≡ verdictFive (inTurn (λ zs. judgeBy (frame zs) zs go) (contents first ys))
-within-five go g first ys =
-    ap (inTurn (λ zs. judgeBy (frame zs) zs go)) (contents-five first ys)
-    ∙ turn-five (λ zs. judgeBy (frame zs) zs go) (judge-by-five go g) (contents first ys)
+within-five : (t : Bool) (go : ℕ → ℕ → List ℕ → Verdict) → Inner go → (first : Bool) (ys : List ℕ)
+    → inTurn (λ zs. judgeBy (frameBy t zs) zs go) (contents t first (map plain ys))
+    ≡ verdictFive (inTurn (λ zs. judgeBy (frameBy t zs) zs go) (contents t first ys))
+within-five t go g first ys =
+    ap (inTurn (λ zs. judgeBy (frameBy t zs) zs go)) (contents-five t first ys)
+    ∙ turn-five (λ zs. judgeBy (frameBy t zs) zs go) (judge-by-five t go g) (contents t first ys)
 
 group-five : (l : ℕ) → Inner (group l)
 unfolding group verdictFive
 group-five zero letter h ys = check-five zero letter h ys
 group-five (suc l) letter h ys =
+    let t = isIndexed letter in
     then-five _ _ _ _ (check-five (suc l) letter h ys)
-    (λ _. pick-to verdictFive (isOpaque letter) _ _ _ _ (λ _. refl)
-    (λ _. ap (shift (4 * h)) (within-five (group l) (group-five l) (isOverrideable letter) ys)
-    ∙ shift-five (4 * h) (inTurn (λ zs. judgeBy (frame zs) zs (group l)) (contents (isOverrideable letter) ys))))
+    (λ _. ap (shift (4 * h)) (within-five t (group l) (group-five l) (isOverrideable letter) ys)
+    ∙ shift-five (4 * h) (inTurn (λ zs. judgeBy (frameBy t zs) zs (group l)) (contents t (isOverrideable letter) ys)))
 
 pub judge-five : (l : ℕ) (s : List ℕ) → judge l (map plain s) ≡ verdictFive (judge l s)
-unfolding judge
-judge-five l s = judge-by-five (group l) (group-five l) s
+unfolding judgeWith
+judge-five l s = judge-by-five false (group l) (group-five l) s

@@ -8,4 +8,5 @@ pub mod Calls
 pub mod Walks
 pub mod Places
 pub mod Exact
+pub mod IndexedReads
 pub mod Proved

@@ -14,23 +14,23 @@ use lib.Seq.{getD-drop, getD-append-add}
 use Rattle.base.specs.Pick.{pick, pick-by}
 use Rattle.base.specs.Cases.{lt-or-ge}
 use Rattle.format.specs.declared.Kind.{Kind}
-use Rattle.format.specs.declared.Kind.the-variants.{Fixed, Variable, Group, Genus}
+use Rattle.format.specs.declared.Kind.the-variants.{Fixed, Variable, Group, Genus, Indexed}
 use Rattle.format.specs.declared.Opening.{Opening}
-use Rattle.format.specs.declared.Opening.the-variants.{Unknown, Short, LargeVariable, LargeGroup, Version}
+use Rattle.format.specs.declared.Opening.the-variants.{Unknown, Short, Long, LargeVariable, LargeGroup, Version}
 use Rattle.format.specs.declared.Framed.{Framed}
 use Rattle.format.specs.declared.Framed.the-variants.{Item, Unframed}
 use Rattle.format.specs.declared.Verdict.{Verdict}
 use Rattle.format.specs.declared.Verdict.the-variants.{Accepted, Refused}
 use Rattle.format.specs.Alphabet.{sextetOf, strangerNumber}
 use Rattle.format.specs.Units.{text, textSextets}
-use Rattle.format.specs.Registry.{isOpaque, isOverrideable}
-use Rattle.format.specs.Framing.{fit, second, headed, frameWith, isOurs, ruled, sextet, frame, frameRuled, scale}
+use Rattle.format.specs.Registry.{isIndexed, isOverrideable, openingBy}
+use Rattle.format.specs.Framing.{fit, second, headed, frameWith, isOurs, ruled, sextet, frame, frameBy, frameNext, frameRuled, scale}
 use Rattle.format.specs.Cutting.{Cut, cutBy, cutF, cut}
 use Rattle.format.specs.Cutting.Cut.{done, stopped, item}
-use Rattle.format.specs.Judging.{shift, andThen, unless, scan, behind, judgeKind, judgeBy, inTurn, frame4, frameRuled4, contents}
-use Rattle.format.specs.Judging.{ownCheck, group, judge, maxDepth}
+use Rattle.format.specs.Judging.{shift, andThen, unless, scan, behind, judgeKind, judgeBy, inTurn, frame4, frameNext4, contents}
+use Rattle.format.specs.Judging.{ownCheck, group, judgeWith, judge, maxDepth}
 use Rattle.format.specs.Report.{ItemRow, RefusalRow, rowsOf, refusal, refusalsOf, rows, refusals, placed, frameIn, judgeIn, rowsIn, refusalsIn}
-use Rattle.laws.specs.Framing.{known-by}
+use Rattle.laws.specs.Framing.{known-by, by-with}
 use Rattle.laws.specs.Local.{text-sextet}
 use Rattle.ordinary.specs.Words.{asFive, Each}
 
@@ -161,15 +161,20 @@ headed-on : (s : List ℕ) (o : Opening) (len : ℕ) → FramedOn own s (headed 
 unfolding headed isOther asFive
 headed-on s Unknown len = other own 6 s 0 (λ e. omega arith)
 headed-on s (Short k n) len = fit-on s k 1 n len
+headed-on s (Long k n) len = second-on s len _ (fit-on s _ 2 _ len)
 headed-on s (LargeVariable t l) len = second-on s len _ (fit-on s _ 2 _ len)
 headed-on s (LargeGroup l d) len = second-on s len _ (fit-on s _ 2 _ len)
 headed-on s Version len = second-on s len _ (fit-on s _ 2 _ len)
 
-pub frame-on : (s : List ℕ) → FramedOn own s (frame s)
-unfolding frame frameWith
-frame-on s =
+with-on : (op : ℕ → ℕ → ℕ → ℕ → Opening) (s : List ℕ) → FramedOn own s (frameWith op (sextet s) (length s / 4))
+unfolding frameWith
+with-on op s =
     pick-by (FramedOn own s) (ltb (length s / 4) 1) (Unframed 4 0) _ (λ _. other own 4 s 0 four)
     (λ _. known-by (FramedOn own s) (sextet s) 0 _ (bad-on s) (λ _. headed-on s _ _))
+
+-- by either table
+pub frame-on : (t : Bool) (s : List ℕ) → FramedOn own s (frameBy t s)
+frame-on t s = rw (by-with t s) (with-on (openingBy t) s)
 
 ruled-on : (s : List ℕ) (r : Framed) → FramedOn own s r → FramedOn own s (ruled (sextet s) r)
 unfolding ruled isOther asFive
@@ -177,12 +182,18 @@ ruled-on s (Unframed n p) f = f
 ruled-on s (Item (Fixed c) h n) f = tt
 ruled-on s (Item (Variable t l m) h n) f = tt
 ruled-on s (Item (Group l) h n) f = tt
+ruled-on s (Item (Indexed c) h n) f = tt
 ruled-on s (Item Genus h n) f =
     pick-by (FramedOn own s) (isOurs (sextet s)) (Item Genus h n) (Unframed 7 0) (λ _. tt) (λ _. other own 7 s 0 (λ e. omega arith))
 
-pub frameRuled-on : (s : List ℕ) → FramedOn own s (frameRuled s)
-unfolding frameRuled
-frameRuled-on s = ruled-on s (frame s) (frame-on s)
+pub next-on : (t first : Bool) (s : List ℕ) → FramedOn own s (frameNext t first s)
+unfolding frameNext
+next-on t true s = ruled-on s (frameBy t s) (frame-on t s)
+next-on t false s = frame-on t s
+
+frameRuled-on : (s : List ℕ) → FramedOn own s (frameRuled s)
+unfolding frameRuled frameNext
+frameRuled-on s = next-on false true s
 
 scale-on : (v : ℕ → ℕ) (u : ℕ) (s : List ℕ) (r : Framed) → FramedOn v s r → FramedOn v s (scale u r)
 unfolding scale
@@ -217,46 +228,46 @@ kind-on (Variable t l m) h s go g =
     (then-on own s _ _ (unless-on own s 8 _ (λ e. omega arith)) (unless-on own s 16 _ (λ e. omega arith)))))
 kind-on (Group l) h s go g = g l h s
 kind-on Genus h s go g = tt
+kind-on (Indexed c) h s go g =
+    then-on own s _ _ (behind-on h s)
+    (then-on own s _ _ (unless-on own s 8 _ (λ e. omega arith)) (unless-on own s 15 _ (λ e. omega arith)))
 
 by-on : (s : List ℕ) (go : ℕ → ℕ → List ℕ → Verdict) → Inner go → (r : Framed) → FramedOn own s r → On own s (judgeBy r s go)
 unfolding judgeBy
 by-on s go g (Item k h n) f = kind-on k h s go g
 by-on s go g (Unframed n p) f = f
 
-frame4-on : (s : List ℕ) → FramedOn own s (frame4 s)
+frame4-on : (t : Bool) (s : List ℕ) → FramedOn own s (frame4 t s)
 unfolding frame4
-frame4-on s = scale-on own 4 s (frame s) (frame-on s)
+frame4-on t s = scale-on own 4 s (frameBy t s) (frame-on t s)
 
-contents-of : (first : Bool) (s : List ℕ) → Of own s (contents first s)
-unfolding contents frameRuled4
-contents-of first [] = tt
-contents-of true (x ∷ s) =
-    of-by own (x ∷ s) (frameRuled4 (x ∷ s)) (scale-on own 4 (x ∷ s) (frameRuled (x ∷ s)) (frameRuled-on (x ∷ s))) (cut frame4)
-    (of-cut own frame4 frame4-on)
-contents-of false (x ∷ s) = of-by own (x ∷ s) (frame4 (x ∷ s)) (frame4-on (x ∷ s)) (cut frame4) (of-cut own frame4 frame4-on)
+contents-of : (t first : Bool) (s : List ℕ) → Of own s (contents t first s)
+unfolding contents frameNext4
+contents-of t first [] = tt
+contents-of t first (x ∷ s) =
+    of-by own (x ∷ s) (frameNext4 t first (x ∷ s)) (scale-on own 4 (x ∷ s) (frameNext t first (x ∷ s)) (next-on t first (x ∷ s))) (cut (frame4 t))
+    (of-cut own (frame4 t) (frame4-on t))
 
 pub check-on : (l : ℕ) → Inner (ownCheck l)
 unfolding ownCheck isOther asFive
 check-on zero letter h s = other own 11 s 0 (λ e. omega arith)
-check-on (suc l) letter h s =
-    then-on own s _ _ (unless-on own s 18 _ (λ e. omega arith))
-    (pick-by (On own s) (isOpaque letter) _ Accepted (λ _. on-behind own (4 * h) s (scan (drop (4 * h) s)) (scan-on (drop (4 * h) s))) (λ _. tt))
+check-on (suc l) letter h s = unless-on own s 18 _ (λ e. omega arith)
 
 group-on : (l : ℕ) → Inner (group l)
 unfolding group
 group-on zero letter h s = check-on zero letter h s
 group-on (suc l) letter h s =
-    let j : List ℕ → Verdict = λ zs. judgeBy (frame zs) zs (group l) in
-    let c : Cut = contents (isOverrideable letter) (drop (4 * h) s) in
+    let t = isIndexed letter in
+    let j : List ℕ → Verdict = λ zs. judgeBy (frameBy t zs) zs (group l) in
+    let c : Cut = contents t (isOverrideable letter) (drop (4 * h) s) in
     then-on own s _ _ (check-on (suc l) letter h s)
-    (pick-by (On own s) (isOpaque letter) Accepted (shift (4 * h) (inTurn j c)) (λ _. tt)
-    (λ _. on-behind own (4 * h) s (inTurn j c)
-    (turn-on own j (λ zs. by-on zs (group l) (group-on l) (frame zs) (frame-on zs)) (drop (4 * h) s) c
-    (contents-of (isOverrideable letter) (drop (4 * h) s)))))
+    (on-behind own (4 * h) s (inTurn j c)
+    (turn-on own j (λ zs. by-on zs (group l) (group-on l) (frameBy t zs) (frame-on t zs)) (drop (4 * h) s) c
+    (contents-of t (isOverrideable letter) (drop (4 * h) s))))
 
 judge-on : (l : ℕ) (s : List ℕ) → On own s (judge l s)
-unfolding judge
-judge-on l s = by-on s (group l) (group-on l) (frame s) (frame-on s)
+unfolding judgeWith
+judge-on l s = by-on s (group l) (group-on l) (frame s) (frame-on false s)
 
 -- ---- a text's characters
 

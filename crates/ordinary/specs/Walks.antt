@@ -15,9 +15,9 @@ use Rattle.format.specs.declared.Framed.the-variants.{Item, Unframed}
 use Rattle.format.specs.declared.Verdict.{Verdict}
 use Rattle.format.specs.declared.Verdict.the-variants.{Accepted, Refused}
 use Rattle.format.specs.Units.{text}
-use Rattle.format.specs.Framing.{sextet, frame, frameRuled}
+use Rattle.format.specs.Framing.{sextet, frameBy}
 use Rattle.format.specs.Judging.{judgeKind, ownCheck, maxDepth}
-use Rattle.laws.specs.Levels.{part, part-take, frameNext, any-item, item-sizes, frame-own}
+use Rattle.laws.specs.Levels.{part, part-take, any-item, item-sizes, frame-own}
 use Rattle.walk_state.specs.declared.Walk.{Walk}
 use Rattle.walk_state.specs.declared.Found.{Found}
 use Rattle.walk_state.specs.declared.Found.the-variants as F
@@ -27,7 +27,7 @@ use Rattle.walk_claims.specs.Words.{after}
 use Rattle.walk_claims.specs.Steps.{inElements}
 use Rattle.ordinary.specs.Words.{mask, masked, asFive, verdictFive, framedFive, foundFive, steppedFive}
 use Rattle.ordinary.specs.Marks.{pick-to, plain, sextets-masked}
-use Rattle.ordinary.specs.Framed.{header-known, frame-five, frameRuled-five}
+use Rattle.ordinary.specs.Framed.{header-known, next-five}
 use Rattle.ordinary.specs.Judged.{kind-five, check-five}
 
 part-five : (s : List ℕ) (at stop : ℕ) → part (map plain s) at stop ≡ map plain (part s at stop)
@@ -35,18 +35,11 @@ part-five s at stop = rw (← map-take plain (4 * stop) s, ← map-drop plain (4
 
 framed-five : (w : Walk) (s : List ℕ) → frameAt w (map plain s) ≡ framedFive (frameAt w s)
 unfolding frameAt
-framed-five w s =
-    pick-to framedFive (eqb (w .depth) 0) _ _ _ _ (λ _. frameRuled-five s)
-    (λ _. pick-to framedFive (w .first) _ _ _ _ (λ _. frameRuled-five s) (λ _. frame-five s))
+framed-five w s = next-five (w .indexed) _ s
 
-framed-item : (w : Walk) (s : List ℕ) (k : Kind) (h n : ℕ) → frameAt w s ≡ Item k h n → frame s ≡ Item k h n
+framed-item : (w : Walk) (s : List ℕ) (k : Kind) (h n : ℕ) → frameAt w s ≡ Item k h n → frameBy (w .indexed) s ≡ Item k h n
 unfolding frameAt
-framed-item w s k h n = go (eqb (w .depth) 0) (w .first)
-  where
-    go : (a b : Bool) → pick a (frameRuled s) (pick b (frameRuled s) (frame s)) ≡ Item k h n → frame s ≡ Item k h n
-    go true b e = any-item true s k h n e
-    go false true e = any-item true s k h n e
-    go false false e = e
+framed-item w s k h n e = any-item (w .indexed) _ s k h n e
 
 judged-five : (w : Walk) (k : Kind) (h n : ℕ) (v : Verdict) → judged w k h n (verdictFive v) ≡ steppedFive (judged w k h n v)
 unfolding judged verdictFive steppedFive foundFive
@@ -54,12 +47,12 @@ judged-five w k h n Accepted = refl
 judged-five w k h n (Refused m p) = refl
 
 -- the header of an item that is framed within a part stands in the item's own sextets
-own-header : (s : List ℕ) (at stop : ℕ) (k : Kind) (h n : ℕ) → frame (part s at stop) ≡ Item k h n
+own-header : (t : Bool) (s : List ℕ) (at stop : ℕ) (k : Kind) (h n : ℕ) → frameBy t (part s at stop) ≡ Item k h n
     → (i : ℕ) → i < 4 * h → sextet (part s at (at + n)) i < 64
-own-header s at stop k h n e =
-    let z = item-sizes (part s at stop) k h n e in
+own-header t s at stop k h n e =
+    let z = item-sizes t (part s at stop) k h n e in
     rw (part-take s at n stop (omega (arith, length-drop (4 * at) (take (4 * stop) s), length-take (4 * stop) s))) at
-    (header-known (take (n * 4) (part s at stop)) k h n (frame-own (part s at stop) k h n e))
+    (header-known t (take (n * 4) (part s at stop)) k h n (frame-own t (part s at stop) k h n e))
 
 by-five : (s : List ℕ) (w : Walk) (stop : ℕ) (r : Framed) → frameAt w (part s (w .at) stop) ≡ r
     → framedBy (map plain s) w (framedFive r) ≡ steppedFive (framedBy s w r)
@@ -69,7 +62,7 @@ by-five s w stop (Item k h n) e =
     rw (
       part-five s (w .at) (w .at + n),
       kind-five k h (part s (w .at) (w .at + n)) (ownCheck (maxDepth - w .depth))
-          (own-header s (w .at) stop k h n (framed-item w (part s (w .at) stop) k h n e)) (check-five (maxDepth - w .depth)),
+          (own-header (w .indexed) s (w .at) stop k h n (framed-item w (part s (w .at) stop) k h n e)) (check-five (maxDepth - w .depth)),
     )
     (judged-five w k h n (judgeKind k h (part s (w .at) (w .at + n)) (ownCheck (maxDepth - w .depth))))
 

@@ -16,6 +16,8 @@ use Rattle.format.specs.declared.ToBinary.the-variants as B
 use Rattle.format.specs.declared.TextFound.{TextFound}
 use Rattle.format.specs.declared.TextFound.the-variants as TF
 use Rattle.format.specs.declared.TextRead.{TextRead}
+use Rattle.format.specs.declared.TextIndexed.{TextIndexed}
+use Rattle.format.specs.declared.TextIndexed.the-variants as TI
 use Rattle.format.specs.declared.TextWritten.{TextWritten}
 use Rattle.format.specs.declared.TextWritten.the-variants as TW
 use Rattle.format.specs.declared.BinaryWritten.{BinaryWritten}
@@ -89,6 +91,10 @@ textFoundFive (TF.Refused m p) = TF.Refused (asFive m) p
 
 unfoldable pub textReadFive : TextRead → TextRead
 textReadFive r = record { found = textFoundFive (r .found); tag = r .tag }
+
+unfoldable pub textIndexedFive : TextIndexed → TextIndexed
+textIndexedFive (TI.Found q) = TI.Found q
+textIndexedFive (TI.Refused m p) = TI.Refused (asFive m) p
 
 unfoldable pub textWrittenFive : TextWritten → TextWritten
 textWrittenFive (TW.Written n) = TW.Written n

@@ -5,7 +5,7 @@ use mathlib.Core.List.{List, map, _++_}
 use lib.ListN.{take, drop, replicate}
 use Rattle.format.specs.Alphabet.{charOf}
 use Rattle.format.specs.declared.Kind.{Kind}
-use Rattle.format.specs.declared.Kind.the-variants.{Fixed, Variable, Group, Genus}
+use Rattle.format.specs.declared.Kind.the-variants.{Fixed, Variable, Group, Genus, Indexed}
 use Rattle.format.specs.Registry.{prepadOf}
 
 -- so many tag characters from a place on, in eleven places
@@ -18,3 +18,4 @@ Taggable (Fixed c) = (c .tag ≡ 0 → ⊥) → (c .chars + prepadOf c + c .tag 
 Taggable (Variable t l n) = Unit {0}
 Taggable (Group l) = Unit {0}
 Taggable Genus = Unit {0}
+Taggable (Indexed c) = Unit {0}

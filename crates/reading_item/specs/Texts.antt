@@ -5,7 +5,7 @@ use lib.Dec.{eqb}
 use lib.ListN.{getD}
 use Rattle.base.specs.Pick.{pick}
 use Rattle.format.specs.declared.Kind.{Kind}
-use Rattle.format.specs.declared.Kind.the-variants.{Fixed, Variable, Group, Genus}
+use Rattle.format.specs.declared.Kind.the-variants.{Fixed, Variable, Group, Genus, Indexed}
 use Rattle.format.specs.Registry.{isText}
 
 -- format's fillOf by the value's first sextet
@@ -18,3 +18,4 @@ textStart (Fixed c) h n cs = 4 * n
 textStart (Variable t lead count) h n cs = pick (isText t) (4 * h + fillBy lead (getD cs (4 * h) 0)) (4 * n)
 textStart (Group letter) h n cs = 4 * n
 textStart Genus h n cs = 4 * n
+textStart (Indexed c) h n cs = 4 * n

@@ -4,6 +4,7 @@
 use format::BinaryOffset;
 use format::Code;
 use format::CodeRow;
+use format::IndexRow;
 use format::Kind;
 use format::Primitive;
 use format::TextOffset;
@@ -34,6 +35,7 @@ pub fn is_primitive(kind: Kind) -> bool
         } => true,
         Kind::Group { letter: _ } => false,
         Kind::Genus => false,
+        Kind::Indexed(_) => false,
     }
 }
 
@@ -70,6 +72,10 @@ fn code_of(kind: Kind, h: usize) -> Code
             chars: 0,
             letter: 0,
         },
+        Kind::Indexed(_) => Code::Fixed {
+            chars: 0,
+            letter: 0,
+        },
     }
 }
 
@@ -88,6 +94,7 @@ fn tags_of(kind: Kind) -> usize
         } => 0,
         Kind::Group { letter: _ } => 0,
         Kind::Genus => 0,
+        Kind::Indexed(_) => 0,
     }
 }
 
@@ -104,6 +111,17 @@ pub fn fixed_start(c: CodeRow) -> BinaryOffset
     } else {
         offsets::in_binary(TextOffset(wide(size)))
     }
+}
+
+// The same of an indexed row: behind code, index, ondex and pad bits.
+pub fn indexed_start(c: IndexRow) -> BinaryOffset
+    ensures { λ r. ⌜ (r .0 ≡ rawStart (Kind.Indexed c) 1) × (r .0 < 1000) ⌝ }
+{
+    let chars = c.chars;
+    let index = c.index;
+    let ondex = c.ondex;
+    let zeros = c.zeros;
+    BinaryOffset((6 * (wide(chars) + wide(index) + wide(ondex)) + wide(zeros)) / 8)
 }
 
 // Of a text it is the item's end, behind n units.
@@ -125,6 +143,7 @@ fn raw_start(kind: Kind, h: usize, n: usize) -> BinaryOffset
         }
         Kind::Group { letter: _ } => BinaryOffset(3 * h),
         Kind::Genus => BinaryOffset(3 * h),
+        Kind::Indexed(c) => indexed_start(c),
     }
 }
 
@@ -192,6 +211,7 @@ pub fn text_start(kind: Kind, h: usize, n: usize, cs: [u8; 12]) -> TextOffset
         }
         Kind::Group { letter: _ } => TextOffset(end),
         Kind::Genus => TextOffset(end),
+        Kind::Indexed(_) => TextOffset(end),
     }
 }
 
@@ -248,5 +268,6 @@ pub fn tag_of(kind: Kind, cs: [u8; 12]) -> [u8; 11]
         } => [0; 11],
         Kind::Group { letter: _ } => [0; 11],
         Kind::Genus => [0; 11],
+        Kind::Indexed(_) => [0; 11],
     }
 }

@@ -6,13 +6,13 @@ use mathlib.Core.Logic.{⊎-elim}
 use Prim.Native.Nat.{ℕ, _+_, _-_, _*_, _/_, _<_, _≤_}
 use native.Mathlib.Omega.{arith}
 use lib.Dec.{eqb}
-use lib.ListN.{length, take, drop, length-drop}
-use lib.Seq.{length-take-le, getD-take, getD-drop, ext-getD}
+use lib.ListN.{length, take, drop}
+use lib.Seq.{length-take-le}
 use borrow.Author.Tests.{lt-ltb, ltb-true, eqb-true, eqb-false}
 use Rattle.base.specs.Cases.{whether}
 use Rattle.format.specs.declared.CodeRow.{CodeRow}
 use Rattle.format.specs.declared.Kind.{Kind}
-use Rattle.format.specs.declared.Kind.the-variants.{Fixed, Variable, Group, Genus}
+use Rattle.format.specs.declared.Kind.the-variants.{Fixed, Variable, Group, Genus, Indexed}
 use Rattle.format.specs.declared.Framed.{Framed}
 use Rattle.format.specs.declared.Framed.the-variants.{Item, Unframed}
 use Rattle.format.specs.declared.Verdict.{Verdict}
@@ -28,8 +28,7 @@ use Rattle.format.specs.Reading.Reading.{refused, found}
 use Rattle.laws.specs.Framing.{Lawful, Good, Shaped, frame-good}
 use Rattle.laws.specs.Values.{Led, raw-inside}
 use Rattle.framing_head.specs.Heads.{headOf}
-use Rattle.framing_head.proofs.Laws.{head-at, head-length}
-use Rattle.framing_head.proofs.Laws.{within-head}
+use Rattle.framing_head.proofs.Laws.{part-head, within-head}
 use Rattle.reading_item.specs.Tags.{Taggable}
 use Rattle.reading_item.specs.Texts.{textStart}
 use Rattle.reading_part.specs.Outcome.{outcome}
@@ -101,6 +100,7 @@ led (Variable t l m) h s e =
     λ p. ltb-true 0 m (rw (lt-ltb 0 l p) at nine)
 led (Group l) h s e = tt
 led Genus h s e = tt
+led (Indexed c) h s e = tt
 
 pub starts-inside : (s : List ℕ) (k : Kind) (h n : ℕ) → Accepts s k h n → rawStart k h ≤ 3 * n
 starts-inside s k h n a = let g = accepts-lawful s k h n a in raw-inside k h n (g .inside) (g .shape) (led k h _ (a .accepted))
@@ -112,24 +112,16 @@ taggable-of (Fixed c) h n s = λ t. let g = s .0 .tag t in (g .filled, g .units,
 taggable-of (Variable t l m) h n s = tt
 taggable-of (Group l) h n s = tt
 taggable-of Genus h n s = tt
+taggable-of (Indexed c) h n s = tt
 
 pub taggable : (s : List ℕ) (k : Kind) (h n : ℕ) → Accepts s k h n → Taggable k
 taggable s k h n a = taggable-of k h n (accepts-lawful s k h n a .shape)
-
-tag-there : (s : List ℕ) (start m : ℕ) → start + m ≤ 12 → start + m ≤ length s → take m (drop start (headOf s)) ≡ take m (drop start s)
-tag-there s start m a b =
-    let l = length-take-le m (drop start (headOf s)) (omega (arith, length-drop start (headOf s), head-length s)) in
-    ext-getD 0 (take m (drop start (headOf s))) (take m (drop start s))
-    (l ∙ sym (length-take-le m (drop start s) (omega (arith, length-drop start s))))
-    (λ i h. let j : i < m = omega (arith, l) in
-    getD-take m (drop start (headOf s)) i 0 j ∙ getD-drop start (headOf s) i 0 ∙ head-at s (start + i) (omega arith)
-    ∙ sym (getD-take m (drop start s) i 0 j ∙ getD-drop start s i 0))
 
 tag-row-head : (s : List ℕ) (c : CodeRow) → Taggable (Fixed c) → c .size ≤ length s → tagOf (Fixed c) (headOf s) ≡ tagOf (Fixed c) s
 unfolding tagOf
 tag-row-head s c f l =
     ⊎-elim (λ z. rw (eqb-true (c .tag) 0 z)) (λ z. let g = f (eqb-false (c .tag) 0 z) in
-    ap (map charOf) (tag-there s (c .chars + prepadOf c) (c .tag) (omega (arith, g .0, g .1)) (omega (arith, g .0)))) (whether (eqb (c .tag) 0))
+    ap (map charOf) (part-head s (c .chars + prepadOf c) (c .tag) (omega (arith, g .0, g .1)) (omega (arith, g .0)))) (whether (eqb (c .tag) 0))
 
 tag-head : (k : Kind) (h n : ℕ) (s : List ℕ) → Shaped k h n → 4 * n ≤ length s → tagOf k (headOf s) ≡ tagOf k s
 unfolding tagOf
@@ -137,6 +129,7 @@ tag-head (Fixed c) h n s shape l = tag-row-head s c (taggable-of (Fixed c) h n s
 tag-head (Variable t l m) h n s shape r = refl
 tag-head (Group l) h n s shape r = refl
 tag-head Genus h n s shape r = refl
+tag-head (Indexed c) h n s shape r = refl
 
 -- the tag characters of the item, by the first sextets of the part
 tag-own : (s cs own : List ℕ) (k : Kind) (h n : ℕ) → Accepts s k h n → cs ≡ headOf s → own ≡ headOf (take (4 * n) cs)

@@ -1,6 +1,6 @@
 -- Where a refusal's place can lie, and that an accepted text is in the alphabet. Assumes nothing.
 use mathlib.Core.Path.{_≡_, refl, subst}
-use mathlib.Core.Bool.{true}
+use mathlib.Core.Bool.{true, false}
 use mathlib.Core.List.{List, [], _∷_}
 use mathlib.Core.Logic.{⊎-elim}
 use Prim.Native.Nat.{ℕ, _+_, _-_, _*_, _/_, _<_, _≤_}
@@ -11,7 +11,7 @@ use borrow.Author.Tests.{lt-ltb, le-ltb}
 use Rattle.base.specs.Cases.{lt-or-ge, whether}
 use Rattle.base.specs.Digits.{Below, none, more, below-at, below-all}
 use Rattle.format.specs.declared.Kind.{Kind}
-use Rattle.format.specs.declared.Kind.the-variants.{Fixed, Variable, Group, Genus}
+use Rattle.format.specs.declared.Kind.the-variants.{Fixed, Variable, Group, Genus, Indexed}
 use Rattle.format.specs.declared.Framed.{Framed}
 use Rattle.format.specs.declared.Framed.the-variants.{Item, Unframed}
 use Rattle.format.specs.declared.Verdict.{Verdict}
@@ -23,7 +23,7 @@ use Rattle.format.specs.Judging.{shift, andThen, scan, behind, judgeKind, ownCh
 use Rattle.format.specs.Reading.{isPrimitive, judged, readFramed, reading}
 use Rattle.format.specs.Reading.Reading.{refused}
 use Rattle.laws.specs.Framing.{Lawful, Good, frame-good}
-use Rattle.judging.proofs.Bounds.{Head, frame-head, Near, own-near}
+use Rattle.judging.proofs.Bounds.{Head, by-head, Near, own-near}
 
 -- a refused read's place
 judged-place : (k : Kind) (h n b : ℕ) (v : Verdict) (m p : ℕ) → Near b v → judged k h n v ≡ refused m p → p ≤ b
@@ -35,7 +35,7 @@ framed-place : (s : List ℕ) (f : Framed) (m p : ℕ) → frame s ≡ f → rea
 unfolding readFramed
 framed-place s (Unframed m′ p′) m p e r =
     let q : p ≡ p′ = cc in
-    let l : p′ ≤ 7 = subst (Head (sextet s)) e (frame-head s) in
+    let l : p′ ≤ 7 = subst (Head (sextet s)) e (by-head false s) in
     omega arith
 framed-place s (Item k h n) m p e r =
     let g : Lawful (frameWith opening) (sextet s) (length s / 4) k h n = subst (Good (frameWith opening) (sextet s) (length s / 4)) e (frame-good s) in
@@ -70,12 +70,13 @@ unfolding judgeKind isPrimitive behind
 behind-known (Fixed c) h s o e = scan-known _ (shift-accepts (4 * h) _ (then-first _ _ e))
 behind-known (Variable t a b) h s o e = scan-known _ (shift-accepts (4 * h) _ (then-first _ _ e))
 behind-known (Group g) h s o e = let z : _≡_ {A = ℕ} 0 1 = cc in absurd (omega arith)
+behind-known (Indexed c) h s o e = let z : _≡_ {A = ℕ} 0 1 = cc in absurd (omega arith)
 behind-known Genus h s o e = let z : _≡_ {A = ℕ} 0 1 = cc in absurd (omega arith)
 
 pub item-known : (s : List ℕ) (k : Kind) (h n : ℕ) → frame s ≡ Item k h n → isPrimitive k ≡ true
     → judgeKind k h (take (4 * n) s) (ownCheck 0) ≡ Accepted → Below 64 (take (4 * n) s)
 item-known s k h n e o a =
-    let f : (i : ℕ) → i < 4 * h → sextet s i < 64 = subst (Head (sextet s)) e (frame-head s) in
+    let f : (i : ℕ) → i < 4 * h → sextet s i < 64 = subst (Head (sextet s)) e (by-head false s) in
     let b = behind-known k h (take (4 * n) s) o a in
     below-all 64 (take (4 * n) s) (λ i l.
     ⊎-elim (λ p. rw (getD-take (4 * n) s i 0 (omega (arith, length-take (4 * n) s))) (f i p))

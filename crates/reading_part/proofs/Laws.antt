@@ -52,11 +52,11 @@ module _ (s : List ℕ) (f : Framed) (e : f ≡ frame s) where
 module _ (part cs : List ℕ) (f : Framed) (c : cs ≡ headOf (textSextets part))
     (e : f ≡ frameWith opening (λ i. getD cs i 0) (length part / 4)) where
   pub text-unframed : (m p : ℕ) → f ≡ Unframed m p → f ≡ outcome (reading (textSextets part))
-  text-unframed m p q = read-unframed (textSextets part) f (framed-text part cs f c e) m p q
+  text-unframed m p q = read-unframed (textSextets part) f (framed-text false part cs f c e) m p q
 
   module _ (k : Kind) (h n : ℕ) (q : f ≡ Item k h n) where
     text-room : 4 * n ≤ length part
-    text-room = omega (arith, lawful (textSextets part) f k h n (framed-text part cs f c e) q .room, text-units part)
+    text-room = omega (arith, lawful false (textSextets part) f k h n (framed-text false part cs f c e) q .room, text-units part)
 
     pub text-size-fits : length part * 1 < 2 ^ 63 → Fits w64 (4 * n)
     text-size-fits l = omega (arith, text-room)
@@ -66,30 +66,30 @@ module _ (part cs : List ℕ) (f : Framed) (c : cs ≡ headOf (textSextets part)
 
     module _ (b : Bool) (is : b ≡ isPrimitive k) where
       pub text-other : not b ≡ true → Unframed 14 0 ≡ outcome (reading (textSextets part))
-      text-other t = read-other (textSextets part) f (framed-text part cs f c e) k h n q (sym is ∙ not-true b t)
+      text-other t = read-other (textSextets part) f (framed-text false part cs f c e) k h n q (sym is ∙ not-true b t)
 
       pub text-judged : not b ≡ false → (own : List ℕ) → own ≡ headOf (take (4 * n) cs) → (v : Verdict)
           → v ≡ ownBy k h n own (behind h (textSextets (take (4 * n) part))) 0 → (r : Framed) → r ≡ toldBy (Item k h n) v
           → r ≡ outcome (reading (textSextets part))
       text-judged t own o v w r z =
-          let g = lawful (textSextets part) f k h n (framed-text part cs f c e) q in
-          read-judged (textSextets part) f (framed-text part cs f c e) k h n q (sym is ∙ not-false b t) v
+          let g = lawful false (textSextets part) f k h n (framed-text false part cs f c e) q in
+          read-judged (textSextets part) f (framed-text false part cs f c e) k h n q (sym is ∙ not-false b t) v
           (own-text-judged part cs own k h n 0 v c o w (g .few) (g .shape) text-room) r z
 
 -- a binary's
 module _ (part cs : List ℕ) (f : Framed) (c : cs ≡ headOf (binarySextets part))
     (e : f ≡ frameWith opening (λ i. getD cs i 0) (length part / 3)) where
   pub binary-unframed : (m p : ℕ) → f ≡ Unframed m p → f ≡ outcome (reading (binarySextets part))
-  binary-unframed m p q = read-unframed (binarySextets part) f (framed-binary part cs f c e) m p q
+  binary-unframed m p q = read-unframed (binarySextets part) f (framed-binary false part cs f c e) m p q
 
   module _ (k : Kind) (h n : ℕ) (q : f ≡ Item k h n) (b : Bool) (is : b ≡ isPrimitive k) where
     pub binary-other : not b ≡ true → Unframed 14 0 ≡ outcome (reading (binarySextets part))
-    binary-other t = read-other (binarySextets part) f (framed-binary part cs f c e) k h n q (sym is ∙ not-true b t)
+    binary-other t = read-other (binarySextets part) f (framed-binary false part cs f c e) k h n q (sym is ∙ not-true b t)
 
     pub binary-judged : not b ≡ false → (own : List ℕ) → own ≡ headOf (take (4 * n) cs) → (v : Verdict) → v ≡ ownBy k h n own Accepted 0
         → (r : Framed)
         → r ≡ toldBy (Item k h n) v → r ≡ outcome (reading (binarySextets part))
     binary-judged t own o v w r z =
-        let g = lawful (binarySextets part) f k h n (framed-binary part cs f c e) q in
-        read-judged (binarySextets part) f (framed-binary part cs f c e) k h n q (sym is ∙ not-false b t) v
+        let g = lawful false (binarySextets part) f k h n (framed-binary false part cs f c e) q in
+        read-judged (binarySextets part) f (framed-binary false part cs f c e) k h n q (sym is ∙ not-false b t) v
         (own-binary-judged part cs own k h n 0 v c o w (g .few) (g .shape) (omega (arith, g .room, binary-units part))) r z

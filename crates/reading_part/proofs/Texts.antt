@@ -11,7 +11,7 @@ use lib.Seq.{drop-drop, getD-drop}
 use Rattle.base.specs.Pick.{pick}
 use Rattle.base.specs.Cases.{lt-or-ge}
 use Rattle.format.specs.declared.Kind.{Kind}
-use Rattle.format.specs.declared.Kind.the-variants.{Fixed, Variable, Group, Genus}
+use Rattle.format.specs.declared.Kind.the-variants.{Fixed, Variable, Group, Genus, Indexed}
 use Rattle.format.specs.Alphabet.{charOf}
 use Rattle.format.specs.Registry.{isText}
 use Rattle.format.specs.Texts.{fills, fillOf, textOf}
@@ -57,6 +57,7 @@ text-in (Fixed c) h n s few l = ends n s l
 text-in (Variable t lead count) h n s few l = variable-text t lead count h n s few l
 text-in (Group letter) h n s few l = ends n s l
 text-in Genus h n s few l = ends n s l
+text-in (Indexed c) h n s few l = ends n s l
 
 pub text-length : (k : Kind) (h n : ℕ) (s : List ℕ) → h ≤ 2 → length s ≡ 4 * n → length (textIn k h s) ≡ 4 * n - textStart k h n (headOf s)
 text-length k h n s few l =

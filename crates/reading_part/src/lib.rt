@@ -9,7 +9,7 @@ pub fn of_text(part: &[u8]) -> Framed
     ensures { λ r. ⌜ r ≡ outcome (reading (textSextets (now (part .entry)))) ⌝ }
 {
     let cs = framing_head::text_head(part);
-    let framed = framing::frame_head(cs, part.len() / 4);
+    let framed = framing::frame_head(false, cs, part.len() / 4);
     match framed {
         Framed::Unframed {
             number: _,
@@ -34,7 +34,7 @@ pub fn of_binary(part: &[u8]) -> Framed
     ensures { λ r. ⌜ r ≡ outcome (reading (binarySextets (now (part .entry)))) ⌝ }
 {
     let cs = framing_head::binary_head(part);
-    let framed = framing::frame_head(cs, part.len() / 3);
+    let framed = framing::frame_head(false, cs, part.len() / 3);
     match framed {
         Framed::Unframed {
             number: _,

@@ -1,10 +1,10 @@
-// What a header's first unit says: the code that it opens, the units of the header, and the item's size.
+// What a header's first unit says, by either table: the code that it opens, the units of the header, and the item's size.
 use format::Kind;
 use format::Opening;
 ghost use mathlib.Core.Path.{_≡_};
 ghost use Prim.Native.Nat.{_+_, _*_, _<_};
 ghost use lib.ListN.{getD};
-ghost use Rattle.format.specs.Registry.{isOpaque, isOverrideable, isType, opening, extent};
+ghost use Rattle.format.specs.Registry.{isIndexed, isOverrideable, isType, opening, openingBy, extent};
 ghost use Rattle.registry.specs.Parts.{pad0Opening, smallVariable, largeVariable, groupOpening};
 
 fn wide(x: u8) -> usize
@@ -26,9 +26,9 @@ fn pad0(b: u8, c: u8, d: u8) -> Opening
 
 // ---- letters
 
-// Whether the contents of the groups of a letter are no items: `-K` and `-L`.
-pub fn is_opaque(letter: u8) -> bool
-    ensures { λ r. ⌜ r ≡ isOpaque letter ⌝ }
+// Whether the items of the groups of a letter are indexed ones: `-K` and `-L`.
+pub fn is_indexed(letter: u8) -> bool
+    ensures { λ r. ⌜ r ≡ isIndexed letter ⌝ }
 {
     if letter == 10 { true } else { letter == 11 }
 }
@@ -102,8 +102,8 @@ fn group(b: u8, c: u8, d: u8) -> Opening
     Opening::Unknown
 }
 
-// What the first unit, as four sextets, says: a code with its size, what a second unit completes, or nothing known.
-pub fn opening(u: [u8; 4]) -> Opening
+// What the first unit, as four sextets, says by the master table: a code with its size, what a second unit completes, or nothing known.
+fn opening(u: [u8; 4]) -> Opening
     ensures { λ r. ⌜ r ≡ opening (getD u 0 0) (getD u 1 0) (getD u 2 0) (getD u 3 0) ⌝ }
 {
     let a = u[0];
@@ -134,6 +134,17 @@ pub fn opening(u: [u8; 4]) -> Opening
     Opening::Unknown
 }
 
+// The same by the table that is asked.
+pub fn opening_by(indexed: bool, u: [u8; 4]) -> Opening
+    ensures { λ r. ⌜ r ≡ openingBy indexed (getD u 0 0) (getD u 1 0) (getD u 2 0) (getD u 3 0) ⌝ }
+{
+    if indexed {
+        registry_indexed::opening(u)
+    } else {
+        opening(u)
+    }
+}
+
 // The number that the second unit's four sextets stand for.
 pub fn number(u: [u8; 4]) -> usize
     ensures { λ r. ⌜ (r ≡ ((getD u 0 0 * 64 + getD u 1 0) * 64 + getD u 2 0) * 64 + getD u 3 0) × (r < 100000000) ⌝ }
@@ -148,6 +159,7 @@ pub fn extent(op: Opening, second: [u8; 4]) -> usize
     match op {
         Opening::Unknown => 0,
         Opening::Short { kind: _, size } => size,
+        Opening::Long { kind: _, size } => size,
         Opening::LargeVariable { letter: _, lead: _ } => 2 + number(second),
         Opening::LargeGroup { letter: _, digit } => {
             let high = wide(digit);

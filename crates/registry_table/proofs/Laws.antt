@@ -11,10 +11,9 @@ use Rattle.base.specs.Pick.{pick}
 use Rattle.base.specs.Table.{both, both-left, both-right}
 use Rattle.base.specs.Below.{all, below}
 use Rattle.format.specs.declared.CodeRow.{CodeRow}
-use Rattle.format.specs.declared.Kind.{Kind}
-use Rattle.format.specs.declared.Kind.the-variants.{Fixed, Variable, Group, Genus}
+use Rattle.format.specs.declared.Kind.the-variants.{Fixed, Variable, Group, Genus, Indexed}
 use Rattle.format.specs.declared.Opening.{Opening}
-use Rattle.format.specs.declared.Opening.the-variants.{Unknown, Short, LargeVariable, LargeGroup, Version}
+use Rattle.format.specs.declared.Opening.the-variants.{Unknown, Short, Long, LargeVariable, LargeGroup, Version}
 use Rattle.format.specs.Registry.{codes, fixed, fixedAmong}
 use Rattle.registry_table.specs.Places.{noRow, rowAt, fixedRow, fixedFrom}
 
@@ -53,6 +52,8 @@ isRow r (Short (Fixed c) n) = both (sameRow c r) (eqb n (r .size / 4))
 isRow r (Short (Variable t l n) m) = false
 isRow r (Short (Group l) m) = false
 isRow r (Short Genus m) = false
+isRow r (Short (Indexed c) m) = false
+isRow r (Long k m) = false
 isRow r Unknown = false
 isRow r (LargeVariable t l) = false
 isRow r (LargeGroup l d) = false
@@ -64,6 +65,8 @@ row-opening r (Short (Fixed c) n) t = rw (row-eq c r (both-left (sameRow c r) (e
 row-opening r (Short (Variable t l n) m) z = absurd z
 row-opening r (Short (Group l) m) z = absurd z
 row-opening r (Short Genus m) z = absurd z
+row-opening r (Short (Indexed c) m) z = absurd z
+row-opening r (Long k m) z = absurd z
 row-opening r Unknown z = absurd z
 row-opening r (LargeVariable t l) z = absurd z
 row-opening r (LargeGroup l d) z = absurd z
@@ -72,6 +75,7 @@ row-opening r Version z = absurd z
 isUnknown : Opening → Bool
 isUnknown Unknown = true
 isUnknown (Short k n) = false
+isUnknown (Long k n) = false
 isUnknown (LargeVariable t l) = false
 isUnknown (LargeGroup l d) = false
 isUnknown Version = false
@@ -80,6 +84,7 @@ unknown-opening : (o : Opening) → T (isUnknown o) → o ≡ Unknown
 unfolding isUnknown
 unknown-opening Unknown t = refl
 unknown-opening (Short k n) z = absurd z
+unknown-opening (Long k n) z = absurd z
 unknown-opening (LargeVariable t l) z = absurd z
 unknown-opening (LargeGroup l d) z = absurd z
 unknown-opening Version z = absurd z

@@ -39,11 +39,11 @@ pub record Good (d : Domain) (xs : List ℕ) (at r : ℕ) : Type 0 where
 abbrev pub Accepts : Domain → List ℕ → ℕ → ℕ → Type 0
 Accepts d xs at r = 0 < r → Good d xs at r
 
--- the next item from a unit on, if it ends in front of another and is accepted; 0 says nothing
-pub record Take (f : Form) (values classes rows s : List ℕ) (l : ℕ) (first : Bool) (at stop r : ℕ) : Type 0 where
+-- the next item from a unit on by the table that is asked, if it ends in front of another and is accepted; 0 says nothing
+pub record Take (f : Form) (values classes rows s : List ℕ) (t : Bool) (l : ℕ) (first : Bool) (at stop r : ℕ) : Type 0 where
   pub few : r ≤ stop - at
-  pub right : Ready f values classes rows s at stop → Takes (domain f .sextets s) l first at stop r
+  pub right : Ready f values classes rows s at stop → Takes (domain f .sextets s) t l first at stop r
 
 -- all items from a unit to another are accepted; false says nothing
-pub record Passes (f : Form) (values classes rows s : List ℕ) (l : ℕ) (first : Bool) (at stop : ℕ) (r : Bool) : Type 0 where
-  pub right : Ready f values classes rows s at stop → r ≡ true → level (domain f .sextets s) l first at stop ≡ Accepted
+pub record Passes (f : Form) (values classes rows s : List ℕ) (t : Bool) (l : ℕ) (first : Bool) (at stop : ℕ) (r : Bool) : Type 0 where
+  pub right : Ready f values classes rows s at stop → r ≡ true → level (domain f .sextets s) t l first at stop ≡ Accepted

@@ -1,16 +1,82 @@
-// The fast way to an accepted item, of either form: what first units tell. One-sided: a size says that the item is accepted and so
-// long, 0 says nothing, and the general way is asked. So what a refusal is, and where, is never decided here. Positions count units.
+// The fast way to an accepted item, of either form and by either table: what first units tell. One-sided: a size says that the item is
+// accepted and so long, 0 says nothing, and the general way is asked. So what a refusal is, and where, is never decided here. Positions
+// count units.
 use format::Form;
 use format::Framed;
+use format::Kind;
 use judging::MAX_DEPTH;
-ghost use mathlib.Core.Bool.{Bool, true};
+ghost use mathlib.Core.Bool.{Bool, true, false};
+ghost use mathlib.Core.List.{List};
 ghost use Prim.Native.Nat.{ℕ, _+_, _-_, _/_, _≤_, _<_};
 ghost use lib.ListN.{length};
 ghost use Rattle.format.specs.Units.{domain};
 ghost use Rattle.format.specs.Judging.{maxDepth};
 ghost use Rattle.runs.specs.Levels.{Clear};
+ghost use Rattle.report_next.specs.Next.{isRuled, holdsIndexed};
 ghost use Rattle.report_first.specs.First.{Lent};
 ghost use Rattle.report_fast.specs.Fast.{Reach, Accepts, Take, Passes};
+
+// ---- indexed items, where all is known
+
+// The next indexed item from a unit on, which its first unit does not tell, if it ends in front of another unit and is accepted: its
+// size, else 0. No group stands there.
+fn other_indexed(form: Form, s: &[u8], levels: usize, first: bool, at: usize, stop: usize) -> usize
+    requires { ⌜ Reach form (now s) at stop × (at < stop) ⌝ }
+    ensures { λ r. ⌜ ((values classes rows : List ℕ) → Take form values classes rows (now (s .entry)) true levels first at stop r) ⌝ }
+{
+    match report_found::found(form, s, true, levels, first, at, stop) {
+        Framed::Unframed {
+            number: _,
+            place: _,
+        } => 0,
+        Framed::Item {
+            kind,
+            head: _,
+            size,
+        } => {
+            if report_next::is_entered(kind) {
+                return 0;
+            }
+            size
+        }
+    }
+}
+
+// Whether the indexed items from a unit to the end of their group are accepted.
+fn accepts_indexed(
+    form: Form,
+    values: &[u8; 256],
+    classes: &[u8; 256],
+    rows: &[u16; 192],
+    s: &[u8],
+    levels: usize,
+    first: bool,
+    at: usize,
+    stop: usize,
+) -> bool
+    requires { ⌜ Reach form (now s) at stop ⌝ }
+    ensures { λ r. ⌜ Passes form (now (values .entry)) (now (classes .entry)) (now (rows .entry)) (now (s .entry)) true levels first at stop r ⌝ }
+{
+    let mut i = at;
+    let mut ruled = first;
+    while i < stop {
+        let told = report_first::indexed(form, values, classes, rows, s, i);
+        if 0 < told {
+            if stop - i < told {
+                return false;
+            }
+            i = i + told;
+        } else {
+            let n = other_indexed(form, s, levels, ruled, i, stop);
+            if n == 0 {
+                return false;
+            }
+            i = i + n;
+        }
+        ruled = false;
+    }
+    true
+}
 
 // ---- items accepted whole, where all is known
 
@@ -26,7 +92,7 @@ fn valued(
     stop: usize,
 ) -> usize
     requires { ⌜ Reach form (now s) at stop × (at < stop) ⌝ }
-    ensures { λ r. ⌜ ((l : ℕ) (first : Bool) → Take form (now (values .entry)) (now (classes .entry)) (now (rows .entry)) (now (s .entry)) l first at stop r) ⌝ }
+    ensures { λ r. ⌜ ((l : ℕ) (first : Bool) → Take form (now (values .entry)) (now (classes .entry)) (now (rows .entry)) (now (s .entry)) false l first at stop r) ⌝ }
 {
     let k = report_first::valued(form, values, classes, rows, s, at);
     if stop - at < k {
@@ -35,7 +101,8 @@ fn valued(
     k
 }
 
-// The next item from a unit on, which is no plain primitive and no small value, if it ends in front of another unit and is accepted: its size, else 0.
+// The next item from a unit on, which is no plain primitive and no small value, if it ends in front of another unit and is accepted: its
+// size, else 0.
 fn taken(
     form: Form,
     values: &[u8; 256],
@@ -48,7 +115,7 @@ fn taken(
     stop: usize,
 ) -> usize
     requires { ⌜ Reach form (now s) at stop × (at < stop) ⌝ }
-    ensures { λ r. ⌜ Take form (now (values .entry)) (now (classes .entry)) (now (rows .entry)) (now (s .entry)) levels first at stop r ⌝ }
+    ensures { λ r. ⌜ Take form (now (values .entry)) (now (classes .entry)) (now (rows .entry)) (now (s .entry)) false levels first at stop r ⌝ }
 {
     let g = report_first::group(form, values, classes, rows, s, at);
     if 0 < g {
@@ -58,18 +125,9 @@ fn taken(
         if levels == 0 {
             return 0;
         }
-        let first = report_first::marks(form, values, classes, rows, s, at);
-        if accepts(
-            form,
-            values,
-            classes,
-            rows,
-            s,
-            levels - 1,
-            first,
-            at + 1,
-            at + g,
-        ) {
+        let marks = report_first::marks(form, values, classes, rows, s, at);
+        let left = levels - 1;
+        if accepts(form, values, classes, rows, s, left, marks, at + 1, at + g) {
             return g;
         }
         return 0;
@@ -90,27 +148,18 @@ fn other(
     stop: usize,
 ) -> usize
     requires { ⌜ Reach form (now s) at stop × (at < stop) ⌝ }
-    ensures { λ r. ⌜ Take form (now (values .entry)) (now (classes .entry)) (now (rows .entry)) (now (s .entry)) levels first at stop r ⌝ }
+    ensures { λ r. ⌜ Take form (now (values .entry)) (now (classes .entry)) (now (rows .entry)) (now (s .entry)) false levels first at stop r ⌝ }
 {
-    match report_found::found(form, s, levels, first, at, stop) {
+    match report_found::found(form, s, false, levels, first, at, stop) {
         Framed::Unframed {
             number: _,
             place: _,
         } => 0,
         Framed::Item { kind, head, size } => {
             if report_next::is_entered(kind) {
-                let marks = report_next::is_ruled(kind);
-                if accepts(
-                    form,
-                    values,
-                    classes,
-                    rows,
-                    s,
-                    levels - 1,
-                    marks,
-                    at + head,
-                    at + size,
-                ) {
+                let from = at + head;
+                let to = at + size;
+                if entered(form, values, classes, rows, s, kind, levels - 1, from, to) {
                     return size;
                 }
                 return 0;
@@ -120,7 +169,29 @@ fn other(
     }
 }
 
-// Whether the items from a unit to the end of their group are accepted.
+// Whether the items of a group of this kind, from a unit to another, are accepted: the kind says by which table they are framed.
+fn entered(
+    form: Form,
+    values: &[u8; 256],
+    classes: &[u8; 256],
+    rows: &[u16; 192],
+    s: &[u8],
+    kind: Kind,
+    levels: usize,
+    at: usize,
+    stop: usize,
+) -> bool
+    requires { ⌜ Reach form (now s) at stop ⌝ }
+    ensures { λ r. ⌜ Passes form (now (values .entry)) (now (classes .entry)) (now (rows .entry)) (now (s .entry)) (holdsIndexed kind) levels (isRuled kind) at stop r ⌝ }
+{
+    let marks = report_next::is_ruled(kind);
+    if report_next::holds_indexed(kind) {
+        return accepts_indexed(form, values, classes, rows, s, levels, marks, at, stop);
+    }
+    accepts(form, values, classes, rows, s, levels, marks, at, stop)
+}
+
+// Whether the items from a unit to the end of their group, framed by the master table, are accepted.
 fn accepts(
     form: Form,
     values: &[u8; 256],
@@ -133,7 +204,7 @@ fn accepts(
     stop: usize,
 ) -> bool
     requires { ⌜ Reach form (now s) at stop ⌝ }
-    ensures { λ r. ⌜ Passes form (now (values .entry)) (now (classes .entry)) (now (rows .entry)) (now (s .entry)) levels first at stop r ⌝ }
+    ensures { λ r. ⌜ Passes form (now (values .entry)) (now (classes .entry)) (now (rows .entry)) (now (s .entry)) false levels first at stop r ⌝ }
 {
     let mut i = at;
     let mut ruled = first;
@@ -144,21 +215,19 @@ fn accepts(
                 return false;
             }
             i = i + k;
-            ruled = false;
         } else {
             let v = valued(form, values, classes, rows, s, i, stop);
             if 0 < v {
                 i = i + v;
-                ruled = false;
             } else {
                 let n = taken(form, values, classes, rows, s, levels, ruled, i, stop);
                 if n == 0 {
                     return false;
                 }
                 i = i + n;
-                ruled = false;
             }
         }
+        ruled = false;
     }
     true
 }
@@ -170,12 +239,13 @@ pub fn passes(
     classes: &[u8; 256],
     rows: &[u16; 192],
     s: &[u8],
+    indexed: bool,
     levels: usize,
     first: bool,
     at: usize,
     stop: usize,
 ) -> bool
-    ensures { λ r. ⌜ Passes form (now (values .entry)) (now (classes .entry)) (now (rows .entry)) (now (s .entry)) levels first at stop r ⌝ }
+    ensures { λ r. ⌜ Passes form (now (values .entry)) (now (classes .entry)) (now (rows .entry)) (now (s .entry)) indexed levels first at stop r ⌝ }
 {
     if report_units::units(form, s.len()) < stop {
         return false;
@@ -183,13 +253,16 @@ pub fn passes(
     if stop < at {
         return false;
     }
+    if indexed {
+        return accepts_indexed(form, values, classes, rows, s, levels, first, at, stop);
+    }
     accepts(form, values, classes, rows, s, levels, first, at, stop)
 }
 
 // ---- at top level
 
-// The size of the item at a unit, if it ends in front of another unit and is accepted; else 0. Small values of every type go one way, so that
-// a text costs what other values do.
+// The size of the item at a unit, if it ends in front of another unit and is accepted; else 0. Small values of every type go one way, so
+// that a text costs what other values do.
 fn accepted_within(
     form: Form,
     values: &[u8; 256],
@@ -200,7 +273,7 @@ fn accepted_within(
     stop: usize,
 ) -> usize
     requires { ⌜ Reach form (now s) at stop × (at < stop) ⌝ }
-    ensures { λ r. ⌜ Take form (now (values .entry)) (now (classes .entry)) (now (rows .entry)) (now (s .entry)) maxDepth true at stop r ⌝ }
+    ensures { λ r. ⌜ Take form (now (values .entry)) (now (classes .entry)) (now (rows .entry)) (now (s .entry)) false maxDepth true at stop r ⌝ }
 {
     let v = valued(form, values, classes, rows, s, at, stop);
     if 0 < v {

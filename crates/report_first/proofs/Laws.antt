@@ -22,6 +22,7 @@ use Rattle.runs.specs.Tables.{by-table}
 use Rattle.runs.specs.Levels.{Clear, clear-below}
 use Rattle.runs.specs.Runs.{clear-from, group-by, nested-by, marks-by, marks-at, nested-is}
 use Rattle.runs_value.specs.Values.{valuedAt}
+use Rattle.runs_indexed.specs.Indexed.{indexedAt}
 use Rattle.report_first.specs.First.{Lent}
 
 -- ---- first units: a text by its tables
@@ -35,6 +36,9 @@ module _ (values classes rows s : List ℕ) (L : Lent values classes rows) (b : 
 
   pub text-valued : (k : ℕ) → k ≡ valuedAt (sextetsBy values s) at → valuedAt (textSextets s) at ≡ k
   text-valued k q = sym (q ∙ rw (L .characters, by-table s b))
+
+  pub text-indexed : (k : ℕ) → k ≡ indexedAt (sextetsBy values s) at → indexedAt (textSextets s) at ≡ k
+  text-indexed k q = sym (q ∙ rw (L .characters, by-table s b))
 
   pub text-group : (g : ℕ) → g ≡ groupBy values classes s at → groupAt (textSextets s) at ≡ g
   text-group g q = sym (q ∙ rw (L .letters, L .characters) (group-by s b at))

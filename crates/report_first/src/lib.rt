@@ -1,6 +1,6 @@
 // What a first unit tells, of either form, by tables that are lent: the size of an item whose header it is, whether it is a plain
-// primitive, which small groups are entered; what it tells with the unit behind it: a small variable value; and how far characters are
-// known. Each answer is right where the tables are.
+// primitive, which small groups are entered, and where indexed items stand, whether it is one; what it tells with the unit behind it: a
+// small variable value; and how far characters are known. Each answer is right where the tables are.
 use format::Form;
 ghost use mathlib.Core.Path.{_≡_};
 ghost use Prim.Native.Nat.{_-_, _/_, _≤_, _<_, min};
@@ -10,6 +10,7 @@ ghost use Rattle.format.specs.Registry.{isOverrideable};
 ghost use Rattle.runs.specs.Plain.{plainTable, plainAt, sizedAt, groupAt, letterAt, nested};
 ghost use Rattle.runs.specs.Levels.{Clear};
 ghost use Rattle.runs_value.specs.Values.{valuedAt};
+ghost use Rattle.runs_indexed.specs.Indexed.{indexedAt};
 ghost use Rattle.report_first.specs.First.{Lent};
 
 pub fn plain(
@@ -61,7 +62,24 @@ pub fn valued(
     }
 }
 
-// A small group whose contents are items.
+// An indexed item that is accepted, by its header.
+pub fn indexed(
+    form: Form,
+    values: &[u8; 256],
+    classes: &[u8; 256],
+    rows: &[u16; 192],
+    s: &[u8],
+    at: usize,
+) -> usize
+    ensures { λ r. ⌜ (Lent (now (values .entry)) (now (classes .entry)) (now (rows .entry)) → indexedAt (domain form .sextets (now (s .entry))) at ≡ r) ⌝ }
+{
+    match form {
+        Form::Text => runs_text::indexed_text(values, s, at),
+        Form::Binary => runs_binary::indexed_binary(s, at),
+    }
+}
+
+// A small group whose items the master table frames.
 pub fn group(
     form: Form,
     values: &[u8; 256],

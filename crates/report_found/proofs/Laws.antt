@@ -48,17 +48,17 @@ module _ (d : Domain) (G : Reader d) (s : List ℕ) (at stop : ℕ) (I : Inside 
 
 -- ---- the next item
 
-module _ (s : List ℕ) (l : ℕ) (first : Bool) (at stop : ℕ) (h : 4 * stop ≤ length s) (lt : at < stop) where
-  pub found-by : (f : Framed) → f ≡ nextOwn first (part s at stop) l → (r : Framed) → r ≡ moved (4 * at) f → Found s l first at stop r
+module _ (s : List ℕ) (t : Bool) (l : ℕ) (first : Bool) (at stop : ℕ) (h : 4 * stop ≤ length s) (lt : at < stop) where
+  pub found-by : (f : Framed) → f ≡ nextOwn t first (part s at stop) l → (r : Framed) → r ≡ moved (4 * at) f → Found s t l first at stop r
   unfolding moved
-  found-by (Unframed m p) e r q = rw q (found-refused s l first at stop h lt m p (sym e))
-  found-by (Item k n m) e r q = rw q (found-item s l first at stop k n m (sym e))
+  found-by (Unframed m p) e r q = rw q (found-refused s t l first at stop h lt m p (sym e))
+  found-by (Item k n m) e r q = rw q (found-item s t l first at stop k n m (sym e))
 
-  found-sizes : (f : Framed) → Found s l first at stop f → (k : Kind) (a n : ℕ) → f ≡ Item k a n → (0 < a) × (a ≤ n) × (at + n ≤ stop)
-  found-sizes f F k a n e = fits s l first at stop h lt k a n (subst (Found s l first at stop) e F .framed)
+  found-sizes : (f : Framed) → Found s t l first at stop f → (k : Kind) (a n : ℕ) → f ≡ Item k a n → (0 < a) × (a ≤ n) × (at + n ≤ stop)
+  found-sizes f F k a n e = fits s t l first at stop h lt k a n (subst (Found s t l first at stop) e F .framed)
 
-  found-levels : (f : Framed) → Found s l first at stop f → (k : Kind) (a n : ℕ) → f ≡ Item k a n → isEntered k ≡ true → 0 < l
-  found-levels f F k a n e = enters s l first at stop h lt k a n (subst (Found s l first at stop) e F)
+  found-levels : (f : Framed) → Found s t l first at stop f → (k : Kind) (a n : ℕ) → f ≡ Item k a n → isEntered k ≡ true → 0 < l
+  found-levels f F k a n e = enters s t l first at stop h lt k a n (subst (Found s t l first at stop) e F)
 
 -- ---- a place counted on
 
@@ -70,9 +70,9 @@ pub moved-on : (by : ℕ) (f : Framed) (m p : ℕ) → f ≡ Unframed m p → Un
 unfolding moved
 moved-on by f m p e = rw e
 
-near : (first : Bool) (x : List ℕ) (l : ℕ) (f : Framed) → f ≡ nextOwn first x l → length x ≤ 4194304 → (m p : ℕ) → f ≡ Unframed m p
+near : (t first : Bool) (x : List ℕ) (l : ℕ) (f : Framed) → f ≡ nextOwn t first x l → length x ≤ 4194304 → (m p : ℕ) → f ≡ Unframed m p
     → p ≤ 4194312
-near first x l f e h m p q = omega (arith, next-near first x l m p (sym e ∙ q))
+near t first x l f e h m p q = omega (arith, next-near t first x l m p (sym e ∙ q))
 
 -- the part is within the stream
 pub text-end : (f : Form) (s : List ℕ) (at stop : ℕ) → Inside (domain f) s at stop → f ≡ Text → 4 * stop ≤ length s
@@ -91,51 +91,51 @@ inside-part d s at stop i to I h g =
 
 -- ---- what the steps ask, over either form
 
-module _ (f : Form) (s : List ℕ) (l : ℕ) (first : Bool) (at stop : ℕ) (I : Inside (domain f) s at stop) where
+module _ (f : Form) (s : List ℕ) (t : Bool) (l : ℕ) (first : Bool) (at stop : ℕ) (I : Inside (domain f) s at stop) where
   pub wide : 4 * stop ≤ length (domain f .sextets s)
   wide = long (domain f) (reader f) s at stop I
 
-  found-finds : at < stop → (r : Framed) → Found (domain f .sextets s) l first at stop r → Finds f s l first at stop r
+  found-finds : at < stop → (r : Framed) → Found (domain f .sextets s) t l first at stop r → Finds f s t l first at stop r
   found-finds lt r F = record { fits = record { each = each }; right = λ _ _. F }
     where
       each : (k : Kind) (a n : ℕ) → r ≡ Item k a n → (0 < a) × (a ≤ n) × (at + n ≤ stop) × (isEntered k ≡ true → 0 < l)
       each k a n e =
-          let z = found-sizes (domain f .sextets s) l first at stop wide lt r F k a n e in
-          (z .0, z .1, z .2, found-levels (domain f .sextets s) l first at stop wide lt r F k a n e)
+          let z = found-sizes (domain f .sextets s) t l first at stop wide lt r F k a n e in
+          (z .0, z .1, z .2, found-levels (domain f .sextets s) t l first at stop wide lt r F k a n e)
 
 -- the next item of a text's part, and of a binary's
-module _ (f : Form) (s : List ℕ) (at stop : ℕ) (I : Inside (domain f) s at stop) (first : Bool) (l : ℕ) (g : Framed) where
-  module _ (q : f ≡ Text) (e : g ≡ nextOwn first (textSextets (take (4 * stop - 4 * at) (drop (4 * at) s))) l) where
+module _ (f : Form) (s : List ℕ) (at stop : ℕ) (I : Inside (domain f) s at stop) (t first : Bool) (l : ℕ) (g : Framed) where
+  module _ (q : f ≡ Text) (e : g ≡ nextOwn t first (textSextets (take (4 * stop - 4 * at) (drop (4 * at) s))) l) where
     pub text-near : Near (4 * at) g
     text-near =
         let i = text-in f s at stop I q in
         let x = take (4 * stop - 4 * at) (drop (4 * at) s) in
         record {
           few = omega (arith, i .order, i .room, i .few);
-          near = near first (textSextets x) l g e (omega (arith, i .few, length-sextets x, length-take (4 * stop - 4 * at) (drop (4 * at) s), length-drop (4 * at) s));
+          near = near t first (textSextets x) l g e (omega (arith, i .few, length-sextets x, length-take (4 * stop - 4 * at) (drop (4 * at) s), length-drop (4 * at) s));
         }
 
-    pub text-found : at < stop → (r : Framed) → r ≡ moved (4 * at) g → Finds f s l first at stop r
+    pub text-found : at < stop → (r : Framed) → r ≡ moved (4 * at) g → Finds f s t l first at stop r
     text-found lt r m =
         let i = text-in f s at stop I q in
-        found-finds f s l first at stop I lt r
-        (rw q (found-by (textSextets s) l first at stop (long text text-reader s at stop i) lt g (rw (text-part s at stop (i .order)) at e) r m))
+        found-finds f s t l first at stop I lt r
+        (rw q (found-by (textSextets s) t l first at stop (long text text-reader s at stop i) lt g (rw (text-part s at stop (i .order)) at e) r m))
 
-  module _ (q : f ≡ Binary) (e : g ≡ nextOwn first (binarySextets (take (3 * stop - 3 * at) (drop (3 * at) s))) l) where
+  module _ (q : f ≡ Binary) (e : g ≡ nextOwn t first (binarySextets (take (3 * stop - 3 * at) (drop (3 * at) s))) l) where
     pub binary-near : Near (4 * at) g
     binary-near =
         let i = binary-in f s at stop I q in
         let x = take (3 * stop - 3 * at) (drop (3 * at) s) in
         record {
           few = omega (arith, i .order, i .room, i .few);
-          near = near first (binarySextets x) l g e (omega (arith, i .few, length-binary x, length-take (3 * stop - 3 * at) (drop (3 * at) s), length-drop (3 * at) s));
+          near = near t first (binarySextets x) l g e (omega (arith, i .few, length-binary x, length-take (3 * stop - 3 * at) (drop (3 * at) s), length-drop (3 * at) s));
         }
 
-    pub binary-found : at < stop → (r : Framed) → r ≡ moved (4 * at) g → Finds f s l first at stop r
+    pub binary-found : at < stop → (r : Framed) → r ≡ moved (4 * at) g → Finds f s t l first at stop r
     binary-found lt r m =
         let i = binary-in f s at stop I q in
-        found-finds f s l first at stop I lt r
-        (rw q (found-by (binarySextets s) l first at stop (long binary binary-reader s at stop i) lt g (rw (binary-part s at stop (i .order) (i .room)) at e) r m))
+        found-finds f s t l first at stop I lt r
+        (rw q (found-by (binarySextets s) t l first at stop (long binary binary-reader s at stop i) lt g (rw (binary-part s at stop (i .order) (i .room)) at e) r m))
 
 -- ---- what a found item is within
 
@@ -162,15 +162,15 @@ none-fits l at stop m p = record { each = λ k h n e. absurd (other-variant k h 
     other-variant k h n e = let y : _≡_ {A = ℕ} 0 1 = cc in omega arith
 
 -- what is past the end or the limit
-module _ (f : Form) (s : List ℕ) (l : ℕ) (first : Bool) (at stop m p : ℕ) where
-  pub past-limit : (n : ℕ) → n ≡ domain f .limit → n < length s → Finds f s l first at stop (Unframed m p)
+module _ (f : Form) (s : List ℕ) (t : Bool) (l : ℕ) (first : Bool) (at stop m p : ℕ) where
+  pub past-limit : (n : ℕ) → n ≡ domain f .limit → n < length s → Finds f s t l first at stop (Unframed m p)
   past-limit n e h = record { fits = none-fits l at stop m p; right = λ I _. absurd (omega (arith, I .few)) }
 
-  pub past-end : (u : ℕ) → u ≡ length s / domain f .unit → u < stop → Finds f s l first at stop (Unframed m p)
+  pub past-end : (u : ℕ) → u ≡ length s / domain f .unit → u < stop → Finds f s t l first at stop (Unframed m p)
   past-end u e h =
       record { fits = none-fits l at stop m p; right = λ I _. absurd (omega (arith, in-units (domain f) (reader f) s at stop I)) }
 
-  pub none-left : stop ≤ at → Finds f s l first at stop (Unframed m p)
+  pub none-left : stop ≤ at → Finds f s t l first at stop (Unframed m p)
   none-left h = record { fits = none-fits l at stop m p; right = λ _ lt. absurd (omega arith) }
 
 -- ---- what the calls look at

@@ -32,9 +32,9 @@ pub record Fits (l at stop : ℕ) (r : Framed) : Type 0 where
   pub each : (k : Kind) (h n : ℕ) → r ≡ Item k h n → (0 < h) × (h ≤ n) × (at + n ≤ stop) × (isEntered k ≡ true → 0 < l)
 
 -- and right where there is something left of a stream within the limit
-pub record Finds (f : Form) (s : List ℕ) (l : ℕ) (first : Bool) (at stop : ℕ) (r : Framed) : Type 0 where
+pub record Finds (f : Form) (s : List ℕ) (t : Bool) (l : ℕ) (first : Bool) (at stop : ℕ) (r : Framed) : Type 0 where
   pub fits : Fits l at stop r
-  pub right : Inside (domain f) s at stop → at < stop → Found (domain f .sextets s) l first at stop r
+  pub right : Inside (domain f) s at stop → at < stop → Found (domain f .sextets s) t l first at stop r
 
 -- a place that is counted on is near
 pub record Near (by : ℕ) (r : Framed) : Type 0 where

@@ -24,22 +24,34 @@ fn moved(f: Framed, by: usize) -> Framed
     }
 }
 
-// The next item of a group from a unit on, framed and judged by its own checks, with a refusal's place in the stream.
-fn next(form: Form, s: &[u8], levels: usize, first: bool, at: usize, stop: usize) -> Framed
+// The next item of a group from a unit on, framed by the table that is asked and judged by its own checks, with a refusal's place in the
+// stream.
+fn next(
+    form: Form,
+    s: &[u8],
+    indexed: bool,
+    levels: usize,
+    first: bool,
+    at: usize,
+    stop: usize,
+) -> Framed
     requires { ⌜ Here form (now s) at stop ⌝ }
-    ensures { λ r. ⌜ Finds form (now (s .entry)) levels first at stop r ⌝ }
+    ensures { λ r. ⌜ Finds form (now (s .entry)) indexed levels first at stop r ⌝ }
 {
     match form {
         Form::Text => {
             let from = 4 * at;
             let to = 4 * stop;
-            moved(report_next::next_text(&s[from..to], first, levels), 4 * at)
+            moved(
+                report_next::next_text(&s[from..to], indexed, first, levels),
+                4 * at,
+            )
         }
         Form::Binary => {
             let from = 3 * at;
             let to = 3 * stop;
             moved(
-                report_next::next_binary(&s[from..to], first, levels),
+                report_next::next_binary(&s[from..to], indexed, first, levels),
                 4 * at,
             )
         }
@@ -47,8 +59,16 @@ fn next(form: Form, s: &[u8], levels: usize, first: bool, at: usize, stop: usize
 }
 
 // The same of any units: what is past the end or the limit is not framed.
-pub fn found(form: Form, s: &[u8], levels: usize, first: bool, at: usize, stop: usize) -> Framed
-    ensures { λ r. ⌜ Finds form (now (s .entry)) levels first at stop r ⌝ }
+pub fn found(
+    form: Form,
+    s: &[u8],
+    indexed: bool,
+    levels: usize,
+    first: bool,
+    at: usize,
+    stop: usize,
+) -> Framed
+    ensures { λ r. ⌜ Finds form (now (s .entry)) indexed levels first at stop r ⌝ }
 {
     if report_units::limit(form) < s.len() {
         return Framed::Unframed {
@@ -68,5 +88,5 @@ pub fn found(form: Form, s: &[u8], levels: usize, first: bool, at: usize, stop: 
             place: 0,
         };
     }
-    next(form, s, levels, first, at, stop)
+    next(form, s, indexed, levels, first, at, stop)
 }

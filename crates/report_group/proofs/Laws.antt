@@ -50,7 +50,7 @@ module _ (f : Form) (values classes rows s : List ℕ) (l at stop : ℕ) (I : In
   own = domain f .sextets s
 
   long : 4 * stop ≤ length own
-  long = wide f s l false at stop I
+  long = wide f s false l false at stop I
 
   module _ (d : ℕ) (N : stop ≤ length s / domain f .unit → nested (groupAt own) stop (l - 1) (at + 1) ≡ d) (g : groupAt own at ≡ stop - at) where
     n : nested (groupAt own) stop (l - 1) (at + 1) ≡ d
@@ -81,11 +81,11 @@ module _ (f : Form) (values classes rows s : List ℕ) (l at stop : ℕ) (I : In
             rw (y, a .0) (omega (arith, a .1))
 
     -- what is inside it says all
-    pub nest-rest : (m : Bool) → m ≡ isOverrideable (letterAt own (at + d)) → level own (l - 1 - d) m (at + 1 + d) stop ≡ Accepted
-        → level own (l - 1) (isOverrideable (letterAt own at)) (at + 1) stop ≡ Accepted
+    pub nest-rest : (m : Bool) → m ≡ isOverrideable (letterAt own (at + d)) → level own false (l - 1 - d) m (at + 1 + d) stop ≡ Accepted
+        → level own false (l - 1) (isOverrideable (letterAt own at)) (at + 1) stop ≡ Accepted
     nest-rest m q v = go d refl
       where
-        go : (k : ℕ) → d ≡ k → level own (l - 1) (isOverrideable (letterAt own at)) (at + 1) stop ≡ Accepted
+        go : (k : ℕ) → d ≡ k → level own false (l - 1) (isOverrideable (letterAt own at)) (at + 1) stop ≡ Accepted
         go zero z =
             let x : l - 1 - d ≡ l - 1 = omega arith in
             let y : at + d ≡ at = omega arith in
@@ -97,16 +97,16 @@ module _ (f : Form) (values classes rows s : List ℕ) (l at stop : ℕ) (I : In
 
     -- a plain primitive, or nothing, is accepted
     pub nest-plain : plainAt plainTable own (at + 1 + d) ≡ stop - (at + 1 + d)
-        → level own (l - 1) (isOverrideable (letterAt own at)) (at + 1) stop ≡ Accepted
+        → level own false (l - 1) (isOverrideable (letterAt own at)) (at + 1) stop ≡ Accepted
     nest-plain q = nest-rest (isOverrideable (letterAt own (at + d))) refl (all-plain (stop - (at + 1 + d)) refl)
       where
-        all-plain : (k : ℕ) → stop - (at + 1 + d) ≡ k → level own (l - 1 - d) (isOverrideable (letterAt own (at + d))) (at + 1 + d) stop ≡ Accepted
-        all-plain zero z = let y : at + 1 + d ≡ stop = omega (arith, nest-fits) in rw y (level-end own (l - 1 - d) _ stop)
+        all-plain : (k : ℕ) → stop - (at + 1 + d) ≡ k → level own false (l - 1 - d) (isOverrideable (letterAt own (at + d))) (at + 1 + d) stop ≡ Accepted
+        all-plain zero z = let y : at + 1 + d ≡ stop = omega (arith, nest-fits) in rw y (level-end own false (l - 1 - d) _ stop)
         all-plain (suc k) z =
             let y : at + 1 + d + (stop - (at + 1 + d)) ≡ stop = omega (arith, nest-fits) in
             plain-level own (l - 1 - d) stop long _ (at + 1 + d) (stop - (at + 1 + d)) stop q (omega arith) (omega arith)
             (clear-less own at stop (at + 1 + d) stop (R .clear) (omega arith) (omega arith)) (omega arith)
-            ∙ rw y (level-end own (l - 1 - d) false stop)
+            ∙ rw y (level-end own false (l - 1 - d) false stop)
 
 -- a group of so many units
 module _ (f : Form) (values classes rows s : List ℕ) (at size clean units stop : ℕ) (e : stop ≡ min clean units) (is-u : units ≡ length s / domain f .unit)
@@ -115,7 +115,7 @@ module _ (f : Form) (values classes rows s : List ℕ) (at size clean units stop
   group-reach = (record { order = omega arith; room = omega (arith, is-u, e, min-le-right clean units) }, omega arith)
 
   pub group-good : (r : Bool) → (Ready f values classes rows s at (at + size) → groupAt (domain f .sextets s) at ≡ at + size - at → r ≡ true
-      → level (domain f .sextets s) (maxDepth - 1) (isOverrideable (letterAt (domain f .sextets s) at)) (at + 1) (at + size) ≡ Accepted)
+      → level (domain f .sextets s) false (maxDepth - 1) (isOverrideable (letterAt (domain f .sextets s) at)) (at + 1) (at + size) ≡ Accepted)
       → length s ≤ domain f .limit → Lent values classes rows → Clear (domain f .sextets s) at clean → groupAt (domain f .sextets s) at ≡ size → r ≡ true
       → Good (domain f) s at size
   group-good r v l L K q t =

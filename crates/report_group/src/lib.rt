@@ -1,9 +1,10 @@
-// The fast way to an accepted small group, of either form: groups that stand one in the other are entered at once, and the innermost
-// one's items are looked at (report_fast). One-sided: true says that the group is accepted, false says nothing. Positions count units.
+// The fast way to an accepted small group whose items the master table frames, of either form: groups that stand one in the other are
+// entered at once, and the innermost one's items are looked at (report_fast). One-sided: true says that the group is accepted, false says
+// nothing. Positions count units.
 use format::Form;
 use judging::MAX_DEPTH;
 ghost use mathlib.Core.Path.{_≡_};
-ghost use mathlib.Core.Bool.{true};
+ghost use mathlib.Core.Bool.{true, false};
 ghost use Prim.Native.Nat.{_+_, _-_, _≤_, _<_};
 ghost use lib.ListN.{length};
 ghost use Rattle.format.specs.declared.Verdict.the-variants.{Accepted};
@@ -27,7 +28,7 @@ fn inside_accepted(
     stop: usize,
 ) -> bool
     requires { ⌜ Reach form (now s) at stop × (at < stop) ⌝ }
-    ensures { λ r. ⌜ (Ready form (now (values .entry)) (now (classes .entry)) (now (rows .entry)) (now (s .entry)) at stop → groupAt (domain form .sextets (now (s .entry))) at ≡ stop - at → r ≡ true → level (domain form .sextets (now (s .entry))) (maxDepth - 1) (isOverrideable (letterAt (domain form .sextets (now (s .entry))) at)) (at + 1) stop ≡ Accepted) ⌝ }
+    ensures { λ r. ⌜ (Ready form (now (values .entry)) (now (classes .entry)) (now (rows .entry)) (now (s .entry)) at stop → groupAt (domain form .sextets (now (s .entry))) at ≡ stop - at → r ≡ true → level (domain form .sextets (now (s .entry))) false (maxDepth - 1) (isOverrideable (letterAt (domain form .sextets (now (s .entry))) at)) (at + 1) stop ≡ Accepted) ⌝ }
 {
     let d = report_first::nested(form, values, classes, rows, s, at + 1, stop, MAX_DEPTH - 1);
     let i = at + 1 + d;
@@ -41,6 +42,7 @@ fn inside_accepted(
         classes,
         rows,
         s,
+        false,
         MAX_DEPTH - 1 - d,
         first,
         i,

@@ -21,10 +21,10 @@ pub record Judges (d : Domain) (xs : List ℕ) (at n : ℕ) (v : Verdict) : Type
       → v ≡ shift (d .unit * at) (judgeIn d (take (d .unit * n) (drop (d .unit * at) xs)))
 
 -- one-sided: 0 says nothing
-abbrev pub Takes : List ℕ → ℕ → Bool → ℕ → ℕ → ℕ → Type 0
-Takes s l first at stop r = 0 < r → Taken s l first at stop r
+abbrev pub Takes : List ℕ → Bool → ℕ → Bool → ℕ → ℕ → ℕ → Type 0
+Takes s t l first at stop r = 0 < r → Taken s t l first at stop r
 
 -- the next item judged whole: its refusal is the first, or it is taken
-unfoldable pub Whole : List ℕ → ℕ → Bool → ℕ → ℕ → Framed → Type 0
-Whole s l first at stop (Unframed m p) = Refused m p ≡ level s l first at stop
-Whole s l first at stop (Item k h n) = Taken s l first at stop n
+unfoldable pub Whole : List ℕ → Bool → ℕ → Bool → ℕ → ℕ → Framed → Type 0
+Whole s t l first at stop (Unframed m p) = Refused m p ≡ level s t l first at stop
+Whole s t l first at stop (Item k h n) = Taken s t l first at stop n

@@ -39,12 +39,20 @@ pub fn framed(form: Form, s: &[u8], at: usize) -> Framed
 
 // ---- the items of a group
 
-// The next item judged whole: as it is framed if it is accepted, else its refusal.
-fn whole(form: Form, s: &[u8], levels: usize, first: bool, at: usize, stop: usize) -> Framed
+// The next item judged whole: as it is framed if it is accepted, else its refusal. A group says by which table its items are framed.
+fn whole(
+    form: Form,
+    s: &[u8],
+    indexed: bool,
+    levels: usize,
+    first: bool,
+    at: usize,
+    stop: usize,
+) -> Framed
     requires { ⌜ Inside (domain form) (now s) at stop × (at < stop) ⌝ }
-    ensures { λ r. ⌜ Whole (domain form .sextets (now (s .entry))) levels first at stop r ⌝ }
+    ensures { λ r. ⌜ Whole (domain form .sextets (now (s .entry))) indexed levels first at stop r ⌝ }
 {
-    let item = report_found::found(form, s, levels, first, at, stop);
+    let item = report_found::found(form, s, indexed, levels, first, at, stop);
     match item {
         Framed::Unframed {
             number: _,
@@ -53,7 +61,8 @@ fn whole(form: Form, s: &[u8], levels: usize, first: bool, at: usize, stop: usiz
         Framed::Item { kind, head, size } => {
             if report_next::is_entered(kind) {
                 let marks = report_next::is_ruled(kind);
-                let v = level(form, s, levels - 1, marks, at + head, at + size);
+                let inner = report_next::holds_indexed(kind);
+                let v = level(form, s, inner, levels - 1, marks, at + head, at + size);
                 judging::told(item, v)
             } else {
                 item
@@ -62,15 +71,23 @@ fn whole(form: Form, s: &[u8], levels: usize, first: bool, at: usize, stop: usiz
     }
 }
 
-// The verdict on the items of a group from a unit to its end, where so many more groups may be entered.
-fn level(form: Form, s: &[u8], levels: usize, first: bool, at: usize, stop: usize) -> Verdict
+// The verdict on the items of a group from a unit to its end, by the table that is asked, where so many more groups may be entered.
+fn level(
+    form: Form,
+    s: &[u8],
+    indexed: bool,
+    levels: usize,
+    first: bool,
+    at: usize,
+    stop: usize,
+) -> Verdict
     requires { ⌜ Inside (domain form) (now s) at stop ⌝ }
-    ensures { λ r. ⌜ r ≡ level (domain form .sextets (now (s .entry))) levels first at stop ⌝ }
+    ensures { λ r. ⌜ r ≡ level (domain form .sextets (now (s .entry))) indexed levels first at stop ⌝ }
 {
     let mut i = at;
     let mut ruled = first;
     while i < stop {
-        match whole(form, s, levels, ruled, i, stop) {
+        match whole(form, s, indexed, levels, ruled, i, stop) {
             Framed::Unframed { number, place } => {
                 return Verdict::Refused { number, place };
             }
@@ -126,5 +143,5 @@ pub fn verdict(form: Form, s: &[u8], at: usize, size: usize) -> Verdict
             place: 0,
         };
     }
-    placed(form, level(form, s, MAX_DEPTH, false, at, at + size))
+    placed(form, level(form, s, false, MAX_DEPTH, false, at, at + size))
 }

@@ -1,19 +1,14 @@
 -- The contents of a group, a turn of the loop at a time. Assumes nothing.
 use mathlib.Core.Path.{_≡_, refl, sym, ap, _∙_, subst}
-use mathlib.Core.Bool.{Bool, true, false, not}
+use mathlib.Core.Bool.{Bool, true, false}
 use mathlib.Core.List.{List, [], _∷_}
-use mathlib.Core.Logic.{⊎-elim}
 use Prim.Native.Nat.{ℕ, zero, suc, _+_, _-_, _*_, _/_, _<_, _≤_}
 use native.Mathlib.Omega.{arith}
-use lib.Dec.{ltb}
 use lib.ListN.{length, take, drop, length-take, length-map}
-use lib.Seq.{slice}
-use Rattle.base.specs.Pick.{pick}
-use Rattle.base.specs.Cases.{whether}
 use Rattle.base.specs.Lists.{map-take, map-drop}
 use Rattle.format.specs.declared.CodeRow.{CodeRow}
 use Rattle.format.specs.declared.Kind.{Kind}
-use Rattle.format.specs.declared.Kind.the-variants.{Fixed, Variable, Group, Genus}
+use Rattle.format.specs.declared.Kind.the-variants.{Fixed, Variable, Group, Genus, Indexed}
 use Rattle.format.specs.declared.Framed.{Framed}
 use Rattle.format.specs.declared.Framed.the-variants.{Item, Unframed}
 use Rattle.format.specs.declared.Verdict.{Verdict}
@@ -22,35 +17,35 @@ use Rattle.format.specs.Alphabet.{sextetOf}
 use Rattle.base.specs.Each.{length-each}
 use Rattle.format.specs.Units.{sextetsOf, textSextets, binarySextets}
 use Rattle.laws.specs.Units.{sextets-size}
-use Rattle.format.specs.Registry.{opening, isOpaque, isOverrideable}
-use Rattle.format.specs.Framing.{frameWith, sextet}
-use Rattle.format.specs.Judging.{shift, andThen, inTurn, contents, judgeKind, ownCheck, group, judge}
+use Rattle.format.specs.Registry.{openingBy, isIndexed, isOverrideable}
+use Rattle.format.specs.Framing.{frameWith, frameNext, sextet}
+use Rattle.format.specs.Judging.{shift, andThen, inTurn, contents, judgeKind, ownCheck, group, judgeWith}
 use Rattle.laws.specs.Framing.{Lawful}
 use Rattle.laws.specs.Domains.{binary-reader}
-use Rattle.laws.specs.Levels.{shift-accepted, then-accepts, part, part-length, part-drop, part-take, take-of-drop, frameNext, any-item, item-sizes, shift-shift, level, level-end, level-refused, level-item}
+use Rattle.laws.specs.Levels.{shift-accepted, then-accepts, part, part-length, part-drop, part-take, take-of-drop, any-item, item-sizes, shift-shift, level, level-end, level-refused, level-item}
 use Rattle.framing.proofs.Laws.{lawful}
 use Rattle.judging.specs.Own.{toldBy}
-use Rattle.judging.proofs.Bounds.{Head, frame-head, ruled-head, Near, own-near}
-use Rattle.report_next.specs.Next.{ownOf, nextOwn, isEntered, isRuled, Own, Found, Judged}
+use Rattle.judging.proofs.Bounds.{Head, next-head, Near, own-near}
+use Rattle.report_next.specs.Next.{ownOf, nextOwn, isEntered, isRuled, holdsIndexed, Own, Found}
 
 -- ---- the next item
 
-next-good : (first : Bool) (x : List ℕ) (k : Kind) (h n : ℕ) → frameNext first x ≡ Item k h n → Lawful (frameWith opening) (sextet x) (length x / 4) k h n
-next-good first x k h n e = lawful x _ k h n refl (any-item first x k h n e)
+next-good : (t first : Bool) (x : List ℕ) (k : Kind) (h n : ℕ) → frameNext t first x ≡ Item k h n → Lawful (frameWith (openingBy t)) (sextet x) (length x / 4) k h n
+next-good t first x k h n e = lawful t x _ k h n refl (any-item t first x k h n e)
 
-pub next-lawful : (first : Bool) (x : List ℕ) (f : Framed) (k : Kind) (h n : ℕ) → f ≡ frameNext first x → f ≡ Item k h n
-    → Lawful (frameWith opening) (sextet x) (length x / 4) k h n
-next-lawful first x f k h n e p = next-good first x k h n (sym e ∙ p)
+pub next-lawful : (t first : Bool) (x : List ℕ) (f : Framed) (k : Kind) (h n : ℕ) → f ≡ frameNext t first x → f ≡ Item k h n
+    → Lawful (frameWith (openingBy t)) (sextet x) (length x / 4) k h n
+next-lawful t first x f k h n e p = next-good t first x k h n (sym e ∙ p)
 
-module _ (first : Bool) (x : List ℕ) (l : ℕ) (f : Framed) (e : f ≡ frameNext first x) where
-  pub next-unframed : (m p : ℕ) → f ≡ Unframed m p → f ≡ nextOwn first x l
+module _ (t first : Bool) (x : List ℕ) (l : ℕ) (f : Framed) (e : f ≡ frameNext t first x) where
+  pub next-unframed : (m p : ℕ) → f ≡ Unframed m p → f ≡ nextOwn t first x l
   unfolding nextOwn ownOf
   next-unframed m p q = rw (← e, q)
 
   pub next-told : (k : Kind) (h n : ℕ) → f ≡ Item k h n → (v : Verdict) → v ≡ judgeKind k h (take (4 * n) x) (ownCheck l) → (r : Framed)
-      → r ≡ toldBy (Item k h n) v → r ≡ nextOwn first x l
+      → r ≡ toldBy (Item k h n) v → r ≡ nextOwn t first x l
   unfolding nextOwn ownOf
-  next-told k h n q v w r t = rw (← e, q, ← w) t
+  next-told k h n q v w r u = rw (← e, q, ← w) u
 
 -- ---- what it says of the contents
 
@@ -70,9 +65,9 @@ own-by (Item k′ h′ n′) x l k h n e =
     let d : n′ ≡ n = cc in
     (t .0, rw (a, b, d) at (t .1))
 
-pub own-item : (first : Bool) (x : List ℕ) (l : ℕ) (k : Kind) (h n : ℕ) → nextOwn first x l ≡ Item k h n → Own first x l k h n
+pub own-item : (t first : Bool) (x : List ℕ) (l : ℕ) (k : Kind) (h n : ℕ) → nextOwn t first x l ≡ Item k h n → Own t first x l k h n
 unfolding nextOwn
-own-item first x l k h n e = let t = own-by (frameNext first x) x l k h n e in record { framed = t .0; accepted = t .1 }
+own-item t first x l k h n e = let o = own-by (frameNext t first x) x l k h n e in record { framed = o .0; accepted = o .1 }
 
 told-refused : (k : Kind) (h n : ℕ) (v : Verdict) (m p : ℕ) → toldBy (Item k h n) v ≡ Unframed m p → v ≡ Refused m p
 unfolding toldBy
@@ -86,69 +81,64 @@ abbrev insideOf : Kind → ℕ → List ℕ → ℕ → Verdict
 insideOf (Fixed c) h s l = Accepted
 insideOf (Variable t a b) h s l = Accepted
 insideOf (Group letter) h s zero = Accepted
-insideOf (Group letter) h s (suc l) = pick (isOpaque letter) Accepted (shift (4 * h) (inTurn (judge l) (contents (isOverrideable letter) (drop (4 * h) s))))
+insideOf (Group letter) h s (suc l) =
+    shift (4 * h) (inTurn (judgeWith (isIndexed letter) l) (contents (isIndexed letter) (isOverrideable letter) (drop (4 * h) s)))
 insideOf Genus h s l = Accepted
+insideOf (Indexed c) h s l = Accepted
 
 own-first : (k : Kind) (h l : ℕ) (s : List ℕ) → judgeKind k h s (group l) ≡ andThen (judgeKind k h s (ownCheck l)) (insideOf k h s l)
-unfolding judgeKind group judge
+unfolding judgeKind group judgeWith
 own-first (Fixed c) h l s = sym (then-accepts _)
 own-first (Variable t a b) h l s = sym (then-accepts _)
 own-first (Group letter) h zero s = sym (then-accepts _)
 own-first (Group letter) h (suc l) s = refl
 own-first Genus h l s = sym (then-accepts _)
+own-first (Indexed c) h l s = sym (then-accepts _)
 
 -- ---- a turn
 
-module _ (s : List ℕ) (l : ℕ) (first : Bool) (at stop : ℕ) (long : 4 * stop ≤ length s) (lt : at < stop) where
+module _ (s : List ℕ) (t : Bool) (l : ℕ) (first : Bool) (at stop : ℕ) (long : 4 * stop ≤ length s) (lt : at < stop) where
   own-part : (n : ℕ) → at + n ≤ stop → take (4 * n) (part s at stop) ≡ part s at (at + n)
   own-part n b = let c : 4 * n ≡ n * 4 = omega arith in rw c (part-take s at n stop b)
 
-  pub fits : (k : Kind) (h n : ℕ) → frameNext first (part s at stop) ≡ Item k h n → (0 < h) × (h ≤ n) × (at + n ≤ stop)
+  pub fits : (k : Kind) (h n : ℕ) → frameNext t first (part s at stop) ≡ Item k h n → (0 < h) × (h ≤ n) × (at + n ≤ stop)
   fits k h n e =
-      let b = item-sizes (part s at stop) k h n (any-item first (part s at stop) k h n e) in
+      let b = item-sizes t (part s at stop) k h n (any-item t first (part s at stop) k h n e) in
       (b .0, b .1, omega (arith, b .2, part-length s at stop long))
 
-  refused-by : (f : Framed) (m p : ℕ) → frameNext first (part s at stop) ≡ f → ownOf f (part s at stop) l ≡ Unframed m p
-      → Refused m (4 * at + p) ≡ level s l first at stop
+  refused-by : (f : Framed) (m p : ℕ) → frameNext t first (part s at stop) ≡ f → ownOf f (part s at stop) l ≡ Unframed m p
+      → Refused m (4 * at + p) ≡ level s t l first at stop
   unfolding ownOf andThen shift
   refused-by (Unframed m′ p′) m p e q =
       let a : m′ ≡ m = cc in
       let b : p′ ≡ p = cc in
-      sym (level-refused s l first at stop m p long lt (rw (a, b) at e))
+      sym (level-refused s t l first at stop m p long lt (rw (a, b) at e))
   refused-by (Item k h n) m p e q =
       let v = told-refused k h n _ m p q in
       let z = fits k h n e in
       let w : judgeKind k h (part s at (at + n)) (ownCheck l) ≡ Refused m p = rw (own-part n (z .2)) at v in
-      sym (level-item s l first at stop k h n long (omega arith) e ∙ rw (own-first k h l (part s at (at + n)), w))
+      sym (level-item s t l first at stop k h n long (omega arith) e ∙ rw (own-first k h l (part s at (at + n)), w))
 
   -- a refusal of the next item is the first of all
-  pub turn-refused : (m p : ℕ) → nextOwn first (part s at stop) l ≡ Unframed m p → Refused m (4 * at + p) ≡ level s l first at stop
+  pub turn-refused : (m p : ℕ) → nextOwn t first (part s at stop) l ≡ Unframed m p → Refused m (4 * at + p) ≡ level s t l first at stop
   unfolding nextOwn
-  turn-refused m p e = refused-by (frameNext first (part s at stop)) m p refl e
+  turn-refused m p e = refused-by (frameNext t first (part s at stop)) m p refl e
 
-  module _ (k : Kind) (h n : ℕ) (o : Own first (part s at stop) l k h n) where
-    pub turn : level s l first at stop ≡ andThen (shift (4 * at) (insideOf k h (part s at (at + n)) l)) (level s l false (at + n) stop)
+  module _ (k : Kind) (h n : ℕ) (o : Own t first (part s at stop) l k h n) where
+    pub turn : level s t l first at stop ≡ andThen (shift (4 * at) (insideOf k h (part s at (at + n)) l)) (level s t l false (at + n) stop)
     unfolding andThen
     turn =
         let z = fits k h n (o .framed) in
         let w : judgeKind k h (part s at (at + n)) (ownCheck l) ≡ Accepted = rw (own-part n (z .2)) at (o .accepted) in
-        level-item s l first at stop k h n long (omega arith) (o .framed) ∙ rw (own-first k h l (part s at (at + n)), w)
-
-not-false-true : (b : Bool) → not b ≡ false → b ≡ true
-not-false-true true e = refl
-not-false-true false e = let z : _≡_ {A = Bool} true false = e in absurd (let y : _≡_ {A = ℕ} 0 1 = cc in omega arith)
-
-not-true-false : (b : Bool) → not b ≡ true → b ≡ false
-not-true-false false e = refl
-not-true-false true e = let z : _≡_ {A = Bool} false true = e in absurd (let y : _≡_ {A = ℕ} 0 1 = cc in omega arith)
+        level-item s t l first at stop k h n long (omega arith) (o .framed) ∙ rw (own-first k h l (part s at (at + n)), w)
 
 outside : (k : Kind) (h : ℕ) (s : List ℕ) (l : ℕ) → isEntered k ≡ false → insideOf k h s l ≡ Accepted
 unfolding isEntered
 outside (Fixed c) h s l e = refl
 outside (Variable t a b) h s l e = refl
-outside (Group letter) h s zero e = refl
-outside (Group letter) h s (suc l) e = rw (not-false-true (isOpaque letter) e)
+outside (Group letter) h s l e = absurd (let y : _≡_ {A = ℕ} 0 1 = cc in omega arith)
 outside Genus h s l e = refl
+outside (Indexed c) h s l e = refl
 
 -- an entered group may be entered
 pub may-enter : (k : Kind) (h : ℕ) (s : List ℕ) (l : ℕ) → isEntered k ≡ true → judgeKind k h s (ownCheck l) ≡ Accepted → 0 < l
@@ -157,80 +147,68 @@ may-enter (Fixed c) h s l e a = absurd (let y : _≡_ {A = ℕ} 0 1 = cc in omeg
 may-enter (Variable t x b) h s l e a = absurd (let y : _≡_ {A = ℕ} 0 1 = cc in omega arith)
 may-enter (Group letter) h s zero e a = absurd (let y : _≡_ {A = ℕ} 0 1 = cc in omega arith)
 may-enter (Group letter) h s (suc l) e a = omega arith
+may-enter (Indexed c) h s l e a = absurd (let y : _≡_ {A = ℕ} 0 1 = cc in omega arith)
 may-enter Genus h s l e a = absurd (let y : _≡_ {A = ℕ} 0 1 = cc in omega arith)
 
 inside-level : (s : List ℕ) (k : Kind) (at h n l : ℕ) → isEntered k ≡ true → 0 < l
-    → shift (4 * at) (insideOf k h (part s at (at + n)) l) ≡ level s (l - 1) (isRuled k) (at + h) (at + n)
-unfolding isEntered isRuled level
+    → shift (4 * at) (insideOf k h (part s at (at + n)) l) ≡ level s (holdsIndexed k) (l - 1) (isRuled k) (at + h) (at + n)
+unfolding isEntered isRuled holdsIndexed level
 inside-level s (Fixed c) at h n l e p = absurd (let y : _≡_ {A = ℕ} 0 1 = cc in omega arith)
 inside-level s (Variable t x b) at h n l e p = absurd (let y : _≡_ {A = ℕ} 0 1 = cc in omega arith)
 inside-level s (Group letter) at h n zero e p = absurd (omega arith)
 inside-level s (Group letter) at h n (suc l) e p =
     let z : suc l - 1 ≡ l = omega arith in
     let y : 4 * at + 4 * h ≡ 4 * (at + h) = omega arith in
-    rw (not-true-false (isOpaque letter) e, z, shift-shift, y, part-drop s at h (at + n))
+    rw (z, shift-shift, y, part-drop s at h (at + n))
+inside-level s (Indexed c) at h n l e p = absurd (let y : _≡_ {A = ℕ} 0 1 = cc in omega arith)
 inside-level s Genus at h n l e p = absurd (let y : _≡_ {A = ℕ} 0 1 = cc in omega arith)
 
-module _ (s : List ℕ) (l : ℕ) (first : Bool) (at stop : ℕ) (long : 4 * stop ≤ length s) (lt : at < stop)
-    (k : Kind) (h n : ℕ) (o : Own first (part s at stop) l k h n) where
-  -- an item that is not entered leaves the rest
-  pub turn-plain : isEntered k ≡ false → level s l first at stop ≡ level s l false (at + n) stop
-  unfolding shift andThen
-  turn-plain e = turn s l first at stop long lt k h n o ∙ rw (outside k h (part s at (at + n)) l e)
-
+module _ (s : List ℕ) (t : Bool) (l : ℕ) (first : Bool) (at stop : ℕ) (long : 4 * stop ≤ length s) (lt : at < stop)
+    (k : Kind) (h n : ℕ) (o : Own t first (part s at stop) l k h n) where
   pub enters : isEntered k ≡ true → 0 < l
   enters e = may-enter k h _ l e (o .accepted)
 
-  turn-in : isEntered k ≡ true → level s l first at stop ≡ andThen (level s (l - 1) (isRuled k) (at + h) (at + n)) (level s l false (at + n) stop)
-  turn-in e = turn s l first at stop long lt k h n o ∙ rw (inside-level s k at h n l e (enters e))
+  turn-in : isEntered k ≡ true → level s t l first at stop ≡ andThen (level s (holdsIndexed k) (l - 1) (isRuled k) (at + h) (at + n)) (level s t l false (at + n) stop)
+  turn-in e = turn s t l first at stop long lt k h n o ∙ rw (inside-level s k at h n l e (enters e))
 
-  -- an entered group's refusal is the first, and else the rest is left
-  pub turn-inner : isEntered k ≡ true → (v : Verdict) → v ≡ level s (l - 1) (isRuled k) (at + h) (at + n) → (m p : ℕ) → v ≡ Refused m p → v ≡ level s l first at stop
+  -- an entered group's refusal is the first
+  pub turn-inner : isEntered k ≡ true → (v : Verdict) → v ≡ level s (holdsIndexed k) (l - 1) (isRuled k) (at + h) (at + n) → (m p : ℕ) → v ≡ Refused m p → v ≡ level s t l first at stop
   unfolding andThen
   turn-inner e v w m p q =
-      let t : level s l first at stop ≡ Refused m p = turn-in e ∙ rw (← w, q) in
+      let t : level s t l first at stop ≡ Refused m p = turn-in e ∙ rw (← w, q) in
       q ∙ sym t
-
-  pub turn-entered : isEntered k ≡ true → (v : Verdict) → v ≡ level s (l - 1) (isRuled k) (at + h) (at + n) → v ≡ Accepted
-      → level s l first at stop ≡ level s l false (at + n) stop
-  unfolding andThen
-  turn-entered e v w q = turn-in e ∙ rw (← w, q)
 
   -- and the item itself is accepted whole
   whole : insideOf k h (part s at (at + n)) l ≡ Accepted → judgeKind k h (part s at (at + n)) (group l) ≡ Accepted
   unfolding andThen
   whole e =
-      let z = fits s l first at stop long lt k h n (o .framed) in
-      let w : judgeKind k h (part s at (at + n)) (ownCheck l) ≡ Accepted = rw (own-part s l first at stop long lt n (z .2)) at (o .accepted) in
+      let z = fits s t l first at stop long lt k h n (o .framed) in
+      let w : judgeKind k h (part s at (at + n)) (ownCheck l) ≡ Accepted = rw (own-part s t l first at stop long lt n (z .2)) at (o .accepted) in
       own-first k h l (part s at (at + n)) ∙ rw (w, e)
 
   pub whole-plain : isEntered k ≡ false → judgeKind k h (part s at (at + n)) (group l) ≡ Accepted
   whole-plain e = whole (outside k h (part s at (at + n)) l e)
 
-  pub whole-entered : isEntered k ≡ true → Accepted ≡ level s (l - 1) (isRuled k) (at + h) (at + n) → judgeKind k h (part s at (at + n)) (group l) ≡ Accepted
+  pub whole-entered : isEntered k ≡ true → Accepted ≡ level s (holdsIndexed k) (l - 1) (isRuled k) (at + h) (at + n) → judgeKind k h (part s at (at + n)) (group l) ≡ Accepted
   whole-entered e w = whole (shift-accepted (4 * at) _ (inside-level s k at h n l e (enters e) ∙ sym w))
 
 -- ---- places
 
-near-by : (f : Framed) (first : Bool) (x : List ℕ) (l m p : ℕ) → frameNext first x ≡ f → ownOf f x l ≡ Unframed m p → p ≤ length x + 8
+near-by : (f : Framed) (t first : Bool) (x : List ℕ) (l m p : ℕ) → frameNext t first x ≡ f → ownOf f x l ≡ Unframed m p → p ≤ length x + 8
 unfolding ownOf
-near-by (Unframed m′ p′) first x l m p e q =
+near-by (Unframed m′ p′) t first x l m p e q =
     let b : p ≡ p′ = cc in
-    let c : p′ ≤ 7 = subst (Head (sextet x)) e (next-head first) in
+    let c : p′ ≤ 7 = subst (Head (sextet x)) e (next-head t first x) in
     omega arith
-  where
-    next-head : (b : Bool) → Head (sextet x) (frameNext b x)
-    next-head true = ruled-head x
-    next-head false = frame-head x
-near-by (Item k h n) first x l m p e q =
+near-by (Item k h n) t first x l m p e q =
     let v = told-refused k h n _ m p q in
-    let g = next-good first x k h n e in
+    let g = next-good t first x k h n e in
     let c : p ≤ length (take (4 * n) x) + 8 = subst (Near (length (take (4 * n) x) + 8)) v (own-near k h l (take (4 * n) x) (g .few)) in
     omega (arith, length-take (4 * n) x)
 
-pub next-near : (first : Bool) (x : List ℕ) (l m p : ℕ) → nextOwn first x l ≡ Unframed m p → p ≤ length x + 8
+pub next-near : (t first : Bool) (x : List ℕ) (l m p : ℕ) → nextOwn t first x l ≡ Unframed m p → p ≤ length x + 8
 unfolding nextOwn
-next-near first x l m p e = near-by (frameNext first x) first x l m p refl e
+next-near t first x l m p e = near-by (frameNext t first x) t first x l m p refl e
 
 -- ---- a part that is lent
 
@@ -257,47 +235,12 @@ binary-part s at stop h r =
     let b : 4 * stop ≡ stop * 4 = omega arith in
     rw (take-of-drop (3 * stop - 3 * at) (3 * at) s, z, y, binary-reader .dropped (take (stop * 3) s) at (omega (arith, length-take (stop * 3) s)), binary-reader .taken s stop (omega arith), a, b)
 
--- ---- an item judged whole
-
-module _ (s : List ℕ) (l : ℕ) (first : Bool) (at stop : ℕ) (long : 4 * stop ≤ length s) (lt : at < stop) where
-  pub judged-refused : (m p : ℕ) → nextOwn first (part s at stop) l ≡ Unframed m p → Judged s l first at stop (Unframed m (4 * at + p))
-  judged-refused m p e = turn-refused s l first at stop long lt m p e
-
-  module _ (f : Framed) (k : Kind) (h n : ℕ) (e : f ≡ nextOwn first (part s at stop) l) (q : f ≡ Item k h n) where
-    own : Own first (part s at stop) l k h n
-    own = own-item first (part s at stop) l k h n (sym e ∙ q)
-
-    -- what a call for its contents asks
-    pub judged-sizes : (0 < h) × (h ≤ n) × (at + n ≤ stop)
-    judged-sizes = fits s l first at stop long lt k h n (own .framed)
-
-    pub judged-levels : isEntered k ≡ true → 0 < l
-    judged-levels = enters s l first at stop long lt k h n own
-
-    leaves : level s l first at stop ≡ level s l false (at + n) stop → Judged s l first at stop (Item k h n)
-    leaves w = let z = judged-sizes in (w, omega arith, z .2)
-
-    pub judged-plain : isEntered k ≡ false → Judged s l first at stop (Item k h n)
-    judged-plain n-in = leaves (turn-plain s l first at stop long lt k h n own n-in)
-
-    pub judged-entered : isEntered k ≡ true → (v : Verdict) → v ≡ level s (l - 1) (isRuled k) (at + h) (at + n) → (r : Framed) → r ≡ toldBy (Item k h n) v
-        → Judged s l first at stop r
-    unfolding toldBy
-    judged-entered i Accepted w r t = rw t (leaves (turn-entered s l first at stop long lt k h n own i Accepted w refl))
-    judged-entered i (Refused m p) w r t = rw t (turn-inner s l first at stop long lt k h n own i (Refused m p) w m p refl)
-
--- ---- 7 in a group that is entered
-
-pub marked : (s : List ℕ) (l at stop x y : ℕ) → x ≡ y → level s l (isOverrideable y) at stop ≡ level s l (ltb x 3) at stop
-unfolding isOverrideable
-marked s l at stop x y e = rw e
-
 -- ---- an item found
 
-pub found-refused : (s : List ℕ) (l : ℕ) (first : Bool) (at stop : ℕ) → 4 * stop ≤ length s → at < stop → (m p : ℕ)
-    → nextOwn first (part s at stop) l ≡ Unframed m p → Found s l first at stop (Unframed m (4 * at + p))
-found-refused s l first at stop long lt m p e = turn-refused s l first at stop long lt m p e
+pub found-refused : (s : List ℕ) (t : Bool) (l : ℕ) (first : Bool) (at stop : ℕ) → 4 * stop ≤ length s → at < stop → (m p : ℕ)
+    → nextOwn t first (part s at stop) l ≡ Unframed m p → Found s t l first at stop (Unframed m (4 * at + p))
+found-refused s t l first at stop long lt m p e = turn-refused s t l first at stop long lt m p e
 
-pub found-item : (s : List ℕ) (l : ℕ) (first : Bool) (at stop : ℕ) (k : Kind) (h n : ℕ) → nextOwn first (part s at stop) l ≡ Item k h n
-    → Found s l first at stop (Item k h n)
-found-item s l first at stop k h n e = own-item first (part s at stop) l k h n e
+pub found-item : (s : List ℕ) (t : Bool) (l : ℕ) (first : Bool) (at stop : ℕ) (k : Kind) (h n : ℕ) → nextOwn t first (part s at stop) l ≡ Item k h n
+    → Found s t l first at stop (Item k h n)
+found-item s t l first at stop k h n e = own-item t first (part s at stop) l k h n e

@@ -1,18 +1,18 @@
-// The next item of a group or stream, framed and judged by its own checks, and which groups are entered. What a walk through a
-// group's contents is made of.
+// The next item of a group or stream, framed and judged by its own checks, and how groups are entered. What a walk through a group's
+// contents is made of.
 use format::Framed;
 use format::Kind;
 ghost use mathlib.Core.Path.{_≡_};
 ghost use Rattle.format.specs.Units.{textSextets, binarySextets};
-ghost use Rattle.report_next.specs.Next.{nextOwn, isEntered, isRuled};
+ghost use Rattle.report_next.specs.Next.{nextOwn, isEntered, isRuled, holdsIndexed};
 
-// ---- the next item, framed, and judged by its own checks
+// ---- the next item, framed by the table that is asked, and judged by its own checks
 
-pub fn next_text(part: &[u8], first: bool, levels: usize) -> Framed
-    ensures { λ r. ⌜ r ≡ nextOwn first (textSextets (now (part .entry))) levels ⌝ }
+pub fn next_text(part: &[u8], indexed: bool, first: bool, levels: usize) -> Framed
+    ensures { λ r. ⌜ r ≡ nextOwn indexed first (textSextets (now (part .entry))) levels ⌝ }
 {
     let cs = framing_head::text_head(part);
-    let framed = framing::frame_next_head(cs, part.len() / 4, first);
+    let framed = framing::frame_next_head(indexed, first, cs, part.len() / 4);
     match framed {
         Framed::Unframed {
             number: _,
@@ -27,11 +27,11 @@ pub fn next_text(part: &[u8], first: bool, levels: usize) -> Framed
     }
 }
 
-pub fn next_binary(part: &[u8], first: bool, levels: usize) -> Framed
-    ensures { λ r. ⌜ r ≡ nextOwn first (binarySextets (now (part .entry))) levels ⌝ }
+pub fn next_binary(part: &[u8], indexed: bool, first: bool, levels: usize) -> Framed
+    ensures { λ r. ⌜ r ≡ nextOwn indexed first (binarySextets (now (part .entry))) levels ⌝ }
 {
     let cs = framing_head::binary_head(part);
-    let framed = framing::frame_next_head(cs, part.len() / 3, first);
+    let framed = framing::frame_next_head(indexed, first, cs, part.len() / 3);
     match framed {
         Framed::Unframed {
             number: _,
@@ -47,7 +47,7 @@ pub fn next_binary(part: &[u8], first: bool, levels: usize) -> Framed
 
 // ---- the items of a group, one by one
 
-// A group whose contents are items.
+// Every group is entered.
 pub fn is_entered(kind: Kind) -> bool
     ensures { λ r. ⌜ r ≡ isEntered kind ⌝ }
 {
@@ -58,8 +58,9 @@ pub fn is_entered(kind: Kind) -> bool
             lead: _,
             count: _,
         } => false,
-        Kind::Group { letter } => !registry::is_opaque(letter),
+        Kind::Group { letter: _ } => true,
         Kind::Genus => false,
+        Kind::Indexed(_) => false,
     }
 }
 
@@ -76,5 +77,23 @@ pub fn is_ruled(kind: Kind) -> bool
         } => false,
         Kind::Group { letter } => registry::is_overrideable(letter),
         Kind::Genus => false,
+        Kind::Indexed(_) => false,
+    }
+}
+
+// A group whose items are indexed ones.
+pub fn holds_indexed(kind: Kind) -> bool
+    ensures { λ r. ⌜ r ≡ holdsIndexed kind ⌝ }
+{
+    match kind {
+        Kind::Fixed(_) => false,
+        Kind::Variable {
+            letter: _,
+            lead: _,
+            count: _,
+        } => false,
+        Kind::Group { letter } => registry::is_indexed(letter),
+        Kind::Genus => false,
+        Kind::Indexed(_) => false,
     }
 }

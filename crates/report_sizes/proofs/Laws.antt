@@ -12,7 +12,7 @@ use Rattle.format.specs.declared.Kind.{Kind}
 use Rattle.format.specs.declared.Framed.{Framed}
 use Rattle.format.specs.declared.Framed.the-variants.{Item, Unframed}
 use Rattle.format.specs.Units.{Domain, domain}
-use Rattle.format.specs.Framing.{frameRuled, scale}
+use Rattle.format.specs.Framing.{frameRuled, frameNext, scale}
 use Rattle.format.specs.Report.{frameIn}
 use Rattle.laws.specs.Domains.{reader}
 use Rattle.laws.specs.Frames.{frames}
@@ -35,6 +35,7 @@ pub tells-group : (s : List ℕ) (at clean r : ℕ) → at < clean → Clear s a
 tells-group s at clean r l K e p h = told-item _ _ _ _ (group-drop s at clean K l r e p h)
 
 pub tells-sized : (s : List ℕ) (at clean r : ℕ) → at < clean → Clear s at clean → sizedAt plainTable s at ≡ r → Tells s at r
+unfolding frameRuled frameNext
 tells-sized s at clean r l K e p h = told-item _ _ _ _ (sized-drop s at clean K l r e p h .framed true)
 
 pub size-told : (f : Form) (s : List ℕ) (at r u : ℕ) → u ≡ length s / domain f .unit → at < u → r ≤ u - at → 0 < r → Tells (domain f .sextets s) at r

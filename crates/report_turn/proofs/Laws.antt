@@ -2,7 +2,7 @@
 -- Assumes nothing.
 use Prim.Native.Nat.{ℕ, _+_, _-_, _*_, _/_, _≤_, _<_, min}
 use mathlib.Core.Path.{_≡_, _∙_}
-use mathlib.Core.Bool.{true}
+use mathlib.Core.Bool.{true, false}
 use mathlib.Core.List.{List, [], _∷_, _++_}
 use native.Mathlib.Omega.{arith}
 use native.Mathlib.Nat.{mul-comm, mul-add, mul-le-mul-left, le-div-iff-mul-le, min-le-left, min-le-right}
@@ -70,8 +70,8 @@ module _ (f : Form) (u : ℕ) (is-u : u ≡ domain f .unit) (s : List ℕ) where
         room = rw (mul-comm (d .unit) stop) (le-div-iff-mul-le (reader f .pos) .0 (min-le-right clean (length s / d .unit)));
         few = few;
       } in
-      let t : Taken S maxDepth true (from + j * k) stop k =
-      plain-taken S maxDepth stop (wide f s maxDepth true (from + j * k) stop I) true (from + j * k) k stop (z .0) (R .some) (z .1)
+      let t : Taken S false maxDepth true (from + j * k) stop k =
+      plain-taken S maxDepth stop (wide f s false maxDepth true (from + j * k) stop I) true (from + j * k) k stop (z .0) (R .some) (z .1)
       (clear-less S a clean (from + j * k) stop K (omega arith) (omega arith)) (z .1) in
       taken-good f s (from + j * k) stop k I t
 

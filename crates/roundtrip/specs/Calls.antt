@@ -10,7 +10,7 @@ use borrow.Author.Tests.{le-ltb, ltb-false}
 use Rattle.base.specs.Pick.{pick-by}
 use Rattle.base.specs.Digits.{Below, below-take, below-drop}
 use Rattle.format.specs.declared.Kind.{Kind}
-use Rattle.format.specs.declared.Kind.the-variants.{Fixed, Variable, Group, Genus}
+use Rattle.format.specs.declared.Kind.the-variants.{Fixed, Variable, Group, Genus, Indexed}
 use Rattle.format.specs.declared.Primitive.{Primitive}
 use Rattle.format.specs.declared.TextFound.the-variants as T
 use Rattle.format.specs.declared.BinaryFound.the-variants as B
@@ -45,6 +45,7 @@ own-inside (Variable t l m) h n s o =
     raw-inside (Variable t l m) h n (omega (arith, f .units)) (f .few, f .units) (has-lead l m (f .led))
 own-inside (Group l) h n s o = absurd (o .form)
 own-inside Genus h n s o = absurd (o .form)
+own-inside (Indexed c) h n s o = absurd (o .form)
 
 pub raw-length : (k : Kind) (h n : ℕ) (s : List ℕ) → Own k h n s → length (rawOf k h s) ≡ 3 * n - rawStart k h
 unfolding rawOf
@@ -57,36 +58,39 @@ value-length k h n s o = length-append (rawOf k h s) (textIn k h s) ∙ ap (λ (
 drop-take : (i j : ℕ) (s : List ℕ) → i ≤ length s → drop i (take (i + j) s) ≡ take j (drop i s)
 drop-take i j s h = rw (take-add i j s) (drop-at (take i s) (take j (drop i s)) i (length-take-le i s h))
 
-text-length : (s : List ℕ) → length (textSextets s) ≡ length s
+pub text-length : (s : List ℕ) → length (textSextets s) ≡ length s
 unfolding textSextets
 text-length s = length-map s sextetOf
 
 -- an item's own bytes in a binary, and in a text
-binary-own : (ys : List ℕ) (n : ℕ) → n * 3 ≤ length ys → Below 256 (take (n * 3) ys)
+pub binary-own : (ys : List ℕ) (n : ℕ) → n * 3 ≤ length ys → Below 256 (take (n * 3) ys)
     → bytesIn (take (4 * n) (binarySextets ys)) ≡ take (n * 3) ys
 binary-own ys n l low =
     let e : 4 * n ≡ n * 4 = omega arith in
     rw (e, ← (binary-reader .taken ys n l)) (binary-bytes (take (n * 3) ys) (omega (arith, length-take-le (n * 3) ys l)) low)
 
-text-own : (ys : List ℕ) (n : ℕ) → n * 4 ≤ length ys → bytesIn (take (4 * n) (textSextets ys)) ≡ toBinary (take (n * 4) ys)
+pub text-own : (ys : List ℕ) (n : ℕ) → n * 4 ≤ length ys → bytesIn (take (4 * n) (textSextets ys)) ≡ toBinary (take (n * 4) ys)
 text-own ys n l =
     let e : 4 * n ≡ n * 4 = omega arith in
     rw (e, ← (text-reader .taken ys n l)) (text-bytes (take (n * 4) ys))
+
+-- from a byte of the item on, to its end
+pub part-at : (xs : List ℕ) (at st n : ℕ) → st ≤ 3 * n → n * 3 ≤ length (drop at xs)
+    → take (3 * n - st) (drop (at + st) xs) ≡ drop st (take (n * 3) (drop at xs))
+part-at xs at st n i l =
+    let e : n * 3 ≡ st + (3 * n - st) = omega arith in
+    sym (
+    ap (λ (x : ℕ). drop st (take x (drop at xs))) e
+    ∙ drop-take st (3 * n - st) (drop at xs) (omega arith)
+    ∙ ap (take (3 * n - st)) (drop-drop st at xs)
+    )
 
 part-is : (xs : List ℕ) (at : ℕ) (k : Kind) (h n : ℕ) → Own k h n (take (4 * n) (binarySextets (drop at xs)))
     → n * 3 ≤ length (drop at xs) → Below 256 (take (n * 3) (drop at xs))
     → take (3 * n - rawStart k h) (drop (at + rawStart k h) xs) ≡ rawOf k h (take (4 * n) (binarySextets (drop at xs)))
 unfolding rawOf
 part-is xs at k h n o l low =
-    let st = rawStart k h in
-    let i = own-inside k h n _ o in
-    let e : n * 3 ≡ st + (3 * n - st) = omega arith in
-    sym (
-    ap (drop st) (binary-own (drop at xs) n l low)
-    ∙ ap (λ (x : ℕ). drop st (take x (drop at xs))) e
-    ∙ drop-take st (3 * n - st) (drop at xs) (omega arith)
-    ∙ ap (take (3 * n - st)) (drop-drop st at xs)
-    )
+    part-at xs at (rawStart k h) n (own-inside k h n _ o) l ∙ sym (ap (drop (rawStart k h)) (binary-own (drop at xs) n l low))
 
 -- ---- what a call answers, from what reading its sextets finds
 

@@ -7,7 +7,7 @@ use lib.ListN.{length, take, drop}
 use Rattle.base.specs.Digits.{Below}
 use Rattle.format.specs.declared.CodeRow.{CodeRow}
 use Rattle.format.specs.declared.Kind.{Kind}
-use Rattle.format.specs.declared.Kind.the-variants.{Fixed, Variable, Group, Genus}
+use Rattle.format.specs.declared.Kind.the-variants.{Fixed, Variable, Group, Genus, Indexed}
 use Rattle.format.specs.Registry.{zeroBitsOf, prepadOf, isType}
 use Rattle.format.specs.Framing.{sextet, digits4}
 use Rattle.format.specs.Texts.{valueRight}
@@ -44,6 +44,7 @@ Form (Fixed c) h n s = Coded c h n s
 Form (Variable t l m) h n s = Counted t l m h n s
 Form (Group l) h n s = ⊥
 Form Genus h n s = ⊥
+Form (Indexed c) h n s = ⊥
 
 pub record Own (k : Kind) (h n : ℕ) (s : List ℕ) : Type 0 where
   pub size : length s ≡ 4 * n

@@ -9,7 +9,7 @@ use lib.ListN.{length, take}
 use borrow.Author.Tests.{eqb-true}
 use Rattle.base.specs.Cases.{whether}
 use Rattle.format.specs.declared.Kind.{Kind}
-use Rattle.format.specs.declared.Kind.the-variants.{Fixed, Variable, Group, Genus}
+use Rattle.format.specs.declared.Kind.the-variants.{Fixed, Variable, Group, Genus, Indexed}
 use Rattle.format.specs.declared.Primitive.{Primitive}
 use Rattle.format.specs.declared.Code.the-variants as C
 use Rattle.format.specs.declared.BinaryFound.the-variants as B
@@ -44,6 +44,7 @@ none (Variable t₁ l m) h n s o t =
     rw (letter-text t₁ (o .form .type) c) (omega (arith, o .form .units))
 none (Group l) h n s o t = absurd (o .form)
 none Genus h n s o t = absurd (o .form)
+none (Indexed c) h n s o t = absurd (o .form)
 
 others : (k : Kind) (h n : ℕ) (s : List ℕ) → Own k h n s → ¬ (typeOf (codeOf k h) ≡ C.Small 65) → textIn k h s ≡ []
 unfolding codeOf
@@ -52,6 +53,7 @@ others (Variable t₁ l m) h n s o t =
     ⊎-elim (λ e. absurd (t (type-small t₁ h ∙ ap C.Small (text-letter t₁ e)))) (λ e. counted-text t₁ l m h s e) (whether (isText t₁))
 others (Group l) h n s o t = absurd (o .form)
 others Genus h n s o t = absurd (o .form)
+others (Indexed c) h n s o t = absurd (o .form)
 
 -- ---- the calls
 

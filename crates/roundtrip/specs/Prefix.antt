@@ -24,7 +24,7 @@ use Rattle.roundtrip.specs.Rows.{Spread, single, led, pair, whole}
 abbrev Fronts : List ℕ → ℕ → ℕ → ℕ → List ℕ → Type 0
 Fronts s m z n k = (take n (bytesIn s) ≡ digitsOf 256 n (numberOf 64 k * 2 ^ z)) ↔ ((take m s ≡ k) × (zeroBits s m z ≡ true))
 
-list2 : {a b a′ b′ : ℕ} → a ≡ a′ → b ≡ b′ → a ∷ b ∷ [] ≡ a′ ∷ b′ ∷ []
+pub list2 : {a b a′ b′ : ℕ} → a ≡ a′ → b ≡ b′ → a ∷ b ∷ [] ≡ a′ ∷ b′ ∷ []
 list2 p q = cc
 
 list3 : {a b c a′ b′ c′ : ℕ} → a ≡ a′ → b ≡ b′ → c ≡ c′ → a ∷ b ∷ c ∷ [] ≡ a′ ∷ b′ ∷ c′ ∷ []
@@ -44,7 +44,7 @@ digits3 m a b c e p q r =
 
 module _ (x y u v : ℕ) (r : List ℕ) (px : x < 64) (py : y < 64) (pu : u < 64) (pv : v < 64) (low : Below 64 r) where
   -- the first unit's three bytes
-  front : bytesIn (x ∷ y ∷ u ∷ v ∷ r) ≡ (x * 4 + y / 16) ∷ (y % 16 * 16 + u / 4) ∷ (u % 4 * 64 + v) ∷ bytesIn r
+  pub front : bytesIn (x ∷ y ∷ u ∷ v ∷ r) ≡ (x * 4 + y / 16) ∷ (y % 16 * 16 + u / 4) ∷ (u % 4 * 64 + v) ∷ bytesIn r
   unfolding bytesOf
   front =
       bytes-front x y u v r

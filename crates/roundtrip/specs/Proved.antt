@@ -27,7 +27,7 @@ use Rattle.roundtrip.specs.Claims.{WrittenReads, WrittenConverts, ReadWr
 
 -- ---- what a call wrote
 
-binary-written : (w : Writing) (n : ℕ) → binaryOutcome w ≡ B.Written (binaryOffset (n * 3)) → w ≡ written n
+pub binary-written : (w : Writing) (n : ℕ) → binaryOutcome w ≡ B.Written (binaryOffset (n * 3)) → w ≡ written n
 unfolding binaryOutcome
 binary-written (refused m p) n e = let z : _≡_ {A = ℕ} 0 1 = cc in absurd (omega arith)
 binary-written (written m) n e =
@@ -35,7 +35,7 @@ binary-written (written m) n e =
     let k : m * 3 ≡ n * 3 = ap (λ (x : BinaryOffset). x .0) o in
     ap written (omega arith)
 
-text-written : (w : Writing) (n : ℕ) → textOutcome w ≡ T.Written (textOffset (n * 4)) → w ≡ written n
+pub text-written : (w : Writing) (n : ℕ) → textOutcome w ≡ T.Written (textOffset (n * 4)) → w ≡ written n
 unfolding textOutcome
 text-written (refused m p) n e = let z : _≡_ {A = ℕ} 0 1 = cc in absurd (omega arith)
 text-written (written m) n e =

@@ -12,9 +12,9 @@ use Rattle.base.specs.Pick.{pick, pick-by}
 use Rattle.base.specs.Digits.{Below, none, more, below-drop}
 use Rattle.format.specs.declared.CodeRow.{CodeRow}
 use Rattle.format.specs.declared.Kind.{Kind}
-use Rattle.format.specs.declared.Kind.the-variants.{Fixed, Variable, Group, Genus}
+use Rattle.format.specs.declared.Kind.the-variants.{Fixed, Variable, Group, Genus, Indexed}
 use Rattle.format.specs.declared.Opening.{Opening}
-use Rattle.format.specs.declared.Opening.the-variants.{Unknown, Short, LargeVariable, LargeGroup, Version}
+use Rattle.format.specs.declared.Opening.the-variants.{Unknown, Short, Long, LargeVariable, LargeGroup, Version}
 use Rattle.format.specs.declared.Framed.{Framed}
 use Rattle.format.specs.declared.Framed.the-variants.{Item, Unframed}
 use Rattle.format.specs.declared.Verdict.{Verdict}
@@ -60,6 +60,8 @@ Says s (Short (Fixed c) n) = Row c n × (take (c .chars) s ≡ codeSextets c)
 Says s (Short (Variable t l m) n) = (isType t ≡ true) × Headed t l m 1 (sextet s)
 Says s (Short (Group l) n) = Unit {0}
 Says s (Short Genus n) = Unit {0}
+Says s (Short (Indexed c) n) = Unit {0}
+Says s (Long k n) = ⊥
 Says s (LargeVariable t l) = (isType t ≡ true) × (sextet s 0 ≡ 59 + l) × (sextet s 1 ≡ 0) × (sextet s 2 ≡ 0) × (sextet s 3 ≡ t)
 Says s (LargeGroup l d) = Unit {0}
 Says s Version = Unit {0}
@@ -73,6 +75,8 @@ fixed-says s chars letter f (Short (Fixed c) n) e =
 fixed-says s chars letter f (Short (Variable t l m) n) e = absurd (subst (Finds chars letter) e (fixed-finds chars letter))
 fixed-says s chars letter f (Short (Group l) n) e = tt
 fixed-says s chars letter f (Short Genus n) e = tt
+fixed-says s chars letter f (Short (Indexed c) n) e = tt
+fixed-says s chars letter f (Long k n) e = absurd (subst (Finds chars letter) e (fixed-finds chars letter))
 fixed-says s chars letter f (LargeVariable t l) e = absurd (subst (Finds chars letter) e (fixed-finds chars letter))
 fixed-says s chars letter f (LargeGroup l d) e = tt
 fixed-says s chars letter f Version e = tt
@@ -107,7 +111,7 @@ opening-says s (quad {x} {y} {u} {v} {r}) =
 -- ---- what a framing says
 
 -- the header's own sextets are of the alphabet
-abbrev Lows : List ℕ → ℕ → Type 0
+abbrev pub Lows : List ℕ → ℕ → Type 0
 Lows s h = Known (sextet s) 0 × (h ≡ 2 → Known (sextet s) 4)
 
 abbrev Starts : List ℕ → Framed → Type 0
@@ -115,6 +119,7 @@ Starts s (Item (Fixed c) h n) = Lows s h × Row c n × (take (c .chars) s ≡ co
 Starts s (Item (Variable t l m) h n) = Lows s h × (isType t ≡ true) × Headed t l m h (sextet s)
 Starts s (Item (Group l) h n) = Unit {0}
 Starts s (Item Genus h n) = Unit {0}
+Starts s (Item (Indexed c) h n) = Unit {0}
 Starts s (Unframed n p) = Unit {0}
 
 fit-starts : (s : List ℕ) (k : Kind) (h n len : ℕ) → Starts s (Item k h n) → Starts s (fit k h n len)
@@ -134,6 +139,8 @@ headed-starts s (Short (Variable t l m) n) len k f =
     fit-starts s (Variable t l m) 1 n len ((k, λ e. absurd (omega arith)), f .0, f .1)
 headed-starts s (Short (Group l) n) len k f = fit-starts s (Group l) 1 n len tt
 headed-starts s (Short Genus n) len k f = fit-starts s Genus 1 n len tt
+headed-starts s (Short (Indexed c) n) len k f = fit-starts s (Indexed c) 1 n len tt
+headed-starts s (Long i n) len k f = absurd f
 headed-starts s (LargeVariable t l) len k f =
     second-starts s len _ (λ k′. fit-starts s (Variable t l (digits4 (sextet s))) 2 _ len
     ((k, λ _. k′), f .0, large refl (f .1) (f .2) (f .3) (f .4) refl))
@@ -149,12 +156,12 @@ frame-starts s =
 
 -- ---- framing an item's own sextets, and the same with more behind them
 
-known-low : (s : List ℕ) (i : ℕ) → Below 64 s → Known (sextet s) i
+pub known-low : (s : List ℕ) (i : ℕ) → Below 64 s → Known (sextet s) i
 known-low s i low =
     let w = below-any 64 s (lit< tt) low in
     (lt-ltb _ 64 (w i), lt-ltb _ 64 (w (i + 1)), lt-ltb _ 64 (w (i + 2)), lt-ltb _ 64 (w (i + 3)))
 
-fits : (k : Kind) (h n len : ℕ) → n ≤ len → fit k h n len ≡ Item k h n
+pub fits : (k : Kind) (h n len : ℕ) → n ≤ len → fit k h n len ≡ Item k h n
 unfolding fit
 fits k h n len l = rw (le-ltb len n l)
 
@@ -209,6 +216,7 @@ own-frames (Variable t l m) h n s o =
     counted-frames t l m h n s (o .size) (o .low) (f .type) (f .few) (f .units) (f .head)
 own-frames (Group l) h n s o = absurd (o .form)
 own-frames Genus h n s o = absurd (o .form)
+own-frames (Indexed c) h n s o = absurd (o .form)
 
 -- an item's own sextets, whatever stands behind them
 lawful : (s : List ℕ) (k : Kind) (h n : ℕ) → frame s ≡ Item k h n → Lawful (frameWith opening) (sextet s) (length s / 4) k h n
@@ -233,17 +241,17 @@ frame-own s k h n f =
 never {ℓ} : {A : Type ℓ} (n p : ℕ) → Refused n p ≡ Accepted → A
 never n p e = let z : _≡_ {A = ℕ} 0 1 = cc in absurd (omega arith)
 
-shifted : (n : ℕ) (v : Verdict) → shift n v ≡ Accepted → v ≡ Accepted
+pub shifted : (n : ℕ) (v : Verdict) → shift n v ≡ Accepted → v ≡ Accepted
 unfolding shift
 shifted n Accepted e = refl
 shifted n (Refused m p) e = never m (n + p) e
 
-both-accept : (v w : Verdict) → andThen v w ≡ Accepted → (v ≡ Accepted) × (w ≡ Accepted)
+pub both-accept : (v w : Verdict) → andThen v w ≡ Accepted → (v ≡ Accepted) × (w ≡ Accepted)
 unfolding andThen
 both-accept Accepted w e = (refl, e)
 both-accept (Refused n p) w e = never n p e
 
-passes : (n : ℕ) (b : Bool) → unless n b ≡ Accepted → b ≡ true
+pub passes : (n : ℕ) (b : Bool) → unless n b ≡ Accepted → b ≡ true
 unfolding unless
 passes n true e = refl
 passes n false e = never n 0 e
@@ -265,6 +273,7 @@ own-judges (Variable t l m) h n s o =
     rw (scan-below _ (below-drop 64 (4 * h) s (o .low)), f .shortest, f .led, f .zeros, f .right)
 own-judges (Group l) h n s o = absurd (o .form)
 own-judges Genus h n s o = absurd (o .form)
+own-judges (Indexed c) h n s o = absurd (o .form)
 
 own-primitive : (k : Kind) (h n : ℕ) (s : List ℕ) → Own k h n s → isPrimitive k ≡ true
 unfolding isPrimitive
@@ -272,6 +281,7 @@ own-primitive (Fixed c) h n s o = refl
 own-primitive (Variable t l m) h n s o = refl
 own-primitive (Group l) h n s o = absurd (o .form)
 own-primitive Genus h n s o = absurd (o .form)
+own-primitive (Indexed c) h n s o = absurd (o .form)
 
 -- ---- own sextets are read, whatever stands behind them
 
@@ -295,7 +305,7 @@ low-quad s (quad {x} {y} {u} {v} {r}) k b =
 low-quads : (s : List ℕ) → Quad s → 8 ≤ length s → Lows s 2 → Below 64 (drop 8 s) → Below 64 s
 low-quads s (quad {x} {y} {u} {v} {r}) l k b = low-quad (x ∷ y ∷ u ∷ v ∷ r) quad (k .0) (low-quad r (quad-of r (omega arith)) (k .1 refl) b)
 
-own-low : (s : List ℕ) (h : ℕ) → 0 < h → h ≤ 2 → 4 * h ≤ length s → Lows s h → Below 64 (drop (4 * h) s) → Below 64 s
+pub own-low : (s : List ℕ) (h : ℕ) → 0 < h → h ≤ 2 → 4 * h ≤ length s → Lows s h → Below 64 (drop (4 * h) s) → Below 64 s
 own-low s zero p q l k b = absurd (omega arith)
 own-low s (suc zero) p q l k b = low-quad s (quad-of s (omega arith)) (k .0) b
 own-low s (suc (suc zero)) p q l k b = low-quads s (quad-of s (omega arith)) (omega arith) k b
@@ -335,6 +345,7 @@ own-by (Variable t l m) h n s e p g f j =
     }
 own-by (Group l) h n s e p g f j = let z : _≡_ {A = ℕ} 0 1 = cc in absurd (omega arith)
 own-by Genus h n s e p g f j = let z : _≡_ {A = ℕ} 0 1 = cc in absurd (omega arith)
+own-by (Indexed c) h n s e p g f j = let z : _≡_ {A = ℕ} 0 1 = cc in absurd (omega arith)
 
 -- what a reading found was framed and judged
 record Judged (s : List ℕ) (r : Framed) (k : Kind) (h n : ℕ) : Type 0 where

@@ -11,9 +11,9 @@ use Rattle.base.specs.Pick.{pick-by}
 use Rattle.base.specs.Table.{both, both-left, both-right}
 use Rattle.base.specs.Cases.{lt-or-ge}
 use Rattle.format.specs.declared.CodeRow.{CodeRow}
-use Rattle.format.specs.declared.Kind.the-variants.{Fixed, Variable, Group, Genus}
+use Rattle.format.specs.declared.Kind.the-variants.{Fixed, Variable, Group, Genus, Indexed}
 use Rattle.format.specs.declared.Opening.{Opening}
-use Rattle.format.specs.declared.Opening.the-variants.{Unknown, Short, LargeVariable, LargeGroup, Version}
+use Rattle.format.specs.declared.Opening.the-variants.{Unknown, Short, Long, LargeVariable, LargeGroup, Version}
 use Rattle.format.specs.Registry.{codes, zeroBitsOf, isType, fixedAmong, fixed}
 use Rattle.laws.specs.Registry.{Sound, Code, one, two, four, Finds, fixed-finds}
 
@@ -70,6 +70,8 @@ Passes (Short (Fixed c) n) = T (isLettered c)
 Passes (Short (Variable t l m) n) = Unit {0}
 Passes (Short (Group l) n) = Unit {0}
 Passes (Short Genus n) = Unit {0}
+Passes (Short (Indexed c) n) = Unit {0}
+Passes (Long k n) = Unit {0}
 Passes (LargeVariable t l) = Unit {0}
 Passes (LargeGroup l d) = Unit {0}
 Passes Version = Unit {0}

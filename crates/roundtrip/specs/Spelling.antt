@@ -11,7 +11,7 @@ use borrow.Author.Tests.{leb-true}
 use Rattle.base.specs.Pick.{pick, pick-by}
 use Rattle.base.specs.Digits.{Below}
 use Rattle.format.specs.declared.Kind.{Kind}
-use Rattle.format.specs.declared.Kind.the-variants.{Fixed, Variable, Group, Genus}
+use Rattle.format.specs.declared.Kind.the-variants.{Fixed, Variable, Group, Genus, Indexed}
 use Rattle.format.specs.declared.Primitive.{Primitive}
 use Rattle.format.specs.declared.Code.{Code}
 use Rattle.format.specs.declared.Code.the-variants as C
@@ -97,10 +97,13 @@ same-code (Variable t₁ l m) (Variable t′ l′ m′) h h′ n n′ s s′ o o
     rw (head, c)
 same-code (Group l) k′ h h′ n n′ s s′ o o′ few few′ t e = absurd (o .form)
 same-code Genus k′ h h′ n n′ s s′ o o′ few few′ t e = absurd (o .form)
+same-code (Indexed c) k′ h h′ n n′ s s′ o o′ few few′ t e = absurd (o .form)
 same-code (Fixed c) (Group l′) h h′ n n′ s s′ o o′ few few′ t e = absurd (o′ .form)
 same-code (Fixed c) Genus h h′ n n′ s s′ o o′ few few′ t e = absurd (o′ .form)
+same-code (Fixed c) (Indexed c′) h h′ n n′ s s′ o o′ few few′ t e = absurd (o′ .form)
 same-code (Variable t₁ l m) (Group l′) h h′ n n′ s s′ o o′ few few′ t e = absurd (o′ .form)
 same-code (Variable t₁ l m) Genus h h′ n n′ s s′ o o′ few few′ t e = absurd (o′ .form)
+same-code (Variable t₁ l m) (Indexed c′) h h′ n n′ s s′ o o′ few few′ t e = absurd (o′ .form)
 
 -- and the code how many tag characters there are
 abbrev tagsIn : Named → ℕ
@@ -115,6 +118,7 @@ tags-named (Fixed c) h = refl
 tags-named (Variable t l m) h = pick-by (λ (x : Named). tagsIn x ≡ 0) (isText t) (textual h) (variable t h) (λ _. refl) (λ _. refl)
 tags-named (Group l) h = refl
 tags-named Genus h = refl
+tags-named (Indexed c) h = refl
 
 same-tags : (k k′ : Kind) (h h′ n n′ : ℕ) (s s′ : List ℕ) → Own k h n s → Own k′ h′ n′ s′ → codeOf k h ≡ codeOf k′ h′ → tagsOf k ≡ tagsOf k′
 same-tags k k′ h h′ n n′ s s′ o o′ c =

@@ -9,7 +9,7 @@ use Rattle.base.specs.Pick.{pick}
 use Rattle.base.specs.Digits.{Below}
 use Rattle.format.specs.declared.CodeRow.{CodeRow}
 use Rattle.format.specs.declared.Kind.{Kind}
-use Rattle.format.specs.declared.Kind.the-variants.{Fixed, Variable, Group, Genus}
+use Rattle.format.specs.declared.Kind.the-variants.{Fixed, Variable, Group, Genus, Indexed}
 use Rattle.format.specs.declared.Code.{Code}
 use Rattle.format.specs.declared.Code.the-variants as C
 use Rattle.format.specs.Alphabet.{charOf}
@@ -27,6 +27,7 @@ nameOf (Fixed c) h = row c
 nameOf (Variable t l m) h = pick (isText t) (textual h) (variable t h)
 nameOf (Group l) h = unknown
 nameOf Genus h = unknown
+nameOf (Indexed c) h = unknown
 
 -- and what the reader calls it
 abbrev pub codeFor : Named → Code

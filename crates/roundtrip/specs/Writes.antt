@@ -13,9 +13,9 @@ use Rattle.base.specs.Cases.{whether}
 use Rattle.base.specs.Digits.{Below}
 use Rattle.format.specs.declared.CodeRow.{CodeRow}
 use Rattle.format.specs.declared.Kind.{Kind}
-use Rattle.format.specs.declared.Kind.the-variants.{Fixed, Variable, Group, Genus}
+use Rattle.format.specs.declared.Kind.the-variants.{Fixed, Variable, Group, Genus, Indexed}
 use Rattle.format.specs.declared.Opening.{Opening}
-use Rattle.format.specs.declared.Opening.the-variants.{Unknown, Short, LargeVariable, LargeGroup, Version}
+use Rattle.format.specs.declared.Opening.the-variants.{Unknown, Short, Long, LargeVariable, LargeGroup, Version}
 use Rattle.format.specs.declared.Code.{Code}
 use Rattle.format.specs.declared.Code.the-variants as C
 use Rattle.format.specs.Alphabet.{sextetOf, charOf}
@@ -61,6 +61,8 @@ names (C.Fixed chars letter) = by (fixed chars (sextetOf letter)) refl
     by (Short (Variable t l m) n) e = noCode
     by (Short (Group l) n) e = noCode
     by (Short Genus n) e = noCode
+    by (Short (Indexed c) n) e = noCode
+    by (Long k n) e = noCode
     by (LargeVariable t l) e = noCode
     by (LargeGroup l d) e = noCode
     by Version e = noCode
@@ -103,6 +105,7 @@ own-named (Variable t l m) h n s o = by (o .form .head)
     by (large e a b c d g) = rw (e, sextet-char t (type-low t (o .form .type)), o .form .type)
 own-named (Group l) h n s o = absurd (o .form)
 own-named Genus h n s o = absurd (o .form)
+own-named (Indexed c) h n s o = absurd (o .form)
 
 -- ---- written back
 
@@ -126,6 +129,7 @@ own-writes (Variable t l m) h n s o few =
         (valueOf (Variable t l m) h s) n s) (sym e) w
 own-writes (Group l) h n s o few = absurd (o .form)
 own-writes Genus h n s o few = absurd (o .form)
+own-writes (Indexed c) h n s o few = absurd (o .form)
 
 -- ---- written
 

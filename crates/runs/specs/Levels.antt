@@ -1,33 +1,30 @@
--- Plain primitives and small groups among the items of a group or stream, their characters known: what they leave of the verdict.
--- Assumes nothing.
-use Prim.Native.Nat.{ℕ, zero, suc, _+_, _-_, _*_, _/_, _%_, _≤_, _<_}
-use mathlib.Core.Path.{_≡_, refl, sym, ap, _∙_, subst}
-use mathlib.Core.List.{List, [], _∷_}
+-- Plain primitives and small groups among the items of a group or stream that the master table frames, their characters known: what they
+-- leave of the verdict. Assumes nothing.
+use Prim.Native.Nat.{ℕ, zero, suc, _+_, _-_, _*_, _/_, _≤_, _<_}
+use mathlib.Core.Path.{_≡_, refl, sym, ap, _∙_}
+use mathlib.Core.List.{List}
 use mathlib.Core.Bool.{Bool, true, false}
 use mathlib.Core.Logic.{⊎-elim}
 use native.Mathlib.Omega.{arith}
 use native.Mathlib.Nat.{suc-mul}
 use lib.Dec.{ltb, eqb}
-use lib.ListN.{length, take, drop, getD, length-take, length-drop, List·getD-eq-default}
+use lib.ListN.{length, take, drop, length-take, length-drop, List·getD-eq-default}
 use lib.Seq.{getD-take, getD-drop}
-use borrow.Author.Tests.{ltb-true, ltb-false, lt-ltb, le-ltb, eqb-true, eq-eqb}
+use borrow.Author.Tests.{ltb-true, lt-ltb, le-ltb, eqb-true}
 use Rattle.base.specs.Pick.{pick}
-use Rattle.base.specs.Cases.{whether, lt-or-ge}
-use Rattle.base.specs.Digits.{Below, none, more, below-at, below-all, below-take, below-drop}
-use Rattle.format.specs.declared.CodeRow.{CodeRow}
+use Rattle.base.specs.Cases.{lt-or-ge}
+use Rattle.base.specs.Digits.{Below, below-at, below-all}
 use Rattle.format.specs.declared.Kind.{Kind}
-use Rattle.format.specs.declared.Kind.the-variants.{Fixed, Variable, Group, Genus}
+use Rattle.format.specs.declared.Kind.the-variants.{Group}
 use Rattle.format.specs.declared.Opening.the-variants.{Short}
-use Rattle.format.specs.declared.Framed.{Framed}
-use Rattle.format.specs.declared.Framed.the-variants.{Item, Unframed}
+use Rattle.format.specs.declared.Framed.the-variants.{Item}
 use Rattle.format.specs.declared.Verdict.{Verdict}
-use Rattle.format.specs.declared.Verdict.the-variants.{Accepted, Refused}
-use Rattle.format.specs.Registry.{opening, isGroup, isOpaque, isOverrideable, zeroBitsOf, prepadOf}
-use Rattle.format.specs.Framing.{sextet, fit, headed, frameWith, ruled, frame, frameRuled}
-use Rattle.format.specs.Judging.{shift, andThen, unless, isShortest, scan, behind, zeroBits, prepadRight, judgeKind, ownCheck, inTurn, contents, group, judge}
-use Rattle.laws.specs.Framing.{Known, known-next}
-use Rattle.laws.specs.Scan.{scan-below}
-use Rattle.laws.specs.Levels.{shift-accepted, then-accepts, part, part-length, part-drop, part-take, frameNext, shift-shift, level, level-end, level-item, Taken, taken-level}
+use Rattle.format.specs.declared.Verdict.the-variants.{Accepted}
+use Rattle.format.specs.Registry.{openingBy, isIndexed, isOverrideable}
+use Rattle.format.specs.Framing.{sextet, fit, headed, frameWith, ruled, frameRuled, frameBy, frameNext}
+use Rattle.format.specs.Judging.{shift, andThen, unless, isShortest, judgeKind, ownCheck, group, judgeWith}
+use Rattle.laws.specs.Framing.{Known, known-next, by-with}
+use Rattle.laws.specs.Levels.{shift-accepted, then-accepts, part, part-length, part-drop, shift-shift, level, level-end, level-item, Taken, taken-level}
 use Rattle.runs.specs.Plain.{plainTable, sizedOf, plainOf, groupOf, unitBy, sizedAt, plainAt, groupAt, letterAt, nested}
 use Rattle.runs.specs.Opened.{Opens, Plain, plain-opens, sized-opens, group-opens}
 
@@ -97,25 +94,27 @@ told-drop f s at n e p =
 
 -- ---- framing by a first unit
 
-pub frame-short : (x : List ℕ) (k : Kind) (n : ℕ) → Head x → opening (sextet x 0) (sextet x 1) (sextet x 2) (sextet x 3) ≡ Short k n
-    → 0 < n → n ≤ length x / 4 → frame x ≡ Item k 1 n
-unfolding frame frameWith headed fit
-frame-short x k n h o p room = rw (le-ltb (length x / 4) 1 (omega arith), known-next (sextet x) 0 _ (head-known x h), o, le-ltb (length x / 4) n room)
+pub frame-short : (t : Bool) (x : List ℕ) (k : Kind) (n : ℕ) → Head x
+    → openingBy t (sextet x 0) (sextet x 1) (sextet x 2) (sextet x 3) ≡ Short k n → 0 < n → n ≤ length x / 4 → frameBy t x ≡ Item k 1 n
+unfolding frameWith headed fit
+frame-short t x k n h o p room =
+    by-with t x
+    ∙ rw (le-ltb (length x / 4) 1 (omega arith), known-next (sextet x) 0 _ (head-known x h), o, le-ltb (length x / 4) n room)
 
-pub next-short : (first : Bool) (x : List ℕ) (k : Kind) (n : ℕ) → ((at : ℕ → ℕ) (h m : ℕ) → ruled at (Item k h m) ≡ Item k h m) → frame x ≡ Item k 1 n
-    → frameNext first x ≡ Item k 1 n
-unfolding frameRuled
-next-short true x k n r e = rw e (r (sextet x) 1 n)
-next-short false x k n r e = e
+pub next-short : (t first : Bool) (x : List ℕ) (k : Kind) (n : ℕ) → ((at : ℕ → ℕ) (h m : ℕ) → ruled at (Item k h m) ≡ Item k h m)
+    → frameBy t x ≡ Item k 1 n → frameNext t first x ≡ Item k 1 n
+unfolding frameNext
+next-short t true x k n r e = rw e (r (sextet x) 1 n)
+next-short t false x k n r e = e
 
 -- an item, where 7 is asked and where it is not
 pub record Sized (x : List ℕ) (n : ℕ) : Type 0 where
   pub kind : Kind
-  pub framed : (first : Bool) → frameNext first x ≡ Item kind 1 n
+  pub framed : (first : Bool) → frameNext false first x ≡ Item kind 1 n
 
 opens-sized : (x : List ℕ) (n : ℕ) → Head x → Opens (sextet x 0) (sextet x 1) (sextet x 2) (sextet x 3) n → 0 < n → n ≤ length x / 4 → Sized x n
 opens-sized x n h o p room =
-    record { kind = o .kind; framed = λ first. next-short first x (o .kind) n (o .ruleless) (frame-short x (o .kind) n h (o .opens) p room) }
+    record { kind = o .kind; framed = λ first. next-short false first x (o .kind) n (o .ruleless) (frame-short false x (o .kind) n h (o .opens) p room) }
 
 sized-frames : (x : List ℕ) (n : ℕ) → Head x → sizedOf plainTable (sextet x 0) (sextet x 1) (sextet x 2) (sextet x 3) ≡ n → 0 < n → n ≤ length x / 4 → Sized x n
 sized-frames x n h e p room =
@@ -124,17 +123,17 @@ sized-frames x n h e p room =
 -- a plain primitive
 pub record Primitive (x : List ℕ) (n : ℕ) : Type 0 where
   pub plain : Plain (sextet x 0) (sextet x 1) (sextet x 2) (sextet x 3) n
-  pub framed : (first : Bool) → frameNext first x ≡ Item (plain .told .kind) 1 n
+  pub framed : (first : Bool) → frameNext false first x ≡ Item (plain .told .kind) 1 n
 
 plain-frames : (x : List ℕ) (n : ℕ) → Head x → plainOf plainTable (sextet x 0) (sextet x 1) (sextet x 2) (sextet x 3) ≡ n → 0 < n → n ≤ length x / 4 → Primitive x n
 plain-frames x n h e p room =
     let q = plain-opens (sextet x 0) (sextet x 1) (sextet x 2) (sextet x 3) n p (h 0 (omega arith)) (h 1 (omega arith)) (h 3 (omega arith)) e in
-    record { plain = q; framed = λ first. next-short first x (q .told .kind) n (q .told .ruleless) (frame-short x (q .told .kind) n h (q .told .opens) p room) }
+    record { plain = q; framed = λ first. next-short false first x (q .told .kind) n (q .told .ruleless) (frame-short false x (q .told .kind) n h (q .told .opens) p room) }
 
--- a small group whose contents are items
+-- a small group whose items the master table frames
 pub record Small (x : List ℕ) (n : ℕ) : Type 0 where
-  pub clear : isOpaque (sextet x 1) ≡ false
-  pub framed : (first : Bool) → frameNext first x ≡ Item (Group (sextet x 1)) 1 n
+  pub clear : isIndexed (sextet x 1) ≡ false
+  pub framed : (first : Bool) → frameNext false first x ≡ Item (Group (sextet x 1)) 1 n
 
 group-frames : (x : List ℕ) (n : ℕ) → Head x → groupOf (sextet x 0) (sextet x 1) (sextet x 2) (sextet x 3) ≡ n → 0 < n → n ≤ length x / 4 → Small x n
 unfolding ruled
@@ -142,7 +141,7 @@ group-frames x n h e p room =
     let q = group-opens (sextet x 0) (sextet x 1) (sextet x 2) (sextet x 3) n p e in
     record {
       clear = q .1;
-      framed = λ first. next-short first x (Group (sextet x 1)) n (λ at i m. refl) (frame-short x (Group (sextet x 1)) n h (q .0) p room);
+      framed = λ first. next-short false first x (Group (sextet x 1)) n (λ at i m. refl) (frame-short false x (Group (sextet x 1)) n h (q .0) p room);
     }
 
 -- ---- the same, told at a unit of a stream
@@ -157,16 +156,17 @@ module _ (s : List ℕ) (at to : ℕ) (k : Clear s at to) (l : at < to) where
       sized-frames (drop (4 * at) s) n (drop-head s at to k l) (told-drop (sizedOf plainTable) s at n e p) p (omega (arith, length-drop (4 * at) s))
 
   pub group-drop : (n : ℕ) → groupAt s at ≡ n → 0 < n → at + n ≤ length s / 4 → frameRuled (drop (4 * at) s) ≡ Item (Group (letterAt s at)) 1 n
+  unfolding frameRuled frameNext
   group-drop n e p h =
       let y : sextet (drop (4 * at) s) 1 ≡ letterAt s at = getD-drop (4 * at) s 1 0 in
       group-frames (drop (4 * at) s) n (drop-head s at to k l) (told-drop groupOf s at n e p) p (omega (arith, length-drop (4 * at) s)) .framed true ∙ rw y
 
 -- ---- what they leave of a verdict
 
--- what is inside a group that is entered
-inside-group : (s : List ℕ) (at n m letter : ℕ) → 0 < m → isOpaque letter ≡ false
-    → shift (4 * at) (judgeKind (Group letter) 1 (part s at (at + n)) (group m)) ≡ level s (m - 1) (isOverrideable letter) (at + 1) (at + n)
-unfolding judgeKind group ownCheck isShortest unless andThen judge level
+-- what is inside such a group
+inside-group : (s : List ℕ) (at n m letter : ℕ) → 0 < m → isIndexed letter ≡ false
+    → shift (4 * at) (judgeKind (Group letter) 1 (part s at (at + n)) (group m)) ≡ level s false (m - 1) (isOverrideable letter) (at + 1) (at + n)
+unfolding judgeKind group ownCheck isShortest unless andThen judgeWith level
 inside-group s at n zero letter p o = absurd (omega arith)
 inside-group s at n (suc m) letter p o =
     let z : suc m - 1 ≡ m = omega arith in
@@ -179,7 +179,7 @@ module _ (s : List ℕ) (l : ℕ) (stop : ℕ) (long : 4 * stop ≤ length s) wh
 
   -- a plain primitive is accepted whole, and leaves the rest
   pub plain-taken : (first : Bool) (at k to : ℕ) → plainAt plainTable s at ≡ k → 0 < k → at + k ≤ stop → Clear s at to → at + k ≤ to
-      → Taken s l first at stop k
+      → Taken s false l first at stop k
   plain-taken first at k to e p h b r =
       let x : List ℕ = part s at stop in
       let q = plain-frames x k (part-head s at stop to b (omega arith) (omega arith)) (told-part (plainOf plainTable) s at stop k e p (omega arith)) p (in-part at k h) in
@@ -193,12 +193,12 @@ module _ (s : List ℕ) (l : ℕ) (stop : ℕ) (long : 4 * stop ≤ length s) wh
       }
 
   pub plain-level : (first : Bool) (at k to : ℕ) → plainAt plainTable s at ≡ k → 0 < k → at + k ≤ stop → Clear s at to → at + k ≤ to
-      → level s l first at stop ≡ level s l false (at + k) stop
-  plain-level first at k to e p h b r = taken-level s l first at stop k long (omega arith) (plain-taken first at k to e p h b r)
+      → level s false l first at stop ≡ level s false l false (at + k) stop
+  plain-level first at k to e p h b r = taken-level s false l first at stop k long (omega arith) (plain-taken first at k to e p h b r)
 
   -- a small group is accepted whole where its contents are, one level further in
   pub group-taken : (first : Bool) (at n to : ℕ) → groupAt s at ≡ n → 0 < n → at + n ≤ stop → 0 < l → Clear s at to → at < to
-      → level s (l - 1) (isOverrideable (letterAt s at)) (at + 1) (at + n) ≡ Accepted → Taken s l first at stop n
+      → level s false (l - 1) (isOverrideable (letterAt s at)) (at + 1) (at + n) ≡ Accepted → Taken s false l first at stop n
   group-taken first at n to e p h d b r v =
       let x : List ℕ = part s at stop in
       let q = group-frames x n (part-head s at stop to b (omega arith) r) (told-part groupOf s at stop n e p (omega arith)) p (in-part at n h) in
@@ -212,20 +212,20 @@ module _ (s : List ℕ) (l : ℕ) (stop : ℕ) (long : 4 * stop ≤ length s) wh
 
   -- a small group's contents come first, one level further in
   pub group-level : (first : Bool) (at n to : ℕ) → groupAt s at ≡ n → 0 < n → at + n ≤ stop → 0 < l → Clear s at to → at < to
-      → level s l first at stop ≡ andThen (level s (l - 1) (isOverrideable (letterAt s at)) (at + 1) (at + n)) (level s l false (at + n) stop)
+      → level s false l first at stop ≡ andThen (level s false (l - 1) (isOverrideable (letterAt s at)) (at + 1) (at + n)) (level s false l false (at + n) stop)
   group-level first at n to e p h d b r =
       let x : List ℕ = part s at stop in
       let q = group-frames x n (part-head s at stop to b (omega arith) r) (told-part groupOf s at stop n e p (omega arith)) p (in-part at n h) in
       let y : sextet x 1 ≡ letterAt s at = part-at s at stop 1 (omega arith) in
-      level-item s l first at stop (Group (sextet x 1)) 1 n long (omega arith) (q .framed first)
-      ∙ ap (λ (v : Verdict). andThen v (level s l false (at + n) stop)) (inside-group s at n l (sextet x 1) d (q .clear) ∙ rw y)
+      level-item s false l first at stop (Group (sextet x 1)) 1 n long (omega arith) (q .framed first)
+      ∙ ap (λ (v : Verdict). andThen v (level s false l false (at + n) stop)) (inside-group s at n l (sextet x 1) d (q .clear) ∙ rw y)
 
   -- and is all there is, where the group ends with what is around it
   pub tail-level : (first : Bool) (at to : ℕ) → groupAt s at ≡ stop - at → at < stop → 0 < l → Clear s at to → at < to
-      → level s l first at stop ≡ level s (l - 1) (isOverrideable (letterAt s at)) (at + 1) stop
+      → level s false l first at stop ≡ level s false (l - 1) (isOverrideable (letterAt s at)) (at + 1) stop
   tail-level first at to e h d b r =
       let z : at + (stop - at) ≡ stop = omega arith in
-      group-level first at (stop - at) to e (omega arith) (omega arith) d b r ∙ rw (z, level-end s l false stop) (then-accepts _)
+      group-level first at (stop - at) to e (omega arith) (omega arith) d b r ∙ rw (z, level-end s false l false stop) (then-accepts _)
 
 -- ---- groups one in the other
 
@@ -234,7 +234,7 @@ module _ (s : List ℕ) (stop : ℕ) (long : 4 * stop ≤ length s) (from : ℕ)
   pub record Nested (l : ℕ) (first : Bool) (at d : ℕ) : Type 0 where
     pub few : d ≤ l
     pub fits : at + d ≤ stop
-    pub leaves : level s l first at stop ≡ level s (l - d) (isOverrideable (letterAt s (at + d - 1))) (at + d) stop
+    pub leaves : level s false l first at stop ≡ level s false (l - d) (isOverrideable (letterAt s (at + d - 1))) (at + d) stop
 
   one-deeper : (l : ℕ) (first : Bool) (at : ℕ) → from ≤ at → groupAt s at ≡ stop - at → at < stop → Nested (suc l) first at 1
   one-deeper l first at u e h =

@@ -1,26 +1,26 @@
 -- What sizes and plain sizes say of the first unit: the kind that it opens, and that an item of it is accepted. Assumes nothing.
 use Prim.Native.Nat.{ℕ, zero, suc, _+_, _-_, _*_, _/_, _%_, _^_, _≤_, _<_}
-use mathlib.Core.Path.{_≡_, refl, sym, ap, _∙_, subst}
-use mathlib.Core.List.{List, [], _∷_, _++_, map}
+use mathlib.Core.Path.{_≡_, refl, ap, _∙_, subst}
+use mathlib.Core.List.{List, [], _∷_, _++_}
 use mathlib.Core.Bool.{Bool, true, false}
 use mathlib.Core.Logic.{⊎-elim}
 use native.Mathlib.Omega.{arith}
 use lib.Dec.{ltb, eqb}
 use lib.ListN.{length, getD, drop, length-map, List·getD-append, List·getD-eq-default}
-use borrow.Author.Tests.{ltb-true, ltb-false, lt-ltb, le-ltb, eqb-true, eqb-false, eq-eqb, ne-eqb}
+use borrow.Author.Tests.{ltb-true, lt-ltb, le-ltb, eqb-true, eq-eqb}
 use Rattle.base.specs.Pick.{pick}
 use Rattle.base.specs.Cases.{whether, lt-or-ge}
 use Rattle.base.specs.Digits.{Below, below-at, below-drop}
 use Rattle.base.specs.Lists.{upTo, getD-table}
 use Rattle.format.specs.declared.CodeRow.{CodeRow}
 use Rattle.format.specs.declared.Kind.{Kind}
-use Rattle.format.specs.declared.Kind.the-variants.{Fixed, Variable, Group, Genus}
+use Rattle.format.specs.declared.Kind.the-variants.{Fixed, Variable, Group, Genus, Indexed}
 use Rattle.format.specs.declared.Opening.{Opening}
-use Rattle.format.specs.declared.Opening.the-variants.{Unknown, Short, LargeVariable, LargeGroup, Version}
+use Rattle.format.specs.declared.Opening.the-variants.{Unknown, Short, Long, LargeVariable, LargeGroup, Version}
 use Rattle.format.specs.declared.Framed.the-variants.{Item}
 use Rattle.format.specs.declared.Verdict.{Verdict}
 use Rattle.format.specs.declared.Verdict.the-variants.{Accepted}
-use Rattle.format.specs.Registry.{fixed, isType, isText, isGroup, isOpaque, zeroBitsOf, prepadOf, opening}
+use Rattle.format.specs.Registry.{fixed, isType, isText, isGroup, isIndexed, zeroBitsOf, prepadOf, opening}
 use Rattle.format.specs.Framing.{sextet, ruled}
 use Rattle.format.specs.Texts.{valueRight}
 use Rattle.format.specs.Judging.{shift, andThen, unless, isShortest, behind, hasLead, zeroBits, prepadRight, judgeKind}
@@ -34,7 +34,7 @@ pub some-then : (b : Bool) (m n : ℕ) → pick b m 0 ≡ n → 0 < n → (b ≡
 some-then true m n e p = (refl, e)
 some-then false m n e p = absurd (omega arith)
 
-some-else : (b : Bool) (m n : ℕ) → pick b 0 m ≡ n → 0 < n → (b ≡ false) × (m ≡ n)
+pub some-else : (b : Bool) (m n : ℕ) → pick b 0 m ≡ n → 0 < n → (b ≡ false) × (m ≡ n)
 some-else false m n e p = (refl, e)
 some-else true m n e p = absurd (omega arith)
 
@@ -82,6 +82,8 @@ row-of Unknown x n e p = absurd (no-row x n e p)
 row-of (Short (Variable t l m) k) x n e p = absurd (no-row x n e p)
 row-of (Short (Group l) k) x n e p = absurd (no-row x n e p)
 row-of (Short Genus k) x n e p = absurd (no-row x n e p)
+row-of (Short (Indexed c) k) x n e p = absurd (no-row x n e p)
+row-of (Long k m) x n e p = absurd (no-row x n e p)
 row-of (LargeVariable t l) x n e p = absurd (no-row x n e p)
 row-of (LargeGroup l d) x n e p = absurd (no-row x n e p)
 row-of Version x n e p = absurd (no-row x n e p)
@@ -94,6 +96,8 @@ size-of Unknown n e p = absurd (omega arith)
 size-of (Short (Variable t l m) k) n e p = absurd (omega arith)
 size-of (Short (Group l) k) n e p = absurd (omega arith)
 size-of (Short Genus k) n e p = absurd (omega arith)
+size-of (Short (Indexed c) k) n e p = absurd (omega arith)
+size-of (Long k m) n e p = absurd (omega arith)
 size-of (LargeVariable t l) n e p = absurd (omega arith)
 size-of (LargeGroup l d) n e p = absurd (omega arith)
 size-of Version n e p = absurd (omega arith)
@@ -105,7 +109,7 @@ size-of (Short (Fixed c) k) n e p = (c, ap (Short (Fixed c)) (sized-row (ltb k 6
 
 -- ---- zero bits
 
-zero-by : (z x y w : ℕ) → z ≤ 6 → x < 2 ^ (6 - z) → y < 64 → w < 64 → eqb (((x * 64 + y) * 64 + w) / 2 ^ (18 - z)) 0 ≡ true
+pub zero-by : (z x y w : ℕ) → z ≤ 6 → x < 2 ^ (6 - z) → y < 64 → w < 64 → eqb (((x * 64 + y) * 64 + w) / 2 ^ (18 - z)) 0 ≡ true
 zero-by zero x y w h l p q = eq-eqb (((x * 64 + y) * 64 + w) / 2 ^ (18 - 0)) 0 (omega arith)
 zero-by (suc zero) x y w h l p q = eq-eqb (((x * 64 + y) * 64 + w) / 2 ^ (18 - 1)) 0 (omega arith)
 zero-by (suc (suc zero)) x y w h l p q = eq-eqb (((x * 64 + y) * 64 + w) / 2 ^ (18 - 2)) 0 (omega arith)
@@ -289,11 +293,11 @@ module _ (a b c d n : ℕ) (p : 0 < n) (la : a < 64) (lb : b < 64) (ld : d < 64)
 
 -- ---- a small group
 
-pub group-opens : (a b c d n : ℕ) → 0 < n → groupOf a b c d ≡ n → (opening a b c d ≡ Short (Group b) n) × (isOpaque b ≡ false)
+pub group-opens : (a b c d n : ℕ) → 0 < n → groupOf a b c d ≡ n → (opening a b c d ≡ Short (Group b) n) × (isIndexed b ≡ false)
 unfolding groupOf opening
 group-opens a b c d n p e =
     let x = some-then (eqb a 62) _ n e p in
     let y = some-then (isGroup b) _ n (x .1) p in
-    let z = some-else (isOpaque b) _ n (y .1) p in
+    let z = some-else (isIndexed b) _ n (y .1) p in
     let a-is : a ≡ 62 = eqb-true _ _ (x .0) in
     (rw (a-is, y .0, z .1), z .0)

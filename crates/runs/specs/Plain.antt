@@ -1,18 +1,17 @@
 -- What a first unit alone can decide, if its characters are known: the size of an item whose header it is; whether a primitive is
--- accepted, if its other characters are known too; whether a group's contents are items. Groups one in the other. Assumes nothing.
+-- accepted, if its other characters are known too; whether the master table frames a group's items. Groups one in the other. Assumes nothing.
 use Prim.Native.Nat.{ℕ, zero, suc, _+_, _-_, _*_, _/_, _%_, _^_}
 use mathlib.Core.List.{List, map, _++_}
-use mathlib.Core.Bool.{Bool, true, false, not}
+use mathlib.Core.Bool.{Bool, false, not}
 use lib.Dec.{ltb, eqb}
 use lib.ListN.{length, getD}
 use Rattle.base.specs.Pick.{pick}
 use Rattle.base.specs.Lists.{upTo}
 use Rattle.format.specs.declared.CodeRow.{CodeRow}
-use Rattle.format.specs.declared.Kind.{Kind}
-use Rattle.format.specs.declared.Kind.the-variants.{Fixed, Variable, Group, Genus}
+use Rattle.format.specs.declared.Kind.the-variants.{Fixed, Variable, Group, Genus, Indexed}
 use Rattle.format.specs.declared.Opening.{Opening}
-use Rattle.format.specs.declared.Opening.the-variants.{Unknown, Short, LargeVariable, LargeGroup, Version}
-use Rattle.format.specs.Registry.{fixed, isType, isText, isGroup, isOpaque, isOverrideable, zeroBitsOf, prepadOf}
+use Rattle.format.specs.declared.Opening.the-variants.{Unknown, Short, Long, LargeVariable, LargeGroup, Version}
+use Rattle.format.specs.Registry.{fixed, isType, isText, isGroup, isIndexed, isOverrideable, zeroBitsOf, prepadOf}
 use Rattle.format.specs.Framing.{sextet}
 use Rattle.format.specs.Alphabet.{sextetOf}
 
@@ -29,6 +28,8 @@ plainRow (Short (Fixed c) n) = pick (ltb n 64) (n + 64 * limitOf c) 0
 plainRow (Short (Variable t l m) n) = 0
 plainRow (Short (Group l) n) = 0
 plainRow (Short Genus n) = 0
+plainRow (Short (Indexed c) n) = 0
+plainRow (Long k n) = 0
 plainRow (LargeVariable t l) = 0
 plainRow (LargeGroup l d) = 0
 plainRow Version = 0
@@ -90,9 +91,9 @@ plainOf rows a b c d =
     (pick (eqb a 53) (limited (rowAA rows b c d) 63)
     (pick (eqb a 56) (notText b c d) 0)))
 
--- the size in units of a small group whose contents are items; 0 for everything else
+-- the size in units of a small group whose items the master table frames, any but `-K` and `-L`; 0 for everything else
 unfoldable pub groupOf : ℕ → ℕ → ℕ → ℕ → ℕ
-groupOf a b c d = pick (eqb a 62) (pick (isGroup b) (pick (isOpaque b) 0 (counted c d)) 0) 0
+groupOf a b c d = pick (eqb a 62) (pick (isGroup b) (pick (isIndexed b) 0 (counted c d)) 0) 0
 
 -- ---- at a unit of a stream
 
@@ -127,19 +128,20 @@ nested g stop (suc n) at = pick (ltb at stop) (pick (eqb (g at) (stop - at)) (su
 unfoldable pub nestedAt : (ℕ → ℕ) → ℕ → ℕ → ℕ → ℕ → ℕ
 nestedAt g units stop n at = pick (ltb units stop) 0 (nested g stop n at)
 
--- ---- a group's contents are items
+-- ---- the master table frames a group's items
 
 unfoldable pub opensBy : ℕ → ℕ → Bool
-opensBy a b = pick (eqb a 62) (pick (isGroup b) (not (isOpaque b)) false) false
+opensBy a b = pick (eqb a 62) (pick (isGroup b) (not (isIndexed b)) false) false
 
 -- ---- text, its sextets by a table
 
 unfoldable pub sextetsBy : List ℕ → List ℕ → List ℕ
 sextetsBy values s = map (λ c. getD values c 0) s
 
--- a character as a group's letter: 0 where the contents are items, 1 where 7 is asked of the first of them, 2 for everything else
+-- a character as a group's letter: 0 where the master table frames the items, 1 where 7 is asked of the first of them, 2 for everything
+-- else
 unfoldable pub classOf : ℕ → ℕ
-classOf c = pick (isGroup (sextetOf c)) (pick (isOpaque (sextetOf c)) 2 (pick (isOverrideable (sextetOf c)) 1 0)) 2
+classOf c = pick (isGroup (sextetOf c)) (pick (isIndexed (sextetOf c)) 2 (pick (isOverrideable (sextetOf c)) 1 0)) 2
 
 unfoldable pub classTable : List ℕ
 classTable = map classOf (upTo 256)

@@ -1,23 +1,22 @@
 -- Items of one size and letter that follow one another; known characters of a text; and what its tables say. Assumes nothing.
 use Prim.Native.Nat.{ℕ, zero, suc, _+_, _-_, _*_, _/_, _%_, _≤_, _<_}
-use mathlib.Core.Path.{_≡_, refl, sym, ap, _∙_}
+use mathlib.Core.Path.{_≡_, refl, ap}
 use mathlib.Core.List.{List, [], _∷_}
 use mathlib.Core.Bool.{Bool, true, false}
 use mathlib.Core.Logic.{⊎-elim}
 use native.Mathlib.Omega.{arith}
 use native.Mathlib.Nat.{suc-mul}
 use lib.Dec.{ltb, eqb}
-use lib.ListN.{length, getD, take, drop, length-map, List·getD-eq-default}
-use lib.Seq.{getD-drop, getD-take}
-use borrow.Author.Tests.{ltb-true, ltb-false, lt-ltb, le-ltb, eq-eqb, ne-eqb, eqb-true, eqb-false}
+use lib.ListN.{length, getD, drop, length-map, List·getD-eq-default}
+use lib.Seq.{getD-drop}
+use borrow.Author.Tests.{lt-ltb, le-ltb}
 use Rattle.base.specs.Pick.{pick}
-use Rattle.base.specs.Cases.{whether, lt-or-ge}
+use Rattle.base.specs.Cases.{lt-or-ge}
 use Rattle.base.specs.Lists.{getD-map-within}
-use Rattle.base.specs.Digits.{Below, none, more, below-at}
 use Rattle.format.specs.Alphabet.{sextetOf, sextetTable}
-use Rattle.format.specs.Units.{textSextets, binarySextets}
+use Rattle.format.specs.Units.{textSextets}
 use Rattle.format.specs.Framing.{sextet}
-use Rattle.format.specs.Registry.{isGroup, isOpaque, isOverrideable}
+use Rattle.format.specs.Registry.{isGroup, isIndexed, isOverrideable}
 use Rattle.format.specs.Conversion.{firstStranger}
 use Rattle.runs.specs.Plain.{plainTable, rowOf, limited, sizedOf, plainOf, groupOf, unitBy, sizedAt, plainAt, groupAt, letterAt, marksAt, nested, nestedAt, classOf, classTable, charGroup, groupBy, marksBy, counted}
 use Rattle.runs.specs.Tables.{value, dash, class-value}
@@ -112,7 +111,7 @@ unfolding charGroup groupOf classOf
 char-group w x y z hw hx hy hz =
     rw (dash w hw, class-value x hx, value y hy, value z hz)
     (ap (λ (n : ℕ). pick (eqb (sextetOf w) 62) n 0)
-    (open-class (isGroup (sextetOf x)) (isOpaque (sextetOf x)) (isOverrideable (sextetOf x)) (counted (sextetOf y) (sextetOf z))))
+    (open-class (isGroup (sextetOf x)) (isIndexed (sextetOf x)) (isOverrideable (sextetOf x)) (counted (sextetOf y) (sextetOf z))))
 
 module _ (s : List ℕ) (b : (i : ℕ) → getD s i 0 < 256) where
   pub group-by : (at : ℕ) → groupBy sextetTable classTable s at ≡ groupAt (textSextets s) at
@@ -157,7 +156,7 @@ module _ (s : List ℕ) (b : (i : ℕ) → getD s i 0 < 256) where
       inside h =
           let t = text-sextet s (4 * at + 1) (omega arith) in
           rw (lt-ltb at (length s / 4) h, t, class-value _ (b (4 * at + 1)))
-          (asked (eqb (sextet (textSextets s) (4 * at)) 62) (isGroup (sextetOf (getD s (4 * at + 1) 0))) (isOpaque (sextetOf (getD s (4 * at + 1) 0)))
+          (asked (eqb (sextet (textSextets s) (4 * at)) 62) (isGroup (sextetOf (getD s (4 * at + 1) 0))) (isIndexed (sextetOf (getD s (4 * at + 1) 0)))
           (isOverrideable (sextetOf (getD s (4 * at + 1) 0))) _ (rw (text-long s, lt-ltb at (length s / 4) h, t) at e))
 
       past : length s / 4 ≤ at → marksBy classTable s at ≡ isOverrideable (letterAt (textSextets s) at)

@@ -467,8 +467,8 @@ const CLASSES: [u8; 256] = [
     2,
 ];
 
-// Of each character as a group's letter: 0 where the contents are items, 1 where 7 is asked of the first of them, 2 for everything
-// else.
+// Of each character as a group's letter: 0 where the master table frames the items, 1 where 7 is asked of the first of them, 2 for
+// everything else, `K` and `L` among it.
 pub fn classes() -> [u8; 256]
     ensures { λ r. ⌜ r ≡ classTable ⌝ }
 {

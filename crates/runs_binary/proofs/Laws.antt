@@ -10,7 +10,7 @@ use borrow.Author.Tests.{lt-ltb, le-ltb}
 use Rattle.base.specs.Pick.{pick}
 use Rattle.format.specs.Units.{binarySextets}
 use Rattle.format.specs.Framing.{sextet}
-use Rattle.format.specs.Registry.{isGroup, isOpaque, isOverrideable}
+use Rattle.format.specs.Registry.{isGroup, isIndexed, isOverrideable}
 use Rattle.laws.specs.Domains.{binary-reader}
 use Rattle.laws.specs.Local.{binary-sextet}
 use Rattle.runs.specs.Plain.{groupOf, opensBy, unitBy, groupAt, marksAt}
@@ -49,7 +49,7 @@ group-bytes : (x y z : ℕ) → z < 256
 unfolding groupOf opensBy
 group-bytes x y z h =
     let n : (y % 16 * 4 + z / 64) * 64 + z % 64 ≡ y % 16 * 256 + z = omega arith in
-    rw n (either (eqb (x / 4) 62) (isGroup (x % 4 * 16 + y / 16)) (isOpaque (x % 4 * 16 + y / 16)) (1 + (y % 16 * 256 + z)))
+    rw n (either (eqb (x / 4) 62) (isGroup (x % 4 * 16 + y / 16)) (isIndexed (x % 4 * 16 + y / 16)) (1 + (y % 16 * 256 + z)))
 
 module _ (s : List ℕ) (at : ℕ) where
   pub open-unit : at < length s / 3 → Bytes s → {x y z : ℕ} → x ≡ getD s (3 * at) 0 → y ≡ getD s (3 * at + 1) 0 → z ≡ getD s (3 * at + 2) 0 → (o : Bool)

@@ -1,11 +1,13 @@
 // What the first unit at a position of a binary decides, sextet by sextet or byte by byte: sizes, plain primitives, small groups,
-// and which of these stand one in the other; and what it decides with the unit behind it: small variable values.
+// and which of these stand one in the other; where indexed items stand, these; and what it decides with the unit behind it: small variable
+// values.
 ghost use mathlib.Core.Path.{_≡_};
 ghost use Prim.Native.Nat.{_+_, _*_, _/_, _%_, _<_};
 ghost use lib.ListN.{length, getD};
 ghost use Rattle.format.specs.Units.{binarySextets};
 ghost use Rattle.runs.specs.Plain.{sizedAt, plainAt, opensBy, groupAt, marksAt, nestedAt};
 ghost use Rattle.runs_value.specs.Values.{numberAt, valuedAt};
+ghost use Rattle.runs_indexed.specs.Indexed.{indexedAt};
 
 fn wide(x: u8) -> usize
     ensures { λ r. ⌜ (r ≡ x) × (r < 256) ⌝ }
@@ -51,6 +53,20 @@ pub fn plain_binary(rows: &[u16; 192], s: &[u8], at: usize) -> usize
         y % 16 * 4 + z / 64,
         z % 64,
     )
+}
+
+// The size of an indexed item, by its header, or 0.
+pub fn indexed_binary(s: &[u8], at: usize) -> usize
+    ensures { λ r. ⌜ r ≡ indexedAt (binarySextets (now (s .entry))) at ⌝ }
+{
+    if s.len() / 3 <= at {
+        return 0;
+    }
+    let i = 3 * at;
+    let x = s[i];
+    let y = s[i + 1];
+    let z = s[i + 2];
+    runs_indexed::indexed(x / 4, x % 4 * 16 + y / 16, y % 16 * 4 + z / 64, z % 64)
 }
 
 fn byte(s: &[u8], i: usize) -> usize
@@ -113,7 +129,7 @@ pub fn valued_binary(s: &[u8], at: usize) -> usize
     }
 }
 
-// A group whose contents are items, by its first two sextets.
+// A group whose items the master table frames, by its first two sextets.
 fn is_open(a: usize, b: usize) -> bool
     ensures { λ r. ⌜ r ≡ opensBy a b ⌝ }
 {
@@ -145,7 +161,7 @@ fn group_in_binary(s: &[u8], at: usize) -> usize
     }
 }
 
-// The size in units of the small group at a unit whose contents are items, or 0.
+// The size in units of the small group at a unit whose items the master table frames, or 0.
 pub fn group_binary(s: &[u8], at: usize) -> usize
     ensures { λ r. ⌜ r ≡ groupAt (binarySextets (now (s .entry))) at ⌝ }
 {

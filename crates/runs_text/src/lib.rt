@@ -1,11 +1,12 @@
 // What the first unit at a position of a text decides, by its characters and the tables lent: sizes, plain primitives, small
-// groups, and which of these stand one in the other; and what it decides with the unit behind it: small variable values. Whether a
-// character is known is not asked.
+// groups, and which of these stand one in the other; where indexed items stand, these; and what it decides with the unit behind it: small
+// variable values. Whether a character is known is not asked.
 ghost use mathlib.Core.Path.{_≡_};
 ghost use Prim.Native.Nat.{_/_, _<_};
 ghost use lib.ListN.{length, getD};
 ghost use Rattle.runs.specs.Plain.{sizedAt, plainAt, groupBy, marksBy, nestedAt, sextetsBy};
 ghost use Rattle.runs_value.specs.Values.{numberAt, valuedAt};
+ghost use Rattle.runs_indexed.specs.Indexed.{indexedAt};
 
 fn wide(x: u8) -> usize
     ensures { λ r. ⌜ (r ≡ x) × (r < 256) ⌝ }
@@ -93,6 +94,22 @@ pub fn valued_text(values: &[u8; 256], s: &[u8], at: usize) -> usize
     0
 }
 
+// The size of an indexed item, by its header, or 0.
+pub fn indexed_text(values: &[u8; 256], s: &[u8], at: usize) -> usize
+    ensures { λ r. ⌜ r ≡ indexedAt (sextetsBy (now (values .entry)) (now (s .entry))) at ⌝ }
+{
+    if s.len() / 4 <= at {
+        return 0;
+    }
+    let i = 4 * at;
+    runs_indexed::indexed(
+        value(values, s, i),
+        value(values, s, i + 1),
+        value(values, s, i + 2),
+        value(values, s, i + 3),
+    )
+}
+
 // By the characters themselves, which saves look-ups: 45 is `-`.
 fn group_in_text(values: &[u8; 256], classes: &[u8; 256], s: &[u8], at: usize) -> usize
     requires { ⌜ at < length (now s) / 4 ⌝ }
@@ -108,7 +125,7 @@ fn group_in_text(values: &[u8; 256], classes: &[u8; 256], s: &[u8], at: usize) -
     runs::counted(value(values, s, i + 2), value(values, s, i + 3))
 }
 
-// The size in units of the small group at a unit whose contents are items, or 0.
+// The size in units of the small group at a unit whose items the master table frames, or 0.
 pub fn group_text(values: &[u8; 256], classes: &[u8; 256], s: &[u8], at: usize) -> usize
     ensures { λ r. ⌜ r ≡ groupBy (now (values .entry)) (now (classes .entry)) (now (s .entry)) at ⌝ }
 {

@@ -1,7 +1,7 @@
 -- A small variable value among the items of a group or stream, its characters known: it is accepted whole. Assumes nothing.
 use Prim.Native.Nat.{ℕ, _+_, _-_, _*_, _/_, _≤_, _<_}
 use mathlib.Core.Path.{_≡_, refl, sym}
-use mathlib.Core.Bool.{Bool, true}
+use mathlib.Core.Bool.{Bool, true, false}
 use mathlib.Core.List.{List}
 use native.Mathlib.Omega.{arith}
 use lib.ListN.{length}
@@ -57,7 +57,7 @@ module _ (s : List ℕ) (at k : ℕ) (fits : at + k ≤ length s / 4) (more : 1 
 
 module _ (s : List ℕ) (l : ℕ) (stop : ℕ) (long : 4 * stop ≤ length s) where
   pub valued-taken : (first : Bool) (at k to : ℕ) → valuedAt s at ≡ k → 0 < k → at + k ≤ stop → Clear s at to → at + k ≤ to
-      → Taken s l first at stop k
+      → Taken s false l first at stop k
   unfolding ruled
   valued-taken first at k to e p h b r =
       let x : List ℕ = part s at stop in
@@ -69,7 +69,7 @@ module _ (s : List ℕ) (l : ℕ) (stop : ℕ) (long : 4 * stop ≤ length s) wh
       record {
         kind = kind;
         head = 1;
-        framed = next-short first x kind k (λ i j n. refl) (frame-short x kind k (part-head s at stop to b (omega arith) (omega arith)) (w .opens) p (in-part s l stop long at k h));
+        framed = next-short false first x kind k (λ i j n. refl) (frame-short false x kind k (part-head s at stop to b (omega arith) (omega arith)) (w .opens) p (in-part s l stop long at k h));
         judged = value-accepts (sextet x 0) (sextet x 1) m v (part s at (at + k)) (clear-part s at to at (at + k) b (omega arith) r)
             (omega (arith, part-length s at (at + k) (omega arith))) (w .selects) (w .fits) (λ q. unit-behind s at k (omega arith) (omega arith)) (group l);
       }

@@ -10,6 +10,10 @@
 // For an instalment, call 13 or 14, the room is the budget; the line has the items taken and the state afterwards. It is made again with
 // the state by value, call 15 or 16.
 // To compare (call 20), the input is the expectation file's length (2 bytes), the file and the report; the line has the five numbers.
+// To read an indexed item (call 21 of a text, 22 of a binary) the input is as for a primitive, and the line goes on with the seven numbers of
+// the item; for the buffer, which is not asked in a binary, it has the part where the raw value lies. To write one (23 to text, 24 to binary)
+// the input is selector and letter (1 byte each), index and ondex (8 bytes each, big-endian) and the raw value.
+use exports_values::INDEXED;
 use exports_values::INFO;
 use exports_values::MARK;
 use exports_values::STATE;
@@ -98,6 +102,124 @@ fn write_from(call: u8, src: &[u8], out: &mut [u8]) {
         ];
         write(call, head, tag, &src[14..n], out);
     }
+}
+
+// ---- an indexed item
+
+// What is told of one.
+const TOLD: usize = 7;
+
+fn show_indexed(call: u8, number: u8, value: usize, raw: &[u8], info: [usize; TOLD]) {
+    recorded::show_answer(call, number, value);
+    recorded::show_bytes(raw);
+    recorded::show_numbers(&info);
+    recorded::end_line();
+}
+
+fn read_indexed_text(stream: &[u8], at: usize, out: &mut [u8]) {
+    let mut value = 0;
+    let mut info: [usize; TOLD] = [170; TOLD];
+    let number = exports::cesr_read_indexed_text(stream, at, out, &mut info, &mut value);
+    show_indexed(21, number, value, out, info);
+}
+
+// The raw value is the part that the numbers tell, as a caller finds it.
+fn read_indexed_binary(stream: &[u8], at: usize) {
+    let mut value = 0;
+    let mut info: [usize; TOLD] = [170; TOLD];
+    let number = exports::cesr_read_indexed_binary(stream, at, &mut info, &mut value);
+    if number != 0 {
+        show_indexed(22, number, value, b"", info);
+        return;
+    }
+    let n = stream.len();
+    if n < at {
+        return;
+    }
+    if n - at < info[3] {
+        return;
+    }
+    let from = at + info[3];
+    if n - from < info[4] {
+        return;
+    }
+    let to = from + info[4];
+    show_indexed(22, number, value, &stream[from..to], info);
+}
+
+fn read_indexed_at(call: u8, src: &[u8], out: &mut [u8]) {
+    let n = src.len();
+    if n < 2 {
+        return;
+    }
+    let at = number(src[0], src[1]);
+    if call == 21 {
+        read_indexed_text(&src[2..n], at, out);
+        return;
+    }
+    read_indexed_binary(&src[2..n], at);
+}
+
+fn write_indexed(call: u8, code: [u8; 2], index: usize, ondex: usize, raw: &[u8], out: &mut [u8]) {
+    let mut value = 0;
+    if call == 23 {
+        let number = exports::cesr_write_indexed_text(
+            code[0],
+            code[1],
+            index,
+            ondex,
+            raw,
+            out,
+            &mut value,
+        );
+        show(call, number, value, out);
+        return;
+    }
+    let number = exports::cesr_write_indexed_binary(
+        code[0],
+        code[1],
+        index,
+        ondex,
+        raw,
+        out,
+        &mut value,
+    );
+    show(call, number, value, out);
+}
+
+fn write_indexed_from(call: u8, src: &[u8], out: &mut [u8]) {
+    let n = src.len();
+    if 18 <= n {
+        let code = [src[0], src[1]];
+        let index = large([
+            src[2],
+            src[3],
+            src[4],
+            src[5],
+            src[6],
+            src[7],
+            src[8],
+            src[9],
+        ]);
+        let ondex = large([
+            src[10],
+            src[11],
+            src[12],
+            src[13],
+            src[14],
+            src[15],
+            src[16],
+            src[17],
+        ]);
+        write_indexed(call, code, index, ondex, &src[18..n], out);
+    }
+}
+
+// Eight bytes, big-endian.
+fn large(b: [u8; 8]) -> usize {
+    let high = number(b[0], b[1]) * 65536 + number(b[2], b[3]);
+    let low = number(b[4], b[5]) * 65536 + number(b[6], b[7]);
+    high * 4294967296 + low
 }
 
 // ---- a step of the walk
@@ -192,8 +314,15 @@ fn rest(call: u8, stream: &[u8], before: Walk) {
 }
 
 // A mark that is neither 0 nor 1 is no reader's.
-fn through_reader(call: u8, stream: &[u8], before: [usize; STATE]) {
+fn is_state(before: [usize; STATE]) -> bool {
     if 1 < before[MARK] {
+        return false;
+    }
+    before[INDEXED] <= 1
+}
+
+fn through_reader(call: u8, stream: &[u8], before: [usize; STATE]) {
+    if !is_state(before) {
         return;
     }
     let walk = exports_values::walk_of(before);
@@ -282,7 +411,7 @@ fn walk_on_from(call: u8, src: &[u8], budget: usize) {
     let before = state_from(src);
     let stream = &src[STATE..n];
     walk_on(call, stream, before, budget);
-    if 1 < before[MARK] {
+    if !is_state(before) {
         return;
     }
     let walk = exports_values::walk_of(before);
@@ -337,6 +466,14 @@ fn run(call: u8, src: &[u8], out: &mut [u8]) {
     }
     if call == 20 {
         compare_from(src);
+        return;
+    }
+    if 22 < call {
+        write_indexed_from(call, src, out);
+        return;
+    }
+    if 20 < call {
+        read_indexed_at(call, src, out);
         return;
     }
     if call < 13 {

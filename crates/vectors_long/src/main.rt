@@ -6,6 +6,8 @@
 // n mod 26. A line of output: the call, the number (0: accepted), the length or place, a checksum of the whole lent buffer, which held AA
 // before, and its first twelve bytes. Where an item was written it is read back, and a second line has the seven numbers of the item, the
 // length of what was read and how many of its bytes, from the first on, are those that were given.
+// Call 21 of a text and 22 of a binary reads the indexed item that a stream begins with, around what a stream may have: the value is that
+// stream, and the line has the seven numbers of the item and the checksum of the buffer.
 use exports_values::INFO;
 use format::BinaryOffset;
 use libc::STDIN_FILENO;
@@ -152,11 +154,41 @@ fn write_binary(chars: u8, letter: u8, raw: &mut [u8], seed: u8, out: &mut [u8])
     }
 }
 
+// ---- an indexed item at the start of a long stream
+
+// What is told of one.
+const TOLD: usize = 7;
+
+fn show_indexed(call: u8, number: u8, value: usize, info: [usize; TOLD], out: &[u8]) {
+    recorded::show_answer(call, number, value);
+    recorded::show_numbers(&info);
+    show_number(checksum(out));
+    recorded::end_line();
+}
+
+fn read_indexed(call: u8, stream: &[u8], out: &mut [u8]) {
+    let mut value = 0;
+    let mut info: [usize; TOLD] = [170; TOLD];
+    if call == 21 {
+        let number = exports::cesr_read_indexed_text(stream, 0, out, &mut info, &mut value);
+        show_indexed(call, number, value, info, out);
+        return;
+    }
+    let number = exports::cesr_read_indexed_binary(stream, 0, &mut info, &mut value);
+    show_indexed(call, number, value, info, out);
+}
+
+// ---- any call
+
 fn run(head: [u8; 4], raw: &mut [u8], out: &mut [u8]) {
     let letter = head[2];
     let seed = head[3];
     fill(raw, letter, seed);
     blank(out);
+    if 20 < head[0] {
+        read_indexed(head[0], raw, out);
+        return;
+    }
     if head[0] == 7 {
         write_text(head[1], letter, raw, seed, out);
         return;
@@ -198,11 +230,11 @@ fn run_all(records: &[u8], raw: &mut [u8], out: &mut [u8]) {
     }
 }
 
-// One character more than a large text holds.
-fn raw_space() -> [u8; 4194297]
-    ensures { λ r. ⌜ 4194297 ≡ length r ⌝ }
+// One character more than a stream has, and nine more than a large text holds.
+fn raw_space() -> [u8; 4194305]
+    ensures { λ r. ⌜ 4194305 ≡ length r ⌝ }
 {
-    [0; 4194297]
+    [0; 4194305]
 }
 
 // A large text of 12,288 raw bytes, and a byte behind it.

@@ -56,7 +56,7 @@ module _ (w : Walk) (n : ℕ) (h : isFit w n ≡ true) where
   slots = allBelow (slotFits (w .ends) (w .depth) n) maxDepth
 
   abbrev mark : Bool
-  mark = pick (eqb (w .depth) 0) (not (w .first)) (ltb (w .at) (getD (w .ends) (w .depth - 1) 0))
+  mark = pick (eqb (w .depth) 0) (pick (w .first) false (not (w .indexed))) (ltb (w .at) (getD (w .ends) (w .depth - 1) 0))
 
   tests : (leb (w .depth) maxDepth ≡ true) × (leb (w .at) n ≡ true) × (slots ≡ true) × (mark ≡ true)
   unfolding isFit

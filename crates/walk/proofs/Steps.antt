@@ -12,7 +12,7 @@ use borrow.Author.Tests.{eq-eqb, ne-eqb, ltb-false, le-ltb, eqb-true, eqb-false}
 use Rattle.base.specs.Pick.{pick, pick-by}
 use Rattle.base.specs.Cases.{whether}
 use Rattle.format.specs.declared.Kind.{Kind}
-use Rattle.format.specs.declared.Kind.the-variants.{Fixed, Variable, Group, Genus}
+use Rattle.format.specs.declared.Kind.the-variants.{Fixed, Variable, Group, Genus, Indexed}
 use Rattle.format.specs.declared.Framed.{Framed}
 use Rattle.format.specs.declared.Framed.the-variants.{Item, Unframed}
 use Rattle.format.specs.declared.Verdict.{Verdict}
@@ -20,12 +20,12 @@ use Rattle.format.specs.declared.Verdict.the-variants.{Accepted, Refused}
 use Rattle.format.specs.declared.Form.{Form}
 use Rattle.format.specs.declared.Form.the-variants.{Text, Binary}
 use Rattle.format.specs.Units.{Domain, domain}
-use Rattle.format.specs.Registry.{isOpaque}
+use Rattle.format.specs.Framing.{frameNext}
 use Rattle.format.specs.Judging.{maxDepth}
 use Rattle.laws.specs.Domains.{reader}
-use Rattle.laws.specs.Levels.{part, part-length, part-take, frameNext, any-item, item-sizes}
+use Rattle.laws.specs.Levels.{part, part-length, part-take, any-item, item-sizes}
 use Rattle.judging.specs.Own.{toldBy}
-use Rattle.report_next.specs.Next.{ownOf, nextOwn, isEntered, isRuled}
+use Rattle.report_next.specs.Next.{ownOf, nextOwn, isEntered, isRuled, holdsIndexed}
 use Rattle.report_next.proofs.Laws.{own-item, may-enter, next-near}
 use Rattle.walk_state.specs.declared.Walk.{Walk}
 use Rattle.walk_state.specs.declared.Place.{Place}
@@ -45,15 +45,20 @@ use Rattle.walk.specs.Stepping.{isAsked, placeOf, foundBy, inElements, i
 -- ---- the next state
 
 -- a kind is entered or stepped over
-by-kind : (w : Walk) (k : Kind) (h n : ℕ) → past w k h n ≡ pick (isEntered k) (opened w h n (isRuled k)) (movedTo w (w .at + n))
-unfolding past isEntered isRuled
+by-kind : (w : Walk) (k : Kind) (h n : ℕ) → past w k h n ≡ pick (isEntered k) (opened w h n (isRuled k) (holdsIndexed k)) (movedTo w (w .at + n))
+unfolding past isEntered isRuled holdsIndexed
 by-kind w (Fixed c) h n = refl
 by-kind w (Variable t l c) h n = refl
 by-kind w Genus h n = refl
-by-kind w (Group letter) h n = ⊎-elim (λ e. rw e) (λ e. rw e) (whether (isOpaque letter))
+by-kind w (Indexed c) h n = refl
+by-kind w (Group letter) h n = refl
 
 module _ (w : Walk) (k : Kind) (h n : ℕ) where
-  next-into : isEntered k ≡ true → nextOf w k h n ≡ closed (opened w h n (isRuled k) .depth) (opened w h n (isRuled k))
+  -- the state within a group
+  abbrev within : Walk
+  within = opened w h n (isRuled k) (holdsIndexed k)
+
+  next-into : isEntered k ≡ true → nextOf w k h n ≡ closed (within .depth) within
   unfolding nextOf
   next-into e = rw (by-kind w k h n, e)
 
@@ -61,22 +66,27 @@ module _ (w : Walk) (k : Kind) (h n : ℕ) where
   unfolding nextOf movedTo
   next-past e = rw (by-kind w k h n, e)
 
+  by-step : w .depth ≤ maxDepth → Slotted k (w .depth) → stepOver w (w .at + h) (w .at + n) (isEntered k) (isRuled k) (holdsIndexed k) ≡ nextOf w k h n
+  by-step few s =
+      ⊎-elim (λ i. rw (next-into i, i) (steps-into w h n (isRuled k) (holdsIndexed k) (s i)))
+      (λ i. rw (next-past i, i) (steps-past w h n (isRuled k) (holdsIndexed k) few)) (whether (isEntered k))
+
   -- the state's step leads there
-  pub leads : w .depth ≤ maxDepth → Slotted k (w .depth) → {before after : List ℕ} {opens mark : Bool} {q : Place} → opens ≡ isEntered k → mark ≡ isRuled k
-      → Moves before after q (stepOver w (w .at + h) (w .at + n) opens mark) → Moves before after q (nextOf w k h n)
-  leads few s {opens = opens} {mark = mark} eo em m =
-      let e : stepOver w (w .at + h) (w .at + n) opens mark ≡ nextOf w k h n = rw (eo, em)
-      (⊎-elim (λ i. rw (next-into i, i) (steps-into w h n (isRuled k) (s i))) (λ i. rw (next-past i, i) (steps-past w h n (isRuled k) few))
-      (whether (isEntered k))) in
+  pub leads : w .depth ≤ maxDepth → Slotted k (w .depth) → {before after : List ℕ} {opens mark indexed : Bool} {q : Place}
+      → opens ≡ isEntered k → mark ≡ isRuled k → indexed ≡ holdsIndexed k
+      → Moves before after q (stepOver w (w .at + h) (w .at + n) opens mark indexed) → Moves before after q (nextOf w k h n)
+  leads few s {opens = opens} {mark = mark} {indexed = indexed} eo em ei m =
+      let e : stepOver w (w .at + h) (w .at + n) opens mark indexed ≡ nextOf w k h n = rw (eo, em, ei) (by-step few s) in
       record { state = m .state ∙ e; behind = m .behind }
 
 -- what is told of an item, and of its refusal
 module _ (before : List ℕ) (p : Place) where
-  pub told-item : (k : Kind) (h n : ℕ) → p .depth ≤ maxDepth → Slotted k (p .depth) → {after : List ℕ} {opens mark : Bool} {q : Place}
-      → opens ≡ isEntered k → mark ≡ isRuled k → Moves before after q (stepOver (walkAt before p) (p .at + h) (p .at + n) opens mark)
+  pub told-item : (k : Kind) (h n : ℕ) → p .depth ≤ maxDepth → Slotted k (p .depth) → {after : List ℕ} {opens mark indexed : Bool} {q : Place}
+      → opens ≡ isEntered k → mark ≡ isRuled k → indexed ≡ holdsIndexed k
+      → Moves before after q (stepOver (walkAt before p) (p .at + h) (p .at + n) opens mark indexed)
       → Steps before after (record { place = q; found = F.Item (p .at) n (p .depth) k h }) (foundBy (walkAt before p) (Item k h n))
   unfolding foundBy
-  told-item k h n few s eo em m = record { moves = leads (walkAt before p) k h n few s eo em m; found = refl; kept = λ e. let z : _≡_ {A = ℕ} 1 0 = ap (λ (b : Bool). pick b 1 0) e in absurd (omega arith) }
+  told-item k h n few s eo em ei m = record { moves = leads (walkAt before p) k h n few s eo em ei m; found = refl; kept = λ e. let z : _≡_ {A = ℕ} 1 0 = ap (λ (b : Bool). pick b 1 0) e in absurd (omega arith) }
 
   stays : Moves before before p (walkAt before p)
   stays = record { state = refl; behind = refl }
@@ -88,11 +98,11 @@ module _ (before : List ℕ) (p : Place) where
 -- ---- what is asked of the next item
 
 -- the next item of a part, or its refusal, is fit to be told
-pub ready : (w : Walk) (s : List ℕ) (f : Framed) → length s ≤ reach → f ≡ nextOwn (isAsked (placeOf w)) s (maxDepth - w .depth) → Ready (placeOf w) f
-ready w s (Unframed m p) b e = omega (arith, next-near (isAsked (placeOf w)) s (maxDepth - w .depth) m p (sym e))
+pub ready : (w : Walk) (s : List ℕ) (f : Framed) → length s ≤ reach → f ≡ nextOwn (w .indexed) (isAsked (placeOf w)) s (maxDepth - w .depth) → Ready (placeOf w) f
+ready w s (Unframed m p) b e = omega (arith, next-near (w .indexed) (isAsked (placeOf w)) s (maxDepth - w .depth) m p (sym e))
 ready w s (Item k h n) b e =
-    let o = own-item (isAsked (placeOf w)) s (maxDepth - w .depth) k h n (sym e) in
-    let z = item-sizes s k h n (any-item (isAsked (placeOf w)) s k h n (o .framed)) in
+    let o = own-item (w .indexed) (isAsked (placeOf w)) s (maxDepth - w .depth) k h n (sym e) in
+    let z = item-sizes (w .indexed) s k h n (any-item (w .indexed) (isAsked (placeOf w)) s k h n (o .framed)) in
     (z .1, omega (arith, z .2), λ i. omega (arith, may-enter k h (take (4 * n) s) (maxDepth - w .depth) i (o .accepted)))
 
 found-reach : (w : Walk) (f : Framed) → w .at ≤ reach → Ready (placeOf w) f → InReach (foundBy w f .found)
@@ -106,7 +116,7 @@ part-reach w s a b = found-reach w _ a (ready w s _ b refl)
 
 -- ---- a stream's step is that of the part to where the innermost group ends
 
-asked-frame : (w : Walk) (s : List ℕ) → frameAt w s ≡ frameNext (isAsked (placeOf w)) s
+asked-frame : (w : Walk) (s : List ℕ) → frameAt w s ≡ frameNext (w .indexed) (isAsked (placeOf w)) s
 unfolding frameAt isAsked
 asked-frame w s = ⊎-elim (λ e. rw e) (λ e. rw e) (whether (eqb (w .depth) 0))
 
@@ -116,12 +126,12 @@ unfolding judged foundBy toldBy
 judged-told w k h n Accepted = refl
 judged-told w k h n (Refused m p) = refl
 
-by-part : (w : Walk) (s : List ℕ) (b : ℕ) (f : Framed) → w .at ≤ b → 4 * b ≤ length s → frameNext (isAsked (placeOf w)) (part s (w .at) b) ≡ f
+by-part : (w : Walk) (s : List ℕ) (b : ℕ) (f : Framed) → w .at ≤ b → 4 * b ≤ length s → frameNext (w .indexed) (isAsked (placeOf w)) (part s (w .at) b) ≡ f
     → framedBy s w f ≡ foundBy w (ownOf f (part s (w .at) b) (maxDepth - w .depth))
 unfolding framedBy foundBy ownOf
 by-part w s b (Unframed m p) h long e = refl
 by-part w s b (Item k h′ n) h long e =
-    let z = item-sizes (part s (w .at) b) k h′ n (any-item (isAsked (placeOf w)) (part s (w .at) b) k h′ n e) in
+    let z = item-sizes (w .indexed) (part s (w .at) b) k h′ n (any-item (w .indexed) (isAsked (placeOf w)) (part s (w .at) b) k h′ n e) in
     let c : 4 * n ≡ n * 4 = omega arith in
     let i : w .at + n ≤ b = omega (arith, z .2, part-length s (w .at) b long) in
     rw (c, part-take s (w .at) n b i) (judged-told w k h′ n _)
@@ -136,7 +146,7 @@ module _ (w : Walk) (s : List ℕ) (n : ℕ) (tail : Bool) (order : w .at ≤ st
   unfolding stepFit partStep nextOwn
   near-step ne =
       rw (ne-eqb (w .at) n ne, asked-frame w (part s (w .at) (stopOf w n)))
-      (by-part w s (stopOf w n) (frameNext (isAsked (placeOf w)) (part s (w .at) (stopOf w n))) order (omega arith) refl)
+      (by-part w s (stopOf w n) (frameNext (w .indexed) (isAsked (placeOf w)) (part s (w .at) (stopOf w n))) order (omega arith) refl)
 
   at-end : w .at ≡ n → stepFit s n tail w ≡ record { next = w; found = pick tail (F.Refused 4 (4 * w .at)) F.End }
   unfolding stepFit
@@ -186,7 +196,7 @@ module _ (form : Form) (xs : List ℕ) (n : ℕ) (w : Walk) (H : Near form xs n 
       few = H .few;
     }
 
-    module _ (item : Framed) (ei : item ≡ nextOwn (isAsked (placeOf w)) (part (domain form .sextets xs) (w .at) stop) (maxDepth - w .depth)) where
+    module _ (item : Framed) (ei : item ≡ nextOwn (w .indexed) (isAsked (placeOf w)) (part (domain form .sextets xs) (w .at) stop) (maxDepth - w .depth)) where
       pub goes-ready : Ready (placeOf w) item
       goes-ready = ready w _ item (rw es (part-few w (domain form .sextets xs) n (H .room) whole near)) ei
 
@@ -248,5 +258,5 @@ both-ways false e f = let z : _≡_ {A = ℕ} 0 1 = cc in absurd (omega arith)
 -- ---- by value
 
 pub by-value : {before after : List ℕ} {r : Moved} {t : Stepped} → length after ≡ maxDepth → Steps before after r t
-    → record { next = record { ends = after; depth = r .place .depth; at = r .place .at; first = r .place .first }; found = r .found } ≡ t
+    → record { next = record { ends = after; depth = r .place .depth; at = r .place .at; first = r .place .first; indexed = r .place .indexed }; found = r .found } ≡ t
 by-value {r = r} l s = rw (← (own-moved l (s .moves)), ← (s .found))

@@ -28,7 +28,7 @@ unfoldable pub isAsked : Place → Bool
 isAsked p = pick (eqb (p .depth) 0) true (p .first)
 
 abbrev pub placeOf : Walk → Place
-placeOf w = record { depth = w .depth; at = w .at; first = w .first }
+placeOf w = record { depth = w .depth; at = w .at; first = w .first; indexed = w .indexed }
 
 -- the next item, framed and judged by its own checks, or its refusal, at which the state stays as it was
 unfoldable pub foundBy : Walk → Framed → Stepped
@@ -37,7 +37,7 @@ foundBy w (Item k h n) = record { next = nextOf w k h n; found = F.Item (w .at) 
 
 -- a step over a part, from the position to where the innermost group ends
 unfoldable pub partStep : Walk → List ℕ → Stepped
-partStep w s = foundBy w (nextOwn (isAsked (placeOf w)) s (maxDepth - w .depth))
+partStep w s = foundBy w (nextOwn (w .indexed) (isAsked (placeOf w)) s (maxDepth - w .depth))
 
 -- a step's find in elements, u to the unit
 abbrev pub inElements : ℕ → Stepped → Stepped

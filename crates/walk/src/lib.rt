@@ -56,21 +56,22 @@ fn is_asked(p: Place) -> bool
 // The next item up to where its group ends, framed and judged by its own checks, or its refusal.
 fn next_item(p: Place, form: Form, s: &[u8], stop: usize) -> Framed
     requires { ⌜ Spans form (now s) p stop ⌝ }
-    ensures { λ r. ⌜ r ≡ nextOwn (isAsked p) (part (domain form .sextets (now (s .entry))) (p .at) stop) (maxDepth - p .depth) ⌝ }
+    ensures { λ r. ⌜ r ≡ nextOwn (p .indexed) (isAsked p) (part (domain form .sextets (now (s .entry))) (p .at) stop) (maxDepth - p .depth) ⌝ }
 {
     let asked = is_asked(p);
     let levels = MAX_DEPTH - p.depth;
+    let indexed = p.indexed;
     let at = p.at;
     match form {
         Form::Text => {
             let from = 4 * at;
             let to = 4 * stop;
-            report_next::next_text(&s[from..to], asked, levels)
+            report_next::next_text(&s[from..to], indexed, asked, levels)
         }
         Form::Binary => {
             let from = 3 * at;
             let to = 3 * stop;
-            report_next::next_binary(&s[from..to], asked, levels)
+            report_next::next_binary(&s[from..to], indexed, asked, levels)
         }
     }
 }
@@ -94,8 +95,9 @@ fn yielded(slots: &mut [usize], p: Place, item: Framed) -> Moved
         Framed::Item { kind, head, size } => {
             let opens = report_next::is_entered(kind);
             let mark = report_next::is_ruled(kind);
+            let indexed = report_next::holds_indexed(kind);
             let depth = p.depth;
-            let place = walk_state::advance(slots, p, at + head, at + size, opens, mark);
+            let place = walk_state::advance(slots, p, at + head, at + size, opens, mark, indexed);
             Moved {
                 place,
                 found: Found::Item {
@@ -300,6 +302,7 @@ pub fn step_in(w: Walk, form: Form, s: &[u8]) -> Stepped
             depth: p.depth,
             at: p.at,
             first: p.first,
+            indexed: p.indexed,
         },
         found,
     }

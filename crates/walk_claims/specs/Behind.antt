@@ -11,29 +11,19 @@ use borrow.Author.Tests.{eqb-true, lt-ltb, le-ltb}
 use Rattle.base.specs.Pick.{pick}
 use Rattle.base.specs.Cases.{lt-or-ge, whether}
 use Rattle.format.specs.declared.Kind.{Kind}
-use Rattle.format.specs.declared.Kind.the-variants.{Fixed, Variable, Group, Genus}
+use Rattle.format.specs.declared.Kind.the-variants.{Fixed, Variable, Group, Genus, Indexed}
 use Rattle.format.specs.Units.{Domain}
-use Rattle.format.specs.Registry.{isOpaque, isOverrideable}
 use Rattle.laws.specs.Domains.{Reader}
 use Rattle.walk_state.specs.declared.Walk.{Walk}
 use Rattle.walk_state.specs.declared.Found.{Found}
 use Rattle.walk_state.specs.declared.Found.the-variants as F
 use Rattle.walk_state.specs.Walking.{closed, movedTo, past, nextOf, foundIn, stepIn}
 use Rattle.walk_claims.specs.Words.{unitsIn, tailOf, opens, marks, Behind}
-use Rattle.walk_claims.specs.Steps.{step-by, overNext, opens-next, opaque-next, in-by}
+use Rattle.walk_claims.specs.Steps.{step-by, overNext, opens-next, in-by}
 use Rattle.walk_claims.specs.Runs.{closed-keeps, closed-at}
 
 closed-first : (k : ℕ) (w : Walk) → closed k w .first ≡ w .first
 closed-first = closed-keeps (λ w. w .first) (λ w ends k. refl)
-
--- opaque groups are not overrideable
-opaque-plain : (letter : ℕ) → isOpaque letter ≡ true → isOverrideable letter ≡ false
-unfolding isOpaque isOverrideable
-opaque-plain letter o = le-ltb letter 3 (go (eqb letter 10) refl o)
-  where
-    go : (b : Bool) → eqb letter 10 ≡ b → pick b true (eqb letter 11) ≡ true → 3 ≤ letter
-    go true e q = omega (arith, eqb-true letter 10 e)
-    go false e q = omega (arith, eqb-true letter 11 q)
 
 -- as long in elements
 scaled-ltb : (u h m : ℕ) → 0 < u → ltb (h * u) (m * u) ≡ ltb h m
@@ -42,10 +32,6 @@ scaled-ltb u h m pos =
     (λ g. rw (le-ltb h m g) (le-ltb (h * u) (m * u) (mul-le-mul-right u g))) (lt-or-ge h m)
 
 module _ (d : Domain) (R : Reader d) (w : Walk) where
-  never : (b : Bool) → pick b false false ≡ false
-  never true = refl
-  never false = refl
-
   over-at : (m : ℕ) → overNext w m .at * d .unit ≡ w .at * d .unit + m * d .unit
   unfolding movedTo
   over-at m = rw closed-at (add-mul (w .at) m (d .unit))
@@ -62,29 +48,21 @@ module _ (d : Domain) (R : Reader d) (w : Walk) where
   over-behind k h m e o f =
       record { offset = refl; depth = refl; position = rw (e, o) (over-at m); mark = rw (e, f) (over-first m) }
 
-  into-behind : (letter h m : ℕ) → isOpaque letter ≡ false → Next (Group letter) h m
-  unfolding opens marks
-  into-behind letter h m o = record {
-    offset = refl;
-    depth = refl;
-    position = rw (o, opens-next w h m letter o, closed-at) (add-mul (w .at) h (d .unit));
-    mark = rw (opens-next w h m letter o, closed-first, scaled-ltb (d .unit) h m (R .pos));
-  }
-
   group-behind : (letter h m : ℕ) → Next (Group letter) h m
   unfolding opens marks
-  group-behind letter h m =
-      ⊎-elim
-      (λ (o : isOpaque letter ≡ true). over-behind (Group letter) h m (opaque-next w h m letter o) (rw o)
-      (rw (opaque-plain letter o) (never (ltb (h * d .unit) (m * d .unit)))))
-      (into-behind letter h m)
-      (whether (isOpaque letter))
+  group-behind letter h m = record {
+    offset = refl;
+    depth = refl;
+    position = rw (opens-next w h m letter, closed-at) (add-mul (w .at) h (d .unit));
+    mark = rw (opens-next w h m letter, closed-first, scaled-ltb (d .unit) h m (R .pos));
+  }
 
   next-behind : (k : Kind) (h m : ℕ) → Next k h m
   unfolding nextOf past movedTo opens marks
   next-behind (Fixed c) h m = over-behind (Fixed c) h m refl refl refl
   next-behind (Variable t l c) h m = over-behind (Variable t l c) h m refl refl refl
   next-behind Genus h m = over-behind Genus h m refl refl refl
+  next-behind (Indexed c) h m = over-behind (Indexed c) h m refl refl refl
   next-behind (Group letter) h m = group-behind letter h m
 
   abbrev Yielded : Found → Walk → Type 0

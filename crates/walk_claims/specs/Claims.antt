@@ -19,14 +19,15 @@ use Rattle.walk_state.specs.declared.Walk.{Walk}
 use Rattle.walk_state.specs.declared.Found.the-variants as F
 use Rattle.walk_state.specs.Walking.{isFit, stepIn}
 use Rattle.walk_claims.specs.Words.{Fit, stepRules, unitsIn, after, foundAt, Yields, Stops, Behind, outerItems, spanOf, upToRefusal}
-use Rattle.walk_claims.specs.Words.{foundOf, firstRefusal, Last, SameStep}
+use Rattle.walk_claims.specs.Words.{openGroups, innermostIndexed, foundOf, firstRefusal, Last, SameStep}
 
 -- ---- of the test on a state
 
 pub record ThirteenClaims : Type 0 where
   -- "13 is given exactly when: more than 16 open" (64 by 02 g: "the conditions of 13 follow the new size"), "an unused slot not 0, the
   -- position not before the innermost end, or past the stream, an inner end past its outer, the outermost past the stream, or the
-  -- first-item mark set with none open": the test of a stream of n units passes exactly where none of these holds
+  -- first-item mark set with none open", and 02 a: the mark of indexed items "with none open is 13": the test of a stream of n units passes
+  -- exactly where none of these holds
   pub only-fit : (w : Walk) (n : ℕ) → isFit w n ≡ true → Fit w n
   pub every-fit : (w : Walk) (n : ℕ) → Fit w n → isFit w n ≡ true
 
@@ -36,7 +37,7 @@ pub record StreamClaims (d : Domain) (xs : List ℕ) : Type 0 where
   -- demand 1: "Every public entry refuses bad input by number": neither 0, which is how a call for C says accepted, nor 255, by which it
   -- tells the end; 01's numbers for a step, in 01's order; and the state is left
   pub refuses : (w : Walk) (m p : ℕ) → stepIn d xs w .found ≡ F.Refused m p
-      → Refusal (1 ∷ 13 ∷ 4 ∷ 5 ∷ 19 ∷ 6 ∷ 7 ∷ 11 ∷ 18 ∷ 9 ∷ 8 ∷ 16 ∷ 10 ∷ []) (stepRules d xs w) m × (m < 255) × (stepIn d xs w .next ≡ w)
+      → Refusal (1 ∷ 13 ∷ 4 ∷ 5 ∷ 19 ∷ 6 ∷ 7 ∷ 11 ∷ 18 ∷ 9 ∷ 8 ∷ 16 ∷ 15 ∷ 10 ∷ []) (stepRules d xs w) m × (m < 255) × (stepIn d xs w .next ≡ w)
   -- an item is yielded only where none of them is to be given
   pub accepts : (w : Walk) (o n e h : ℕ) (k : Kind) → stepIn d xs w .found ≡ F.Item o n e k h → None (stepRules d xs w)
   -- and the end is told only of a fit state behind the last byte of a stream within the limit
@@ -60,6 +61,9 @@ pub record StreamClaims (d : Domain) (xs : List ℕ) : Type 0 where
   -- "each with offset, size, depth (the number of groups it stands within)": the item stands at the position, and the next
   -- position and mark are those behind it
   pub yields : (w : Walk) (o n e h : ℕ) (k : Kind) → stepIn d xs w .found ≡ F.Item o n e k h → Behind d w o n e k h (stepIn d xs w .next)
+  -- 02 a: "its state says whether the innermost open group is one": all along the walk, of the groups that were yielded and are still open
+  pub innermost : (k : ℕ) → (length (openGroups d xs k) ≡ after d xs k .depth)
+      × (after d xs k .indexed ≡ innermostIndexed (openGroups d xs k))
   -- "the position never falls", and an item moves it on by a unit at least
   pub never-back : (w : Walk) → w .at ≤ stepIn d xs w .next .at
   pub moves-on : (w : Walk) → Yields (stepIn d xs w .found) → w .at < stepIn d xs w .next .at
@@ -85,7 +89,7 @@ pub record StreamClaims (d : Domain) (xs : List ℕ) : Type 0 where
       → foundAt d xs j ≡ foundOf (judgeIn d xs)
   -- so an item's verdict, which it has by itself (demand 3), is 0 or one of a step's numbers but 1 and 13
   pub verdicts : (k : Kind) (h m p : ℕ) → length xs ≤ d .limit → frameIn d xs ≡ Item k h (length xs) → judgeIn d xs ≡ Refused m p
-      → Among (4 ∷ 5 ∷ 19 ∷ 6 ∷ 7 ∷ 11 ∷ 18 ∷ 9 ∷ 8 ∷ 16 ∷ 10 ∷ []) m
+      → Among (4 ∷ 5 ∷ 19 ∷ 6 ∷ 7 ∷ 11 ∷ 18 ∷ 9 ∷ 8 ∷ 16 ∷ 15 ∷ 10 ∷ []) m
 
 -- ---- of text and binary together
 

@@ -7,7 +7,7 @@ use mathlib.Core.Logic.{⊎-elim}
 use native.Mathlib.Omega.{arith}
 use lib.ListN.{length, getD}
 use lib.Dec.{ltb, leb, eqb}
-use borrow.Author.Tests.{ltb-true, leb-true, eqb-true, not-true, lt-ltb, le-ltb, le-leb, eq-eqb, ne-eqb}
+use borrow.Author.Tests.{ltb-true, leb-true, eqb-true, lt-ltb, le-ltb, le-leb, eq-eqb, ne-eqb}
 use Rattle.base.specs.Pick.{pick}
 use Rattle.base.specs.Cases.{lt-or-ge, whether}
 use Rattle.format.specs.Judging.{maxDepth}
@@ -20,6 +20,11 @@ use Rattle.walk_claims.specs.Words.{Fit}
 both : (b x : Bool) → pick b x false ≡ true → (b ≡ true) × (x ≡ true)
 both true x e = (refl, e)
 both false x e = let z : _≡_ {A = ℕ} 0 1 = cc in absurd (omega arith)
+
+neither : (a b : Bool) → pick a false (not b) ≡ true → (a ≡ false) × (b ≡ false)
+neither true b e = let z : _≡_ {A = ℕ} 0 1 = cc in absurd (omega arith)
+neither false true e = let z : _≡_ {A = ℕ} 0 1 = cc in absurd (omega arith)
+neither false false e = (refl, refl)
 
 all-at : (p : ℕ → Bool) (n : ℕ) → allBelow p n ≡ true → (k : ℕ) → k < n → p k ≡ true
 unfolding allBelow
@@ -36,7 +41,7 @@ all-made p (suc n) f = rw (f n (omega arith)) (all-made p n (λ k h. f k (omega 
 module _ (w : Walk) (n : ℕ) where
   -- the last part of the test
   abbrev placeFits : Bool
-  placeFits = pick (eqb (w .depth) 0) (not (w .first)) (ltb (w .at) (getD (w .ends) (w .depth - 1) 0))
+  placeFits = pick (eqb (w .depth) 0) (pick (w .first) false (not (w .indexed))) (ltb (w .at) (getD (w .ends) (w .depth - 1) 0))
 
   slot-unused : (k : ℕ) → w .depth ≤ k → slotFits (w .ends) (w .depth) n k ≡ true → getD (w .ends) k 0 ≡ 0
   unfolding slotFits
@@ -69,7 +74,8 @@ module _ (w : Walk) (n : ℕ) where
         inside = leb-true (w .at) n (b .0);
         nested = λ i h. slot-nested i h (slot (suc i) (omega arith));
         outermost = λ h. slot-outermost h (slot 0 (omega arith));
-        unmarked = λ h. not-true (w .first) (rw (eq-eqb (w .depth) 0 h) at place);
+        unmarked = λ h. neither (w .first) (w .indexed) (rw (eq-eqb (w .depth) 0 h) at place) .0;
+        unindexed = λ h. neither (w .first) (w .indexed) (rw (eq-eqb (w .depth) 0 h) at place) .1;
       }
 
   module _ (f : Fit w n) where
@@ -88,7 +94,7 @@ module _ (w : Walk) (n : ℕ) where
     place-made : placeFits ≡ true
     place-made =
         ⊎-elim (λ l. rw (ne-eqb (w .depth) 0 (λ q. omega arith)) (lt-ltb _ _ (f .before l)))
-        (λ g. let z : w .depth ≡ 0 = omega arith in rw (eq-eqb (w .depth) 0 z, f .unmarked z)) (lt-or-ge 0 (w .depth))
+        (λ g. let z : w .depth ≡ 0 = omega arith in rw (eq-eqb (w .depth) 0 z, f .unmarked z, f .unindexed z)) (lt-or-ge 0 (w .depth))
 
     pub fit-made : isFit w n ≡ true
     unfolding isFit
@@ -123,6 +129,7 @@ pub record Nested (w : Walk) (n : ℕ) : Type 0 where
   pub within : (i : ℕ) → i < w .depth → getD (w .ends) i 0 ≤ stopAt n i (w .ends)
   pub reached : w .at ≤ stopAt n (w .depth) (w .ends)
   pub marked : w .first ≡ true → (0 < w .depth) × (w .at < stopAt n (w .depth) (w .ends))
+  pub tabled : w .indexed ≡ true → 0 < w .depth
 
 pub record Fits (w : Walk) (n : ℕ) : Type 0 where
   pub nest : Nested w n
@@ -152,6 +159,8 @@ module _ (w : Walk) (n : ℕ) where
     outermost = λ h. omega (arith, f .nest .within 0 h, stop-outer n (w .ends));
     unmarked = λ h.
         ⊎-elim (λ m. absurd (omega (arith, f .nest .marked m .0))) (λ m. m) (whether (w .first));
+    unindexed = λ h.
+        ⊎-elim (λ m. absurd (omega (arith, f .nest .tabled m))) (λ m. m) (whether (w .indexed));
   }
 
   pub by-depth : length (w .ends) ≡ maxDepth → Fit w n → Fits w n
@@ -162,7 +171,8 @@ module _ (w : Walk) (n : ℕ) where
       unused = f .unused;
       within = slots;
       reached = ⊎-elim (λ l. omega (arith, ahead l)) (λ g. none g) (lt-or-ge 0 (w .depth));
-      marked = λ m. let l : 0 < w .depth = some m in (l, ahead l);
+      marked = λ m. let l : 0 < w .depth = some (w .first) (f .unmarked) m in (l, ahead l);
+      tabled = some (w .indexed) (f .unindexed);
     };
     ahead = ahead;
   }
@@ -173,10 +183,10 @@ module _ (w : Walk) (n : ℕ) where
       none : w .depth ≤ 0 → w .at ≤ stopAt n (w .depth) (w .ends)
       none g = let z : w .depth ≡ 0 = omega arith in rw z (omega (arith, f .inside, stop-outer n (w .ends)))
 
-      some : w .first ≡ true → 0 < w .depth
-      some m =
+      some : (b : Bool) → (w .depth ≡ 0 → b ≡ false) → b ≡ true → 0 < w .depth
+      some b none m =
           ⊎-elim (λ l. l)
-          (λ g. let u : w .first ≡ false = f .unmarked (omega arith) in let z : _≡_ {A = ℕ} 0 1 = cc in absurd (omega arith))
+          (λ g. let u : b ≡ false = none (omega arith) in let z : _≡_ {A = ℕ} 0 1 = cc in absurd (omega arith))
           (lt-or-ge 0 (w .depth))
 
       slots : (i : ℕ) → i < w .depth → getD (w .ends) i 0 ≤ stopAt n i (w .ends)

@@ -13,7 +13,7 @@ use Rattle.format.specs.declared.Framed.the-variants.{Unframed}
 use Rattle.format.specs.Units.{text, binary, textSextets}
 use Rattle.format.specs.Framing.{sextet}
 use Rattle.format.specs.Judging.{ownCheck, maxDepth}
-use Rattle.laws.specs.Framing.{Told, frame-told, frameRuled-told}
+use Rattle.laws.specs.Framing.{Told, next-told}
 use Rattle.laws.specs.Judging.{kind-by, check-by}
 use Rattle.claims.specs.Aligned.{Aligned, aligned, below-anywhere}
 use Rattle.claims.specs.Ratio.{Same, same-units}
@@ -23,7 +23,7 @@ use Rattle.walk_state.specs.declared.Found.the-variants as F
 use Rattle.walk_state.specs.declared.Stepped.{Stepped}
 use Rattle.walk_state.specs.Walking.{isFit, stopOf, foundIn, stepFit, step, stepIn}
 use Rattle.walk_claims.specs.Words.{after, FoundRatio, SameStep}
-use Rattle.laws.specs.Levels.{part, frameNext}
+use Rattle.laws.specs.Levels.{part}
 use Rattle.walk_claims.specs.Steps.{asked, step-by}
 
 -- a step's answer in both forms
@@ -33,10 +33,6 @@ InRatio f = FoundRatio (foundIn 4 f) (foundIn 3 f)
 at-unit : (m p : ℕ) → p % 4 ≡ 0 → InRatio (F.Refused m p)
 unfolding foundIn
 at-unit m p e = (refl, omega arith)
-
-next-told : (first : Bool) (s : List ℕ) → Told (sextet s) (frameNext first s)
-next-told true s = frameRuled-told s
-next-told false s = frame-told s
 
 module _ (s : List ℕ) (low : Below 64 s) (n : ℕ) (tail : Bool) (w : Walk) where
   part-low : (at stop : ℕ) → Below 64 (part s at stop)
@@ -48,7 +44,7 @@ module _ (s : List ℕ) (low : Below 64 s) (n : ℕ) (tail : Bool) (w : Walk) wh
       step-by s n tail w (λ r. InRatio (r .found)) (λ _ _. at-unit 4 (4 * n) (omega arith)) (λ _ _. tt)
       (λ m p _ e.
       let here : List ℕ = part s (w .at) (stopOf w n) in
-      let t : Told (sextet here) (Unframed m p) = subst (Told (sextet here)) e (next-told (asked w) here) in
+      let t : Told (sextet here) (Unframed m p) = subst (Told (sextet here)) e (next-told (w .indexed) (asked w) here) in
       let z : p ≡ 0 = t .1 (below-anywhere here (part-low (w .at) (stopOf w n))) in
       at-unit m (4 * w .at + p) (omega arith))
       (λ k h m q p _ _ e.

@@ -34,14 +34,14 @@ module _ (n : ℕ) where
   within-set d i v ends h f j l = rw (getD-set-other ends i j v 0 (λ e. omega arith), stop-below j i v ends (omega arith)) (f j l)
 
   -- groups whose end is reached close
-  closed-fits : (d : ℕ) (ends : List ℕ) (at : ℕ) (first : Bool) → Nested (record { ends = ends; depth = d; at = at; first = first }) n
-      → Fits (closed d (record { ends = ends; depth = d; at = at; first = first })) n
+  closed-fits : (d : ℕ) (ends : List ℕ) (at : ℕ) (first indexed : Bool) → Nested (record { ends = ends; depth = d; at = at; first = first; indexed = indexed }) n
+      → Fits (closed d (record { ends = ends; depth = d; at = at; first = first; indexed = indexed })) n
   unfolding closed
-  closed-fits zero ends at first f = record { nest = f; ahead = λ z. absurd (omega arith) }
-  closed-fits (suc d) ends at first f = go (eqb (getD ends d 0) at) refl (closed-fits d (set ends d 0) at first)
+  closed-fits zero ends at first indexed f = record { nest = f; ahead = λ z. absurd (omega arith) }
+  closed-fits (suc d) ends at first indexed f = go (eqb (getD ends d 0) at) refl (closed-fits d (set ends d 0) at first false)
     where
       outside : Walk
-      outside = record { ends = set ends d 0; depth = d; at = at; first = first }
+      outside = record { ends = set ends d 0; depth = d; at = at; first = first; indexed = false }
 
       cleared : (i : ℕ) → d ≤ i → i < maxDepth → getD (set ends d 0) i 0 ≡ 0
       cleared i h l =
@@ -49,7 +49,7 @@ module _ (n : ℕ) where
           (λ ge. let q : d ≡ i = omega arith in rw (← q) (getD-set-same ends d 0 0 (omega (arith, f .full)))) (lt-or-ge d i)
 
       go : (b : Bool) → eqb (getD ends d 0) at ≡ b → (Nested outside n → Fits (closed d outside) n)
-          → Fits (pick b (closed d outside) (record { ends = ends; depth = suc d; at = at; first = first })) n
+          → Fits (pick b (closed d outside) (record { ends = ends; depth = suc d; at = at; first = first; indexed = indexed })) n
       go true e rec =
           let q : getD ends d 0 ≡ at = eqb-true (getD ends d 0) at e in
           rec (record {
@@ -59,6 +59,7 @@ module _ (n : ℕ) where
             within = within-set d d 0 ends (omega arith) (λ j l. f .within j (omega arith));
             reached = rw (stop-below d d 0 ends (omega arith)) (omega (arith, f .within d (omega arith)));
             marked = λ m. absurd (omega (arith, f .marked m .1, stop-inner n d ends));
+            tabled = λ m. let z : _≡_ {A = ℕ} 0 1 = cc in absurd (omega arith);
           })
       go false e rec = record { nest = f; ahead = λ _. late (eqb-false (getD ends d 0) at e) }
         where
@@ -70,23 +71,25 @@ module _ (n : ℕ) where
     over-fits : Fits (overNext w m) n
     unfolding movedTo
     over-fits =
-        closed-fits (w .depth) (w .ends) (w .at + m) false (record {
+        closed-fits (w .depth) (w .ends) (w .at + m) false (w .indexed) (record {
           full = f .nest .full;
           few = f .nest .few;
           unused = f .nest .unused;
           within = f .nest .within;
           reached = room;
           marked = λ e. let z : _≡_ {A = ℕ} 0 1 = cc in absurd (omega arith);
+          tabled = f .nest .tabled;
         })
 
-    into-fits : (b : Bool) → w .depth < maxDepth → Fits (intoNext w h m b) n
-    into-fits b few = closed-fits (suc (w .depth)) (entered w h m b .ends) (w .at + h) (entered w h m b .first) (record {
+    into-fits : (b t : Bool) → w .depth < maxDepth → Fits (intoNext w h m b t) n
+    into-fits b t few = closed-fits (suc (w .depth)) (entered w h m b t .ends) (w .at + h) (entered w h m b t .first) t (record {
       full = length-set (w .ends) (w .depth) (w .at + m) ∙ f .nest .full;
       few = few;
       unused = λ i g l. getD-set-other (w .ends) (w .depth) i (w .at + m) 0 (λ e. omega arith) ∙ f .nest .unused i (omega arith) l;
       within = inside;
       reached = rw innermost (omega arith);
       marked = λ e. (omega arith, rw innermost (nonempty (ltb h m) refl e));
+      tabled = λ e. omega arith;
     })
       where
         own : getD (set (w .ends) (w .depth) (w .at + m)) (w .depth) 0 ≡ w .at + m
@@ -127,7 +130,7 @@ pub item-room : (s : List ℕ) (n : ℕ) (tail : Bool) (w : Walk) → 4 * n ≤ 
     → framedHere s n tail w ≡ Item k h m → (0 < h) × (h ≤ m) × (w .at + m ≤ stopAt n (w .depth) (w .ends))
 item-room s n tail w long f k h m e =
     let z : stopOf w n ≡ stopAt n (w .depth) (w .ends) = stop-level w n in
-    let b = item-sizes (part s (w .at) (stopOf w n)) k h m (any-item (asked w) (part s (w .at) (stopOf w n)) k h m e) in
+    let b = item-sizes (w .indexed) (part s (w .at) (stopOf w n)) k h m (any-item (w .indexed) (asked w) (part s (w .at) (stopOf w n)) k h m e) in
     let l : length (part s (w .at) (stopOf w n)) ≡ 4 * stopOf w n - 4 * w .at =
     part-length s (w .at) (stopOf w n) (omega (arith, stop-in w n (f .nest))) in
     (b .0, b .1, omega (arith, f .nest .reached))
@@ -142,7 +145,7 @@ module _ (s : List ℕ) (n : ℕ) (tail : Bool) (w : Walk) (long : 4 * n ≤ len
       step-by s n tail w (λ r. Fits (r .next) n) (λ _ _. f) (λ _ _. f) (λ m p _ _. f) (λ k h m q p _ _ _. f)
       (λ k h m _ e a. let b = item-room s n tail w long f k h m e in
       next-by w h m (λ v. Fits v n) k (over-fits n w f h m (b .1) (b .2))
-      (λ letter q o. into-fits n w f h m (b .1) (b .2) _ (group-few k h m letter a q)))
+      (λ letter q. into-fits n w f h m (b .1) (b .2) _ _ (group-few k h m letter a q)))
 
 all-zero : (k i : ℕ) → _≡_ {A = ℕ} (getD (replicate k 0) i 0) 0
 all-zero zero i = refl
@@ -159,6 +162,7 @@ start-fits n = record {
     within = λ i h. absurd (omega arith);
     reached = omega arith;
     marked = λ e. let z : _≡_ {A = ℕ} 0 1 = cc in absurd (omega arith);
+    tabled = λ e. let z : _≡_ {A = ℕ} 0 1 = cc in absurd (omega arith);
   };
   ahead = λ h. absurd (omega arith);
 }

@@ -7,6 +7,7 @@ pub mod Keeps
 pub mod Rest
 pub mod Runs
 pub mod Behind
+pub mod Innermost
 pub mod Streams
 pub mod Firsts
 pub mod Outer

@@ -10,25 +10,25 @@ use borrow.Author.Tests.{lt-ltb, le-ltb}
 use Rattle.base.specs.Pick.{pick-by}
 use Rattle.base.specs.Table.{both}
 use Rattle.format.specs.declared.Kind.{Kind}
-use Rattle.format.specs.declared.Kind.the-variants.{Fixed, Variable, Group, Genus}
+use Rattle.format.specs.declared.Kind.the-variants.{Fixed, Variable, Group, Genus, Indexed}
 use Rattle.format.specs.declared.Opening.{Opening}
-use Rattle.format.specs.declared.Opening.the-variants.{Unknown, Short, LargeVariable, LargeGroup, Version}
+use Rattle.format.specs.declared.Opening.the-variants.{Unknown, Short, Long, LargeVariable, LargeGroup, Version}
 use Rattle.format.specs.declared.Framed.{Framed}
 use Rattle.format.specs.declared.Framed.the-variants.{Item, Unframed}
 use Rattle.format.specs.declared.Verdict.{Verdict}
 use Rattle.format.specs.declared.Verdict.the-variants.{Accepted, Refused}
 use Rattle.format.specs.Units.{Domain}
 use Rattle.format.specs.Alphabet.{ordinary, strangerNumber}
-use Rattle.format.specs.Registry.{isOpaque}
-use Rattle.format.specs.Framing.{fit, second, headed, frameWith, isOurs, ruled, sextet, frame, frameRuled}
+use Rattle.format.specs.Framing.{fit, second, headed, frameWith, isOurs, ruled, sextet, frameBy, frameNext}
+use Rattle.format.specs.Registry.{openingBy}
 use Rattle.format.specs.Judging.{shift, andThen, unless, scan, behind, judgeKind, ownCheck}
-use Rattle.laws.specs.Framing.{known-by}
+use Rattle.laws.specs.Framing.{known-by, by-with}
 use Rattle.walk_state.specs.declared.Walk.{Walk}
 use Rattle.walk_state.specs.declared.Found.{Found}
 use Rattle.walk_state.specs.declared.Found.the-variants as F
 use Rattle.walk_state.specs.Walking.{isFit, stopOf, foundIn, step, stepIn}
 use Rattle.walk_claims.specs.Words.{unitsIn, tailOf}
-use Rattle.laws.specs.Levels.{part, frameNext}
+use Rattle.laws.specs.Levels.{part}
 use Rattle.walk_claims.specs.Steps.{asked, step-by, in-by}
 
 -- a test, so that `tt` answers it of any number that framing or judging gives
@@ -59,15 +59,19 @@ headed-own : (o : Opening) (at : ℕ → ℕ) (len : ℕ) → Framing (headed o 
 unfolding headed
 headed-own Unknown at len = tt
 headed-own (Short k n) at len = fit-own k 1 n len
+headed-own (Long k n) at len = second-own at len _ _
 headed-own (LargeVariable t l) at len = second-own at len _ _
 headed-own (LargeGroup l d) at len = second-own at len _ _
 headed-own Version at len = second-own at len _ _
 
-frame-own : (s : List ℕ) → Framing (frame s)
-unfolding frame frameWith
-frame-own s =
+with-own : (op : ℕ → ℕ → ℕ → ℕ → Opening) (s : List ℕ) → Framing (frameWith op (sextet s) (length s / 4))
+unfolding frameWith
+with-own op s =
     pick-by Framing (ltb (length s / 4) 1) _ _ (λ _. tt)
     (λ _. known-by Framing (sextet s) 0 _ (λ j b. stranger-own (sextet s j)) (λ _. headed-own _ (sextet s) _))
+
+frame-own : (t : Bool) (s : List ℕ) → Framing (frameBy t s)
+frame-own t s = rw (by-with t s) (with-own (openingBy t) s)
 
 ruled-own : (at : ℕ → ℕ) (r : Framed) → Framing r → Framing (ruled at r)
 unfolding ruled
@@ -75,12 +79,13 @@ ruled-own at (Unframed n p) f = f
 ruled-own at (Item (Fixed c) h n) f = tt
 ruled-own at (Item (Variable t l m) h n) f = tt
 ruled-own at (Item (Group l) h n) f = tt
+ruled-own at (Item (Indexed c) h n) f = tt
 ruled-own at (Item Genus h n) f = pick-by Framing (isOurs at) (Item Genus h n) (Unframed 7 0) (λ _. tt) (λ _. tt)
 
-next-own : (first : Bool) (s : List ℕ) → Framing (frameNext first s)
-unfolding frameRuled
-next-own true s = ruled-own (sextet s) (frame s) (frame-own s)
-next-own false s = frame-own s
+next-own : (t first : Bool) (s : List ℕ) → Framing (frameNext t first s)
+unfolding frameNext
+next-own t true s = ruled-own (sextet s) (frameBy t s) (frame-own t s)
+next-own t false s = frame-own t s
 
 -- ---- judging
 
@@ -117,8 +122,9 @@ kind-own (Variable t v c) h l s =
     then-own _ _ (shift-own (4 * h) _ (scan-own _))
     (then-own _ _ (unless-own 18 _ tt) (then-own _ _ (unless-own 9 _ tt) (then-own _ _ (unless-own 8 _ tt) (unless-own 16 _ tt))))
 kind-own (Group letter) h zero s = tt
-kind-own (Group letter) h (suc l) s =
-    then-own _ _ (unless-own 18 _ tt) (pick-by Judging (isOpaque letter) _ _ (λ _. shift-own (4 * h) _ (scan-own _)) (λ _. tt))
+kind-own (Group letter) h (suc l) s = unless-own 18 _ tt
+kind-own (Indexed c) h l s =
+    then-own _ _ (shift-own (4 * h) _ (scan-own _)) (then-own _ _ (unless-own 8 _ tt) (unless-own 15 _ tt))
 kind-own Genus h l s = tt
 
 -- ---- a step
@@ -140,7 +146,7 @@ module _ (d : Domain) (xs : List ℕ) (w : Walk) where
       (λ l u. (λ e. absurd (omega arith), λ _. (l, u)))
       (λ l _. step-by (d .sextets xs) (unitsIn d xs) (tailOf d xs) w (λ r. Numbered d xs w (foundIn (d .unit) (r .found)))
       (λ _ _. own-numbered 4 tt) (λ _ _. tt)
-      (λ m p _ e. own-numbered m (subst Framing e (next-own (asked w) (part (d .sextets xs) (w .at) (stopOf w (unitsIn d xs))))))
+      (λ m p _ e. own-numbered m (subst Framing e (next-own (w .indexed) (asked w) (part (d .sextets xs) (w .at) (stopOf w (unitsIn d xs))))))
       (λ k h m q p _ _ e. own-numbered q (subst Judging e (kind-own k h _ _)))
       (λ k h m _ _ _. tt))
 

@@ -13,16 +13,16 @@ use Rattle.base.specs.Pick.{pick, pick-by}
 use Rattle.base.specs.Cases.{lt-or-ge}
 use Rattle.base.specs.Table.{both, both-left, both-right}
 use Rattle.format.specs.declared.Kind.{Kind}
-use Rattle.format.specs.declared.Kind.the-variants.{Fixed, Variable, Group, Genus}
+use Rattle.format.specs.declared.Kind.the-variants.{Fixed, Variable, Group, Genus, Indexed}
 use Rattle.format.specs.declared.Framed.{Framed}
 use Rattle.format.specs.declared.Framed.the-variants.{Item, Unframed}
 use Rattle.format.specs.declared.Verdict.{Verdict}
 use Rattle.format.specs.declared.Verdict.the-variants.{Accepted, Refused}
 use Rattle.format.specs.Units.{Domain}
-use Rattle.format.specs.Framing.{isOurs, ruled, sextet, frame, frameRuled}
+use Rattle.format.specs.Framing.{isOurs, ruled, sextet, frameBy, frameNext}
 use Rattle.format.specs.Judging.{judgeKind, ownCheck, maxDepth}
 use Rattle.laws.specs.Domains.{Reader}
-use Rattle.laws.specs.Levels.{part, frameNext, any-item}
+use Rattle.laws.specs.Levels.{part, any-item}
 use Rattle.claims.specs.Order.{Rule, _when_, First, None, Among, Refusal}
 use Rattle.claims.specs.Rules.{Told, By, Allowed, skip, behind, in-front, by-none, by-first, refusal}
 use Rattle.claims.specs.Rules.Told.{accepted, told}
@@ -65,38 +65,40 @@ data Framing (rs : List Rule) : Framed → Type 0 where
 
 module _ (w : Walk) (s : List ℕ) where
   abbrev withSeven : List Rule
-  withSeven = C.framing s ++ (7 when (OtherGenus w s) ∷ [])
+  withSeven = C.framing (w .indexed) s ++ (7 when (OtherGenus w s) ∷ [])
 
-  not-seven : (OtherGenus w s → ⊥) → (r : Framed) → frame s ≡ r → Framing withSeven r
-  not-seven not (Unframed m p) e = unframed (in-front (C.framing s) (7 when (OtherGenus w s) ∷ []) m (unframed-first s m p e))
+  not-seven : (OtherGenus w s → ⊥) → (r : Framed) → frameBy (w .indexed) s ≡ r → Framing withSeven r
+  not-seven not (Unframed m p) e = unframed (in-front (C.framing (w .indexed) s) (7 when (OtherGenus w s) ∷ []) m (unframed-first (w .indexed) s m p e))
   not-seven not (Item k h n) e =
-      framed (by-none withSeven (behind (C.framing s) (7 when (OtherGenus w s) ∷ []) accepted (framed-found s k h n e .none) (none (not, tt))))
+      framed (by-none withSeven (behind (C.framing (w .indexed) s) (7 when (OtherGenus w s) ∷ []) accepted (framed-found (w .indexed) s k h n e .none) (none (not, tt))))
 
-  no-genus : (k : Kind) (h n : ℕ) → frame s ≡ Item k h n → (k ≡ Genus → ⊥) → OtherGenus w s → ⊥
-  no-genus k h n e not o = not (framed-found s k h n e .kind ∙ o .1)
+  no-genus : (k : Kind) (h n : ℕ) → frameBy (w .indexed) s ≡ Item k h n → (k ≡ Genus → ⊥) → OtherGenus w s → ⊥
+  no-genus k h n e not o = not (framed-found (w .indexed) s k h n e .kind ∙ o .1)
 
-  ruled-framing : Asks w → (r : Framed) → frame s ≡ r → Framing withSeven (ruled (sextet s) r)
+  ruled-framing : Asks w → (r : Framed) → frameBy (w .indexed) s ≡ r → Framing withSeven (ruled (sextet s) r)
   unfolding ruled
-  ruled-framing a (Unframed m p) e = unframed (in-front (C.framing s) (7 when (OtherGenus w s) ∷ []) m (unframed-first s m p e))
+  ruled-framing a (Unframed m p) e = unframed (in-front (C.framing (w .indexed) s) (7 when (OtherGenus w s) ∷ []) m (unframed-first (w .indexed) s m p e))
   ruled-framing a (Item (Fixed c) h n) e =
       not-seven (no-genus (Fixed c) h n e (λ z. let q : _≡_ {A = ℕ} 0 1 = cc in omega arith)) (Item (Fixed c) h n) e
   ruled-framing a (Item (Variable t l c) h n) e =
       not-seven (no-genus (Variable t l c) h n e (λ z. let q : _≡_ {A = ℕ} 0 1 = cc in omega arith)) (Item (Variable t l c) h n) e
   ruled-framing a (Item (Group l) h n) e =
       not-seven (no-genus (Group l) h n e (λ z. let q : _≡_ {A = ℕ} 0 1 = cc in omega arith)) (Item (Group l) h n) e
+  ruled-framing a (Item (Indexed c) h n) e =
+      not-seven (no-genus (Indexed c) h n e (λ z. let q : _≡_ {A = ℕ} 0 1 = cc in omega arith)) (Item (Indexed c) h n) e
   ruled-framing a (Item Genus h n) e =
       pick-by (Framing withSeven) (isOurs (sextet s)) _ _
       (λ t. not-seven (λ o. let g = o .2 in let q : _≡_ {A = ℕ} 0 1 = cc in omega arith) (Item Genus h n) e)
-      (λ f. unframed (by-first withSeven 7 (behind (C.framing s) (7 when (OtherGenus w s) ∷ []) (told 7) (framed-found s Genus h n e .none)
-      (first (inl ((a, sym (framed-found s Genus h n e .kind), f), refl))))))
+      (λ f. unframed (by-first withSeven 7 (behind (C.framing (w .indexed) s) (7 when (OtherGenus w s) ∷ []) (told 7) (framed-found (w .indexed) s Genus h n e .none)
+      (first (inl ((a, sym (framed-found (w .indexed) s Genus h n e .kind), f), refl))))))
 
-  next-framing : Framing withSeven (frameNext (asked w) s)
-  unfolding frameRuled
+  next-framing : Framing withSeven (frameNext (w .indexed) (asked w) s)
+  unfolding frameNext
   next-framing = go (asked w) refl
     where
-      go : (b : Bool) → asked w ≡ b → Framing withSeven (frameNext b s)
-      go true e = ruled-framing (asks w e) (frame s) refl
-      go false e = not-seven (λ o. asks-not w e (o .0)) (frame s) refl
+      go : (b : Bool) → asked w ≡ b → Framing withSeven (frameNext (w .indexed) b s)
+      go true e = ruled-framing (asks w e) (frameBy (w .indexed) s) refl
+      go false e = not-seven (λ o. asks-not w e (o .0)) (frameBy (w .indexed) s) refl
 
 -- ---- a step
 
@@ -106,7 +108,7 @@ module _ (d : Domain) (R : Reader d) (xs : List ℕ) (w : Walk) where
 
   -- what the step judges
   abbrev ownHere : List Rule
-  ownHere = C.ownRules (maxDepth - w .depth) (C.itemKind ahead) (C.itemHead ahead) (ownOf d xs w (C.itemSize ahead))
+  ownHere = C.ownRules (maxDepth - w .depth) (C.itemKind (w .indexed) ahead) (C.itemHead (w .indexed) ahead) (ownOf d xs w (C.itemSize (w .indexed) ahead))
 
   data Stepping : Found → Type 0 where
     yields : {o n e h : ℕ} {k : Kind} → None (stepRules d xs w) → Stepping (F.Item o n e k h)
@@ -132,34 +134,34 @@ module _ (d : Domain) (R : Reader d) (xs : List ℕ) (w : Walk) where
           refl,
         ))
 
-    refused-framing : (m p : ℕ) → frameNext (asked w) ahead ≡ Unframed m p → First (stepRules d xs w) m
+    refused-framing : (m p : ℕ) → frameNext (w .indexed) (asked w) ahead ≡ Unframed m p → First (stepRules d xs w) m
     refused-framing m p e = go (subst (Framing (withSeven w ahead)) e (next-framing w ahead))
       where
         go : Framing (withSeven w ahead) (Unframed m p) → First (stepRules d xs w) m
         go (unframed f) = within m (in-front (withSeven w ahead) ownHere m f)
 
-    no-framing : (k : Kind) (h n : ℕ) → frameNext (asked w) ahead ≡ Item k h n → None (withSeven w ahead)
+    no-framing : (k : Kind) (h n : ℕ) → frameNext (w .indexed) (asked w) ahead ≡ Item k h n → None (withSeven w ahead)
     no-framing k h n e = go (subst (Framing (withSeven w ahead)) e (next-framing w ahead))
       where
         go : Framing (withSeven w ahead) (Item k h n) → None (withSeven w ahead)
         go (framed q) = q
 
     -- the item that the first unit opens, judged
-    own : (k : Kind) (h n : ℕ) → frameNext (asked w) ahead ≡ Item k h n
+    own : (k : Kind) (h n : ℕ) → frameNext (w .indexed) (asked w) ahead ≡ Item k h n
         → Judged ownHere (judgeKind k h (part (d .sextets xs) (w .at) (w .at + n)) (ownCheck (maxDepth - w .depth)))
     own k h n e =
-        let f = framed-found ahead k h n (any-item (asked w) ahead k h n e) in
+        let f = framed-found (w .indexed) ahead k h n (any-item (w .indexed) (asked w) ahead k h n e) in
         rw (f .kind, f .head, f .size)
-        (own-judged (maxDepth - w .depth) (C.itemKind ahead) (C.itemHead ahead) (ownOf d xs w (C.itemSize ahead)))
+        (own-judged (maxDepth - w .depth) (C.itemKind (w .indexed) ahead) (C.itemHead (w .indexed) ahead) (ownOf d xs w (C.itemSize (w .indexed) ahead)))
 
-    refused-judging : (k : Kind) (h n m p : ℕ) → frameNext (asked w) ahead ≡ Item k h n
+    refused-judging : (k : Kind) (h n m p : ℕ) → frameNext (w .indexed) (asked w) ahead ≡ Item k h n
         → judgeKind k h (part (d .sextets xs) (w .at) (w .at + n)) (ownCheck (maxDepth - w .depth)) ≡ Refused m p → First (stepRules d xs w) m
     refused-judging k h n m p e q = go (subst (Judged ownHere) q (own k h n e))
       where
         go : Judged ownHere (Refused m p) → First (stepRules d xs w) m
         go (refuses f) = within m (by-first _ m (behind (withSeven w ahead) ownHere (told m) (no-framing k h n e) (first f)))
 
-    accepted-judging : (k : Kind) (h n : ℕ) → frameNext (asked w) ahead ≡ Item k h n
+    accepted-judging : (k : Kind) (h n : ℕ) → frameNext (w .indexed) (asked w) ahead ≡ Item k h n
         → judgeKind k h (part (d .sextets xs) (w .at) (w .at + n)) (ownCheck (maxDepth - w .depth)) ≡ Accepted → None (stepRules d xs w)
     accepted-judging k h n e q = go (subst (Judged ownHere) q (own k h n e))
       where
@@ -181,12 +183,13 @@ module _ (d : Domain) (R : Reader d) (xs : List ℕ) (w : Walk) where
 -- ---- as claims
 
 abbrev stepNumbers : List ℕ
-stepNumbers = 1 ∷ 13 ∷ 4 ∷ 5 ∷ 19 ∷ 6 ∷ 7 ∷ 11 ∷ 18 ∷ 9 ∷ 8 ∷ 16 ∷ 10 ∷ []
+stepNumbers = 1 ∷ 13 ∷ 4 ∷ 5 ∷ 19 ∷ 6 ∷ 7 ∷ 11 ∷ 18 ∷ 9 ∷ 8 ∷ 16 ∷ 15 ∷ 10 ∷ []
 
 own-allowed : (l : ℕ) (k : Kind) (h : ℕ) (s : List ℕ) → Allowed stepNumbers (C.ownRules l k h s)
 own-allowed l (Fixed c) h s = inl tt & inl tt & inl tt & inl tt & inl tt & inl tt & inl tt & end
 own-allowed l (Variable t v c) h s = inl tt & inl tt & inl tt & inl tt & inl tt & inl tt & inl tt & end
-own-allowed l (Group g) h s = inl tt & inl tt & inl tt & inl tt & end
+own-allowed l (Group g) h s = inl tt & inl tt & end
+own-allowed l (Indexed c) h s = inl tt & inl tt & inl tt & inl tt & end
 own-allowed l Genus h s = end
 
 -- 255 is none of them
@@ -214,8 +217,8 @@ module _ (d : Domain) (R : Reader d) (xs : List ℕ) (w : Walk) where
   step-refuses m p e =
       refusal stepNumbers (stepRules d xs w) m (λ z. z)
       (inl tt & inl tt & inl tt & inl tt & inl tt & inl tt & inl tt & inl tt & inl tt & inl tt & inl tt
-      & own-allowed (maxDepth - w .depth) (C.itemKind (aheadOf d xs w)) (C.itemHead (aheadOf d xs w))
-      (ownOf d xs w (C.itemSize (aheadOf d xs w))))
+      & own-allowed (maxDepth - w .depth) (C.itemKind (w .indexed) (aheadOf d xs w)) (C.itemHead (w .indexed) (aheadOf d xs w))
+      (ownOf d xs w (C.itemSize (w .indexed) (aheadOf d xs w))))
       (step-first m p e)
 
   pub step-low : (m p : ℕ) → stepIn d xs w .found ≡ F.Refused m p → m < 255

@@ -6,15 +6,12 @@ use mathlib.Core.Bool.{Bool, true, false}
 use native.Mathlib.Omega.{arith}
 use native.Mathlib.Nat.{add-mul, mul-div-cancel}
 use lib.ListN.{length, take, drop, length-drop}
-use Rattle.base.specs.Cases.{whether}
-use mathlib.Core.Logic.{⊎-elim}
 use Rattle.format.specs.declared.Kind.{Kind}
-use Rattle.format.specs.declared.Kind.the-variants.{Fixed, Variable, Group, Genus}
+use Rattle.format.specs.declared.Kind.the-variants.{Fixed, Variable, Group, Genus, Indexed}
 use Rattle.format.specs.declared.Framed.the-variants.{Item, Unframed}
 use Rattle.format.specs.declared.Verdict.{Verdict}
 use Rattle.format.specs.declared.Verdict.the-variants.{Accepted, Refused}
 use Rattle.format.specs.Units.{Domain}
-use Rattle.format.specs.Registry.{isOpaque}
 use Rattle.format.specs.Framing.{frameRuled}
 use Rattle.format.specs.Judging.{shift, andThen, unless, isShortest, judgeKind, ownCheck, group, maxDepth}
 use Rattle.format.specs.Report.{rows, rowsIn, frameIn, placed}
@@ -30,11 +27,11 @@ use Rattle.walk_state.specs.Walking.{start, foundIn, stepIn}
 use Rattle.walk_claims.specs.Words.{unitsIn, tailOf, after, foundAt, Stops, Span, outer}
 use Rattle.walk_claims.specs.Words.{outerItems, opens, isOpened, upTo, upToRefusal}
 use Rattle.laws.specs.Framing.{unscale}
-use Rattle.laws.specs.Levels.{part, part-length, any-item, item-sizes}
-use Rattle.walk_claims.specs.Rest.{opaque-same, group-refused, orElse, Telling, rest, left, Tells}
+use Rattle.laws.specs.Levels.{part, part-length, item-sizes}
+use Rattle.walk_claims.specs.Rest.{group-refused, orElse, Telling, rest, left, Tells}
 use Rattle.walk_claims.specs.Steps.{inElements}
 use Rattle.walk_claims.specs.Runs.{long, tells-after}
-use Rattle.walk_claims.specs.Streams.{from, from-on, judged-from, framed-item, framed-refused}
+use Rattle.walk_claims.specs.Streams.{ruled-any, from, from-on, judged-from, framed-item, framed-refused}
 use Rattle.walk_claims.specs.Streams.{framed-end, some-left, tail-left, none-left}
 
 -- ---- which are yielded
@@ -56,23 +53,20 @@ unfolding upTo shift placed orElse
 judged-after o o′ u Accepted r rs = refl
 judged-after o o′ u (Refused m p) r rs = refl
 
--- the own check of a group that is opened: 18, or nothing
-check-by : (l letter h : ℕ) (ys : List ℕ) → 0 < l → isOpaque letter ≡ false → (b : Bool) → isShortest h (length ys / 4) ≡ b
-    → ownCheck l letter h ys ≡ unless 18 b
-unfolding ownCheck unless andThen
-check-by zero letter h ys lt o b e = absurd (omega arith)
-check-by (suc l) letter h ys lt o true e = rw (e, o)
-check-by (suc l) letter h ys lt o false e = rw e
+-- a group's own check: 18, or nothing
+check-by : (l letter h : ℕ) (ys : List ℕ) → 0 < l → (b : Bool) → isShortest h (length ys / 4) ≡ b → ownCheck l letter h ys ≡ unless 18 b
+unfolding ownCheck
+check-by zero letter h ys lt b e = absurd (omega arith)
+check-by (suc l) letter h ys lt b e = rw e
 
-group-yielded : (o o′ u letter h : ℕ) (ys : List ℕ) (r : Span) (rs : List Span) → isOpaque letter ≡ false → (b : Bool)
-    → isShortest h (length ys / 4) ≡ b
+group-yielded : (o o′ u letter h : ℕ) (ys : List ℕ) (r : Span) (rs : List Span) (b : Bool) → isShortest h (length ys / 4) ≡ b
     → upTo (shift o (placed u (group maxDepth letter h ys))) b r rs
     ≡ orElse none (shift o′ (ownCheck maxDepth letter h ys)) (r ∷ orElse none (shift o′ (group maxDepth letter h ys)) rs)
 unfolding unless orElse shift
-group-yielded o o′ u letter h ys r rs q true e =
-    rw (check-by maxDepth letter h ys (omega arith) q true e) (judged-after o o′ u (group maxDepth letter h ys) r rs)
-group-yielded o o′ u letter h ys r rs q false e =
-    let c : ownCheck maxDepth letter h ys ≡ Refused 18 0 = check-by maxDepth letter h ys (omega arith) q false e in
+group-yielded o o′ u letter h ys r rs true e =
+    rw (check-by maxDepth letter h ys (omega arith) true e) (judged-after o o′ u (group maxDepth letter h ys) r rs)
+group-yielded o o′ u letter h ys r rs false e =
+    let c : ownCheck maxDepth letter h ys ≡ Refused 18 0 = check-by maxDepth letter h ys (omega arith) false e in
     rw (group-refused maxDepth letter h ys 18 0 c, c) (judged-first o o′ u (Refused 18 0) r rs)
 
 -- s: the item's own sextets, of m units
@@ -83,13 +77,11 @@ unfolding judgeKind isOpened opens
 yielded o o′ u (Fixed c) h m s long r rs = judged-first o o′ u _ r rs
 yielded o o′ u (Variable t l c) h m s long r rs = judged-first o o′ u _ r rs
 yielded o o′ u Genus h m s long r rs = judged-first o o′ u _ r rs
+yielded o o′ u (Indexed c) h m s long r rs = judged-first o o′ u _ r rs
 yielded o o′ u (Group letter) h m s long r rs =
     let ys : List ℕ = drop (4 * h) s in
     let n : length ys / 4 ≡ m - h = omega (arith, length-drop (4 * h) s) in
-    ⊎-elim
-    (λ (e : isOpaque letter ≡ true). rw (e, opaque-same maxDepth letter h ys e) (judged-first o o′ u (ownCheck maxDepth letter h ys) r rs))
-    (λ (e : isOpaque letter ≡ false). rw (e, ← n) (group-yielded o o′ u letter h ys r rs e (isShortest h (length ys / 4)) refl))
-    (whether (isOpaque letter))
+    rw (← n) (group-yielded o o′ u letter h ys r rs (isShortest h (length ys / 4)) refl)
 
 -- ---- what is left to yield
 
@@ -123,7 +115,7 @@ module _ (d : Domain) (R : Reader d) (xs : List ℕ) where
       → length (part s at (at + m)) ≡ 4 * m
   own-length at k h m lt e =
       let all : length (part s at (unitsIn d xs)) ≡ 4 * unitsIn d xs - 4 * at = part-length s at (unitsIn d xs) (long d R xs) in
-      let b = item-sizes (part s at (unitsIn d xs)) k h m (any-item true (part s at (unitsIn d xs)) k h m e) in
+      let b = item-sizes false (part s at (unitsIn d xs)) k h m (ruled-any (part s at (unitsIn d xs)) k h m e) in
       part-length s at (at + m) (omega (arith, b .2, long d R xs)) ∙ omega arith
 
   own-frame : (ys : List ℕ) (k : Kind) (h m : ℕ) → frameIn d ys ≡ Item k (h * d .unit) (m * d .unit) → frameRuled (d .sextets ys) ≡ Item k h m

@@ -21,6 +21,7 @@ use Rattle.walk_claims.specs.Words.{unitsIn, after, foundOf, Last}
 use Rattle.walk_claims.specs.Fitting.{fit-facts, fit-made}
 use Rattle.walk_claims.specs.Runs.{stays, moves, after-fit, keeps-fit, after-stop, ends}
 use Rattle.walk_claims.specs.Behind.{behind}
+use Rattle.walk_claims.specs.Innermost.{innermost}
 use Rattle.walk_claims.specs.Firsts.{stops-first, own-first}
 use Rattle.walk_claims.specs.Outer.{all-outer}
 use Rattle.walk_claims.specs.Reported.{last-answer, all-accepted, front}
@@ -41,8 +42,8 @@ module _ (d : Domain) (R : Reader d) (xs : List ℕ) (short : length xs ≤ d .l
       stops-first d R xs short (unitsIn d xs) (ends d xs (unitsIn d xs) (omega arith)) ∙ ap foundOf (own-first d R xs k h e ∙ j)
 
   other : (m p : ℕ) → stepIn d xs last .found ≡ F.Refused m p
-      → Among (1 ∷ 13 ∷ 4 ∷ 5 ∷ 19 ∷ 6 ∷ 7 ∷ 11 ∷ 18 ∷ 9 ∷ 8 ∷ 16 ∷ 10 ∷ []) m
-      → Among (4 ∷ 5 ∷ 19 ∷ 6 ∷ 7 ∷ 11 ∷ 18 ∷ 9 ∷ 8 ∷ 16 ∷ 10 ∷ []) m
+      → Among (1 ∷ 13 ∷ 4 ∷ 5 ∷ 19 ∷ 6 ∷ 7 ∷ 11 ∷ 18 ∷ 9 ∷ 8 ∷ 16 ∷ 15 ∷ 10 ∷ []) m
+      → Among (4 ∷ 5 ∷ 19 ∷ 6 ∷ 7 ∷ 11 ∷ 18 ∷ 9 ∷ 8 ∷ 16 ∷ 15 ∷ 10 ∷ []) m
   other m p e (inl one) = absurd (omega (arith, only-long d xs last p (rw one at e)))
   other m p e (inr (inl thirteen)) =
       let fit = after-fit d R xs (unitsIn d xs) in
@@ -52,7 +53,7 @@ module _ (d : Domain) (R : Reader d) (xs : List ℕ) (short : length xs ≤ d .l
   other m p e (inr (inr a)) = a
 
   verdicts : (k : Kind) (h m p : ℕ) → frameIn d xs ≡ Item k h (length xs) → judgeIn d xs ≡ Refused m p
-      → Among (4 ∷ 5 ∷ 19 ∷ 6 ∷ 7 ∷ 11 ∷ 18 ∷ 9 ∷ 8 ∷ 16 ∷ 10 ∷ []) m
+      → Among (4 ∷ 5 ∷ 19 ∷ 6 ∷ 7 ∷ 11 ∷ 18 ∷ 9 ∷ 8 ∷ 16 ∷ 15 ∷ 10 ∷ []) m
   verdicts k h m p e j = let f = verdict-at k h m p e j in other m p f (step-refuses d R xs last m p f .listed)
 
 of-stream : (d : Domain) → Reader d → (xs : List ℕ) → StreamClaims d xs
@@ -68,6 +69,7 @@ of-stream d R xs = record {
   keeps-fit = keeps-fit d R xs;
   stays = stays d xs;
   yields = λ w. behind d R w xs;
+  innermost = innermost d xs;
   never-back = λ w. moves d xs w .never-back;
   moves-on = λ w. moves d xs w .on;
   ends = ends d xs;

@@ -1,7 +1,7 @@
 -- What a state has left to tell: a value of the items behind it, kept by each step. One law for every such value, whether it is
 -- the first refusal or a list of items. Assumes nothing.
 use Prim.Native.Nat.{ℕ, zero, suc, _+_, _-_, _*_, _≤_, _<_}
-use mathlib.Core.Path.{_≡_, refl, sym, ap, _∙_}
+use mathlib.Core.Path.{_≡_, refl, sym, ap, _∙_, subst}
 use mathlib.Core.List.{List}
 use mathlib.Core.Bool.{Bool, true, false}
 use mathlib.Core.Logic.{⊎-elim}
@@ -13,22 +13,23 @@ use borrow.Author.Tests.{eqb-true, le-ltb, lt-ltb, ne-eqb}
 use Rattle.base.specs.Pick.{pick}
 use Rattle.base.specs.Cases.{lt-or-ge, whether}
 use Rattle.format.specs.declared.Kind.{Kind}
-use Rattle.format.specs.declared.Kind.the-variants.{Fixed, Variable, Group, Genus}
+use Rattle.format.specs.declared.Kind.the-variants.{Fixed, Variable, Group, Genus, Indexed}
 use Rattle.format.specs.declared.Framed.{Framed}
 use Rattle.format.specs.declared.Framed.the-variants.{Item, Unframed}
 use Rattle.format.specs.declared.Verdict.{Verdict}
 use Rattle.format.specs.declared.Verdict.the-variants.{Accepted, Refused}
-use Rattle.format.specs.Registry.{isOpaque, isOverrideable}
-use Rattle.format.specs.Framing.{frameRuled}
-use Rattle.format.specs.Judging.{shift, andThen, inTurn, contents, judgeKind, ownCheck, group, judge, maxDepth}
+use Rattle.format.specs.Registry.{isIndexed, isOverrideable}
+use Rattle.format.specs.Framing.{frameRuled, frameNext}
+use Rattle.format.specs.Judging.{shift, andThen, inTurn, contents, judgeKind, ownCheck, group, judgeWith, maxDepth}
 use Rattle.walk_state.specs.declared.Walk.{Walk}
 use Rattle.walk_state.specs.declared.Found.{Found}
 use Rattle.walk_state.specs.declared.Found.the-variants as F
 use Rattle.walk_state.specs.declared.Stepped.{Stepped}
-use Rattle.walk_state.specs.Walking.{closed, movedTo, past, nextOf, stepFit}
-use Rattle.laws.specs.Levels.{shift-shift, part, part-drop, frameNext, level, level-end, level-refused, level-item}
+use Rattle.walk_state.specs.Walking.{closed, movedTo, past, nextOf, stopOf, stepFit}
+use Rattle.laws.specs.Indexed.{FramesIndexed, indexed-only}
+use Rattle.laws.specs.Levels.{shift-shift, part, part-drop, level, level-end, level-refused, level-item}
 use Rattle.walk_claims.specs.Fitting.{stopAt, stop-outer, stop-in, Fits}
-use Rattle.walk_claims.specs.Steps.{asked, framedHere, judgedHere, step-by, intoNext, overNext, opens-next, opaque-next}
+use Rattle.walk_claims.specs.Steps.{asked, framedHere, judgedHere, step-by, intoNext, overNext, opens-next}
 use Rattle.walk_claims.specs.Keeps.{few-open, stop-level, item-room}
 
 -- ---- a group's verdict, its own check and whole
@@ -38,16 +39,12 @@ unfolding andThen
 then-accepted Accepted = refl
 then-accepted (Refused n p) = refl
 
-pub opaque-same : (l letter h : ℕ) (ys : List ℕ) → isOpaque letter ≡ true → group l letter h ys ≡ ownCheck l letter h ys
-unfolding group
-opaque-same zero letter h ys o = refl
-opaque-same (suc l) letter h ys o = rw o (then-accepted (ownCheck (suc l) letter h ys))
-
--- a group that is opened, from its contents on
-group-opens : (l letter h : ℕ) (ys : List ℕ) → isOpaque letter ≡ false → ownCheck (suc l) letter h ys ≡ Accepted
-    → group (suc l) letter h ys ≡ shift (4 * h) (inTurn (judge l) (contents (isOverrideable letter) ys))
-unfolding group judge andThen
-group-opens l letter h ys o e = rw (e, o)
+-- a group, from its contents on
+group-opens : (l letter h : ℕ) (ys : List ℕ) → ownCheck (suc l) letter h ys ≡ Accepted
+    → group (suc l) letter h ys
+    ≡ shift (4 * h) (inTurn (judgeWith (isIndexed letter) l) (contents (isIndexed letter) (isOverrideable letter) ys))
+unfolding group judgeWith andThen
+group-opens l letter h ys e = rw e
 
 pub group-refused : (l letter h : ℕ) (ys : List ℕ) (q p : ℕ) → ownCheck l letter h ys ≡ Refused q p → group l letter h ys ≡ Refused q p
 unfolding group andThen
@@ -61,6 +58,7 @@ unfolding judgeKind
 whole-refused (Fixed c) h l s q p e = e
 whole-refused (Variable t v c) h l s q p e = e
 whole-refused Genus h l s q p e = e
+whole-refused (Indexed c) h l s q p e = e
 whole-refused (Group letter) h l s q p e = group-refused l letter h _ q p e
 
 -- ---- a verdict, and what stands behind it
@@ -97,14 +95,14 @@ pub record Telling (s : List ℕ) (n : ℕ) (tail : Bool) (X : Type 0) : Type 0 
       (emit at m (orElse stop (shift (4 * at) (judgeKind k h (part s at (at + m)) (group maxDepth))) (base (at + m))))
 
 module _ (s : List ℕ) (n : ℕ) (tail : Bool) (X : Type 0) (T : Telling s n tail X) where
-  -- within d groups: the items to the innermost end, then what is behind it
-  unfoldable pub rest : ℕ → List ℕ → Bool → ℕ → X
-  rest zero ends first at = T .base at
-  rest (suc d) ends first at =
-      orElse (T .stop) (level s (maxDepth - suc d) first at (getD ends d 0)) (rest d ends false (getD ends d 0))
+  -- within d groups: the items to the innermost end, by the table that is asked, then what is behind it
+  unfoldable pub rest : ℕ → List ℕ → Bool → Bool → ℕ → X
+  rest zero ends t first at = T .base at
+  rest (suc d) ends t first at =
+      orElse (T .stop) (level s t (maxDepth - suc d) first at (getD ends d 0)) (rest d ends false false (getD ends d 0))
 
   abbrev pub left : Walk → X
-  left w = rest (w .depth) (w .ends) (w .first) (w .at)
+  left w = rest (w .depth) (w .ends) (w .indexed) (w .first) (w .at)
 
   abbrev pub emitted : ℕ → ℕ → ℕ → X → X
   emitted zero at m x = T .emit at m x
@@ -122,58 +120,64 @@ module _ (s : List ℕ) (n : ℕ) (tail : Bool) (X : Type 0) (T : Telling s n ta
   -- ---- closing
 
   -- only the slots of open groups count
-  rest-below : (d i v : ℕ) (ends : List ℕ) (first : Bool) (at : ℕ) → d ≤ i → rest d (set ends i v) first at ≡ rest d ends first at
+  rest-below : (d i v : ℕ) (ends : List ℕ) (t first : Bool) (at : ℕ) → d ≤ i → rest d (set ends i v) t first at ≡ rest d ends t first at
   unfolding rest
-  rest-below zero i v ends first at h = refl
-  rest-below (suc d) i v ends first at h =
-      rw (getD-set-other ends i d v 0 (λ e. omega arith), rest-below d i v ends false (getD ends d 0) (omega arith))
+  rest-below zero i v ends t first at h = refl
+  rest-below (suc d) i v ends t first at h =
+      rw (getD-set-other ends i d v 0 (λ e. omega arith), rest-below d i v ends false false (getD ends d 0) (omega arith))
 
   -- a group's end is reached
-  rest-close : (d : ℕ) (ends : List ℕ) (first : Bool) (at : ℕ) → getD ends d 0 ≡ at → rest (suc d) ends first at ≡ rest d ends false at
+  rest-close : (d : ℕ) (ends : List ℕ) (t first : Bool) (at : ℕ) → getD ends d 0 ≡ at
+      → rest (suc d) ends t first at ≡ rest d ends false false at
   unfolding rest orElse
-  rest-close d ends first at e = rw (e, level-end s (maxDepth - suc d) first at)
+  rest-close d ends t first at e = rw (e, level-end s t (maxDepth - suc d) first at)
 
-  closed-rest : (d : ℕ) (ends : List ℕ) (at : ℕ)
-      → left (closed d (record { ends = ends; depth = d; at = at; first = false })) ≡ rest d ends false at
+  closed-rest : (d : ℕ) (ends : List ℕ) (t : Bool) (at : ℕ)
+      → left (closed d (record { ends = ends; depth = d; at = at; first = false; indexed = t })) ≡ rest d ends t false at
   unfolding closed
-  closed-rest zero ends at = refl
-  closed-rest (suc d) ends at = go (closed-rest d (set ends d 0) at) (eqb (getD ends d 0) at) refl
+  closed-rest zero ends t at = refl
+  closed-rest (suc d) ends t at = go (closed-rest d (set ends d 0) false at) (eqb (getD ends d 0) at) refl
     where
       outside : Walk
-      outside = closed d (record { ends = set ends d 0; depth = d; at = at; first = false })
+      outside = closed d (record { ends = set ends d 0; depth = d; at = at; first = false; indexed = false })
 
-      go : left outside ≡ rest d (set ends d 0) false at → (b : Bool) → eqb (getD ends d 0) at ≡ b
-          → left (pick b outside (record { ends = ends; depth = suc d; at = at; first = false })) ≡ rest (suc d) ends false at
+      go : left outside ≡ rest d (set ends d 0) false false at → (b : Bool) → eqb (getD ends d 0) at ≡ b
+          → left (pick b outside (record { ends = ends; depth = suc d; at = at; first = false; indexed = t })) ≡ rest (suc d) ends t false at
       go ih true e =
-          ih ∙ rest-below d d 0 ends false at (omega arith) ∙ sym (rest-close d ends false at (eqb-true (getD ends d 0) at e))
+          ih ∙ rest-below d d 0 ends false false at (omega arith) ∙ sym (rest-close d ends t false at (eqb-true (getD ends d 0) at e))
       go ih false e = refl
 
   -- ---- an item
 
-  module _ (ends : List ℕ) (first : Bool) (at : ℕ) (long : 4 * n ≤ length s) where
+  module _ (ends : List ℕ) (t first : Bool) (at : ℕ) (long : 4 * n ≤ length s) where
+    -- at top level
+    top-frame : (xs : List ℕ) → t ≡ false → frameRuled xs ≡ frameNext t true xs
+    unfolding frameRuled frameNext
+    top-frame xs e = rw e
+
     -- refused in framing, within d groups
-    rest-refused : (d m p : ℕ) → at < stopAt n d ends → stopAt n d ends ≤ n
-        → frameNext (pick (eqb d 0) true first) (part s at (stopAt n d ends)) ≡ Unframed m p
-        → rest d ends first at ≡ T .stop m (4 * at + p)
+    rest-refused : (d m p : ℕ) → (d ≡ 0 → t ≡ false) → at < stopAt n d ends → stopAt n d ends ≤ n
+        → frameNext t (pick (eqb d 0) true first) (part s at (stopAt n d ends)) ≡ Unframed m p
+        → rest d ends t first at ≡ T .stop m (4 * at + p)
     unfolding rest stopAt orElse
-    rest-refused zero m p lt le e = T .at-refused at m p lt e
-    rest-refused (suc d) m p lt le e =
-        rw (level-refused s (maxDepth - suc d) first at (getD ends d 0) m p (omega arith) lt
+    rest-refused zero m p top lt le e = T .at-refused at m p lt (top-frame (part s at n) (top refl) ∙ e)
+    rest-refused (suc d) m p top lt le e =
+        rw (level-refused s t (maxDepth - suc d) first at (getD ends d 0) m p (omega arith) lt
         (rw (ne-eqb (suc d) 0 (λ q. omega arith)) at e))
 
     -- framed: its own check, then all of it, then what is behind
-    rest-item : (d : ℕ) (k : Kind) (h m : ℕ) → at < stopAt n d ends → stopAt n d ends ≤ n
-        → frameNext (pick (eqb d 0) true first) (part s at (stopAt n d ends)) ≡ Item k h m
-        → rest d ends first at
+    rest-item : (d : ℕ) (k : Kind) (h m : ℕ) → (d ≡ 0 → t ≡ false) → at < stopAt n d ends → stopAt n d ends ≤ n
+        → frameNext t (pick (eqb d 0) true first) (part s at (stopAt n d ends)) ≡ Item k h m
+        → rest d ends t first at
         ≡ orElse (T .stop) (shift (4 * at) (judgeKind k h (part s at (at + m)) (ownCheck (maxDepth - d))))
         (emitted d at m
-        (orElse (T .stop) (shift (4 * at) (judgeKind k h (part s at (at + m)) (group (maxDepth - d)))) (rest d ends false (at + m))))
+        (orElse (T .stop) (shift (4 * at) (judgeKind k h (part s at (at + m)) (group (maxDepth - d)))) (rest d ends t false (at + m))))
     unfolding rest stopAt
-    rest-item zero k h m lt le e = T .at-item at k h m lt e
-    rest-item (suc d) k h m lt le e =
+    rest-item zero k h m top lt le e = T .at-item at k h m lt (top-frame (part s at n) (top refl) ∙ e)
+    rest-item (suc d) k h m top lt le e =
         let own : List ℕ = part s at (at + m) in
-        let f : frameNext first (part s at (getD ends d 0)) ≡ Item k h m = rw (ne-eqb (suc d) 0 (λ q. omega arith)) at e in
-        rw (level-item s (maxDepth - suc d) first at (getD ends d 0) k h m (omega arith) (omega arith) f, or-then)
+        let f : frameNext t first (part s at (getD ends d 0)) ≡ Item k h m = rw (ne-eqb (suc d) 0 (λ q. omega arith)) at e in
+        rw (level-item s t (maxDepth - suc d) first at (getD ends d 0) k h m (omega arith) (omega arith) f, or-then)
         (sym (or-again (T .stop) (4 * at) (judgeKind k h own (ownCheck (maxDepth - suc d))) (judgeKind k h own (group (maxDepth - suc d))) _
         (whole-refused k h (maxDepth - suc d) own)))
 
@@ -181,12 +185,12 @@ module _ (s : List ℕ) (n : ℕ) (tail : Bool) (X : Type 0) (T : Telling s n ta
 
   -- all of the item, then what is behind it
   abbrev onward : Walk → ℕ → Verdict → X
-  onward w m v = orElse (T .stop) (shift (4 * w .at) v) (rest (w .depth) (w .ends) false (w .at + m))
+  onward w m v = orElse (T .stop) (shift (4 * w .at) v) (rest (w .depth) (w .ends) (w .indexed) false (w .at + m))
 
   module _ (w : Walk) (f : Fits w n) (h m : ℕ) (some : h ≤ m) where
     over-rest : (v : Verdict) → v ≡ Accepted → onward w m v ≡ left (overNext w m)
     unfolding orElse shift movedTo
-    over-rest v e = rw e (sym (closed-rest (w .depth) (w .ends) (w .at + m)))
+    over-rest v e = rw e (sym (closed-rest (w .depth) (w .ends) (w .indexed) (w .at + m)))
 
     -- the group at this state: its contents, and the ends with its own
     abbrev inner : List ℕ
@@ -199,51 +203,60 @@ module _ (s : List ℕ) (n : ℕ) (tail : Bool) (X : Type 0) (T : Telling s n ta
       own-end : getD withEnd (w .depth) 0 ≡ w .at + m
       own-end = getD-set-same (w .ends) (w .depth) (w .at + m) 0 (omega (arith, f .nest .full))
 
-      -- its items one by one, then what is behind it
-      abbrev inside : Bool → X
-      inside c = onward w m (shift (4 * h) (inTurn (judge (maxDepth - suc (w .depth))) (contents c inner)))
+      -- its items one by one, by the table that is asked, then what is behind it
+      abbrev inside : Bool → Bool → X
+      inside t c = onward w m (shift (4 * h) (inTurn (judgeWith t (maxDepth - suc (w .depth))) (contents t c inner)))
 
-      -- from its first item on, marked b
-      in-level : (b c : Bool) → contents b inner ≡ contents c inner → rest (suc (w .depth)) withEnd b (w .at + h) ≡ inside c
-      unfolding rest level
-      in-level b c e =
-          let o : 4 * w .at + 4 * h ≡ 4 * (w .at + h) = omega arith in
-          rw (own-end, rest-below (w .depth) (w .depth) (w .at + m) (w .ends) false (w .at + m) (omega arith), e, shift-shift, o)
+      module _ (plain : w .indexed ≡ false) where
+        -- from its first item on, marked b
+        in-level : (t b c : Bool) → contents t b inner ≡ contents t c inner → rest (suc (w .depth)) withEnd t b (w .at + h) ≡ inside t c
+        unfolding rest level
+        in-level t b c e =
+            let o : 4 * w .at + 4 * h ≡ 4 * (w .at + h) = omega arith in
+            rw (
+              own-end,
+              rest-below (w .depth) (w .depth) (w .at + m) (w .ends) false false (w .at + m) (omega arith),
+              e,
+              plain,
+              shift-shift,
+              o,
+            )
 
-      nonempty-rest : (c : Bool) → h < m → inside c ≡ left (intoNext w h m c)
-      unfolding closed
-      nonempty-rest c lt = rw (lt-ltb h m lt, own-end, ne-eqb (w .at + m) (w .at + h) (λ e. omega arith)) (sym (in-level c c refl))
+        nonempty-rest : (t c : Bool) → h < m → inside t c ≡ left (intoNext w h m c t)
+        unfolding closed
+        nonempty-rest t c lt =
+            rw (lt-ltb h m lt, own-end, ne-eqb (w .at + m) (w .at + h) (λ e. omega arith)) (sym (in-level t c c refl))
 
-      -- an empty group closes at once, and no mark is set
-      empty-rest : (c : Bool) → m ≤ h → inside c ≡ left (intoNext w h m c)
-      unfolding contents
-      empty-rest c ge =
-          let e : contents false inner ≡ contents c inner = let z : h ≡ m = omega arith in rw (z, slice-empty (4 * (w .at + m)) s) in
-          rw (le-ltb h m ge) (sym (closed-rest (suc (w .depth)) withEnd (w .at + h) ∙ in-level false c e))
+        -- an empty group closes at once, and no mark is set
+        empty-rest : (t c : Bool) → m ≤ h → inside t c ≡ left (intoNext w h m c t)
+        unfolding contents
+        empty-rest t c ge =
+            let e : contents t false inner ≡ contents t c inner = let z : h ≡ m = omega arith in rw (z, slice-empty (4 * (w .at + m)) s) in
+            rw (le-ltb h m ge) (sym (closed-rest (suc (w .depth)) withEnd t (w .at + h) ∙ in-level t false c e))
 
-      into-rest : (c : Bool) → inside c ≡ left (intoNext w h m c)
-      into-rest c = ⊎-elim (nonempty-rest c) (empty-rest c) (lt-or-ge h m)
+        into-rest : (t c : Bool) → inside t c ≡ left (intoNext w h m c t)
+        into-rest t c = ⊎-elim (nonempty-rest t c) (empty-rest t c) (lt-or-ge h m)
 
     -- a group's own check passed
-    group-rest : (letter : ℕ) (l : ℕ) → maxDepth - w .depth ≡ l → ownCheck l letter h inner ≡ Accepted
+    group-rest : (letter : ℕ) (l : ℕ) → w .indexed ≡ false → maxDepth - w .depth ≡ l → ownCheck l letter h inner ≡ Accepted
         → onward w m (group l letter h inner) ≡ left (nextOf w (Group letter) h m)
-    group-rest letter zero z e = absurd (omega (arith, few-open 0 letter h inner e))
-    group-rest letter (suc l) z e =
-        ⊎-elim (λ o. rw (opaque-next w h m letter o) (over-rest _ (opaque-same (suc l) letter h inner o ∙ e)))
-        (λ o. let q : l ≡ maxDepth - suc (w .depth) = omega arith in
+    group-rest letter zero plain z e = absurd (omega (arith, few-open 0 letter h inner e))
+    group-rest letter (suc l) plain z e =
+        let q : l ≡ maxDepth - suc (w .depth) = omega arith in
         let few : w .depth < maxDepth = omega arith in
-        rw (opens-next w h m letter o, group-opens l letter h inner o e, q) (into-rest few (isOverrideable letter)))
-        (whether (isOpaque letter))
+        rw (opens-next w h m letter, group-opens l letter h inner e, q) (into-rest few plain (isIndexed letter) (isOverrideable letter))
 
-    next-rest : (k : Kind) → judgedHere s n tail w k h m ≡ Accepted
+    next-rest : (k : Kind) → (w .indexed ≡ true → FramesIndexed (Item k h m)) → judgedHere s n tail w k h m ≡ Accepted
         → onward w m (judgeKind k h (part s (w .at) (w .at + m)) (group (maxDepth - w .depth))) ≡ left (nextOf w k h m)
     unfolding judgeKind nextOf past movedTo
-    next-rest (Fixed c) e = over-rest _ e
-    next-rest (Variable t l c) e = over-rest _ e
-    next-rest Genus e = over-rest _ e
-    next-rest (Group letter) e =
+    next-rest (Fixed c) only e = over-rest _ e
+    next-rest (Variable t l c) only e = over-rest _ e
+    next-rest Genus only e = over-rest _ e
+    next-rest (Indexed c) only e = over-rest _ e
+    next-rest (Group letter) only e =
         let z : drop (4 * h) (part s (w .at) (w .at + m)) ≡ inner = part-drop s (w .at) h (w .at + m) in
-        rw z (group-rest letter (maxDepth - w .depth) refl (rw z at e))
+        let plain : w .indexed ≡ false = ⊎-elim (λ t. absurd (only t)) (λ t. t) (whether (w .indexed)) in
+        rw z (group-rest letter (maxDepth - w .depth) plain refl (rw z at e))
 
   -- ---- a step
 
@@ -267,16 +280,25 @@ module _ (s : List ℕ) (n : ℕ) (tail : Bool) (X : Type 0) (T : Telling s n ta
 
     -- by depth
     framed-by : (r : Framed) → framedHere s n tail w ≡ r
-        → frameNext (pick (eqb (w .depth) 0) true (w .first)) (part s (w .at) (stopAt n (w .depth) (w .ends))) ≡ r
+        → frameNext (w .indexed) (pick (eqb (w .depth) 0) true (w .first)) (part s (w .at) (stopAt n (w .depth) (w .ends))) ≡ r
     unfolding asked
     framed-by r e = rw (stop-level w n) at e
+
+    -- with none open it is none
+    outermost : w .depth ≡ 0 → w .indexed ≡ false
+    outermost z = ⊎-elim (λ t. absurd (omega (arith, f .nest .tabled t))) (λ t. t) (whether (w .indexed))
+
+    only : (k : Kind) (h m : ℕ) → framedHere s n tail w ≡ Item k h m → w .indexed ≡ true → FramesIndexed (Item k h m)
+    only k h m e t =
+        subst FramesIndexed (ap (λ (b : Bool). frameNext b (asked w) (part s (w .at) (stopOf w n))) (sym t) ∙ e)
+        (indexed-only (asked w) (part s (w .at) (stopOf w n)))
 
     item-left : (k : Kind) (h m : ℕ) → (w .at ≡ n → ⊥) → framedHere s n tail w ≡ Item k h m
         → left w
         ≡ orElse (T .stop) (shift (4 * w .at) (judgedHere s n tail w k h m))
         (emitted (w .depth) (w .at) m (onward w m (judgeKind k h (part s (w .at) (w .at + m)) (group (maxDepth - w .depth)))))
     item-left k h m ne e =
-        rest-item (w .ends) (w .first) (w .at) long (w .depth) k h m (before-stop ne) (stop-in w n (f .nest)) (framed-by (Item k h m) e)
+        rest-item (w .ends) (w .indexed) (w .first) (w .at) long (w .depth) k h m outermost (before-stop ne) (stop-in w n (f .nest)) (framed-by (Item k h m) e)
 
     refused-tells : (k : Kind) (h m q p : ℕ) → (w .at ≡ n → ⊥) → framedHere s n tail w ≡ Item k h m
         → judgedHere s n tail w k h m ≡ Refused q p → left w ≡ T .stop q (4 * w .at + p)
@@ -288,11 +310,11 @@ module _ (s : List ℕ) (n : ℕ) (tail : Bool) (X : Type 0) (T : Telling s n ta
     unfolding orElse shift
     item-tells k h m ne e v =
         item-left k h m ne e
-        ∙ rw (v, next-rest w f h m (item-room s n tail w long f k h m e .1) k v)
+        ∙ rw (v, next-rest w f h m (item-room s n tail w long f k h m e .1) k (only k h m e) v)
 
     pub step-tells : Tells w (stepFit s n tail w)
     step-tells =
         step-by s n tail w (Tells w) (λ q t. at-stop q ∙ T .at-cut t) (λ q t. at-stop q ∙ T .at-end t)
         (λ m p ne e.
-        rest-refused (w .ends) (w .first) (w .at) long (w .depth) m p (before-stop ne) (stop-in w n (f .nest)) (framed-by (Unframed m p) e))
+        rest-refused (w .ends) (w .indexed) (w .first) (w .at) long (w .depth) m p outermost (before-stop ne) (stop-in w n (f .nest)) (framed-by (Unframed m p) e))
         refused-tells item-tells

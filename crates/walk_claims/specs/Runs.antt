@@ -3,7 +3,7 @@
 use Prim.Native.Nat.{ℕ, zero, suc, _+_, _*_, _≤_, _<_}
 use mathlib.Core.Path.{_≡_, refl, sym, ap, _∙_, subst}
 use mathlib.Core.List.{List}
-use mathlib.Core.Bool.{true}
+use mathlib.Core.Bool.{true, false}
 use mathlib.Core.Logic.{_⊎_, inl, inr, ⊎-elim}
 use native.Mathlib.Omega.{arith}
 use lib.ListN.{length, getD}
@@ -41,7 +41,7 @@ stays d xs w =
 
 -- what does not hang on the open groups
 pub closed-keeps {ℓ} : {X : Type ℓ} (g : Walk → X)
-    → ((w : Walk) (ends : List ℕ) (k : ℕ) → g (record { ends = ends; depth = k; at = w .at; first = w .first }) ≡ g w)
+    → ((w : Walk) (ends : List ℕ) (k : ℕ) → g (record { ends = ends; depth = k; at = w .at; first = w .first; indexed = false }) ≡ g w)
     → (k : ℕ) (w : Walk) → g (closed k w) ≡ g w
 unfolding closed
 closed-keeps g same zero w = refl
@@ -55,7 +55,7 @@ closed-at = closed-keeps (λ w. w .at) (λ w ends k. refl)
 next-at : (w : Walk) (k : Kind) (h m : ℕ) → 0 < h → h ≤ m → w .at < nextOf w k h m .at
 unfolding movedTo
 next-at w k h m some le =
-    next-by w h m (λ v. w .at < v .at) k (rw closed-at (omega arith)) (λ letter _ _. rw closed-at (omega arith))
+    next-by w h m (λ v. w .at < v .at) k (rw closed-at (omega arith)) (λ letter _. rw closed-at (omega arith))
 
 -- never back, and on where an item is yielded
 pub record Moves (w : Walk) (r : Stepped) : Type 0 where
@@ -79,7 +79,7 @@ moves d xs w =
         → Moves w (inElements (d .unit) (record { next = nextOf w k h m; found = F.Item (w .at) m (w .depth) k h }))
     item k h m e =
         let own : List ℕ = part (d .sextets xs) (w .at) (stopOf w (unitsIn d xs)) in
-        let b = item-sizes own k h m (any-item (asked w) own k h m e) in
+        let b = item-sizes (w .indexed) own k h m (any-item (w .indexed) (asked w) own k h m e) in
         let lt : w .at < nextOf w k h m .at = next-at w k h m (b .0) (b .1) in
         record { never-back = omega arith; on = λ _. lt }
 

@@ -10,14 +10,14 @@ use lib.Dec.{ltb, eqb}
 use borrow.Author.Tests.{ltb-true, ltb-false, le-ltb, eqb-true, eqb-false}
 use Rattle.base.specs.Pick.{pick, pick-by}
 use Rattle.format.specs.declared.Kind.{Kind}
-use Rattle.format.specs.declared.Kind.the-variants.{Fixed, Variable, Group, Genus}
+use Rattle.format.specs.declared.Kind.the-variants.{Fixed, Variable, Group, Genus, Indexed}
 use Rattle.format.specs.declared.Framed.{Framed}
 use Rattle.format.specs.declared.Framed.the-variants.{Item, Unframed}
 use Rattle.format.specs.declared.Verdict.{Verdict}
 use Rattle.format.specs.declared.Verdict.the-variants.{Accepted, Refused}
 use Rattle.format.specs.Units.{Domain}
-use Rattle.format.specs.Registry.{isOpaque, isOverrideable}
-use Rattle.format.specs.Framing.{frame, frameRuled}
+use Rattle.format.specs.Registry.{isIndexed, isOverrideable}
+use Rattle.format.specs.Framing.{frameNext}
 use Rattle.format.specs.Judging.{judgeKind, ownCheck, maxDepth}
 use Rattle.walk_state.specs.declared.Walk.{Walk}
 use Rattle.walk_state.specs.declared.Found.the-variants as F
@@ -25,27 +25,23 @@ use Rattle.walk_state.specs.declared.Stepped.{Stepped}
 use Rattle.walk_state.specs.Walking.{isFit, closed, movedTo, opened, past, nextOf, stopOf, judged}
 use Rattle.walk_state.specs.Walking.{framedBy, frameAt, stepFit, step, foundIn, stepIn}
 use Rattle.walk_claims.specs.Words.{unitsIn, tailOf}
-use Rattle.laws.specs.Levels.{part, frameNext}
+use Rattle.laws.specs.Levels.{part}
 
 -- ---- framing at a state: 7 is asked at top level, and where the mark is set
 
 unfoldable pub asked : Walk → Bool
 asked w = pick (eqb (w .depth) 0) true (w .first)
 
-frame-asked : (w : Walk) (xs : List ℕ) → frameAt w xs ≡ frameNext (asked w) xs
+frame-asked : (w : Walk) (xs : List ℕ) → frameAt w xs ≡ frameNext (w .indexed) (asked w) xs
 unfolding frameAt asked
-frame-asked w xs = go (eqb (w .depth) 0)
-  where
-    go : (b : Bool) → pick b (frameRuled xs) (pick (w .first) (frameRuled xs) (frame xs)) ≡ frameNext (pick b true (w .first)) xs
-    go true = refl
-    go false = refl
+frame-asked w xs = refl
 
 -- ---- a step
 
 module _ (s : List ℕ) (n : ℕ) (tail : Bool) (w : Walk) where
   -- the sextets up to the innermost end, framed
   abbrev pub framedHere : Framed
-  framedHere = frameNext (asked w) (part s (w .at) (stopOf w n))
+  framedHere = frameNext (w .indexed) (asked w) (part s (w .at) (stopOf w n))
 
   -- what a step judges of an item: of a group its own check
   abbrev pub judgedHere : Kind → ℕ → ℕ → Verdict
@@ -77,42 +73,36 @@ module _ (s : List ℕ) (n : ℕ) (tail : Bool) (w : Walk) where
 -- ---- the state behind an item
 
 -- a group that is opened
-abbrev pub entered : Walk → ℕ → ℕ → Bool → Walk
-entered w h m first = record {
+abbrev pub entered : Walk → ℕ → ℕ → Bool → Bool → Walk
+entered w h m first indexed = record {
   ends = set (w .ends) (w .depth) (w .at + m);
   depth = suc (w .depth);
   at = w .at + h;
   first = pick (ltb h m) first false;
+  indexed = indexed;
 }
 
-abbrev pub intoNext : Walk → ℕ → ℕ → Bool → Walk
-intoNext w h m first = closed (suc (w .depth)) (entered w h m first)
+abbrev pub intoNext : Walk → ℕ → ℕ → Bool → Bool → Walk
+intoNext w h m first indexed = closed (suc (w .depth)) (entered w h m first indexed)
 
 abbrev pub overNext : Walk → ℕ → Walk
 overNext w m = closed (w .depth) (movedTo w (w .at + m))
 
 module _ (w : Walk) (h m : ℕ) where
-  pub opens-next : (letter : ℕ) → isOpaque letter ≡ false → nextOf w (Group letter) h m ≡ intoNext w h m (isOverrideable letter)
+  pub opens-next : (letter : ℕ) → nextOf w (Group letter) h m ≡ intoNext w h m (isOverrideable letter) (isIndexed letter)
   unfolding nextOf past opened
-  opens-next letter o = rw (o, add-one (w .depth))
+  opens-next letter = rw (add-one (w .depth))
 
-  pub opaque-next : (letter : ℕ) → isOpaque letter ≡ true → nextOf w (Group letter) h m ≡ overNext w m
-  unfolding nextOf past movedTo
-  opaque-next letter o = rw o
-
-  -- stepped over whole, or a group that is opened
+  -- stepped over whole, or a group
   pub next-by {ℓ} : (P : Walk → Type ℓ) (k : Kind) → P (overNext w m)
-      → ((letter : ℕ) → k ≡ Group letter → isOpaque letter ≡ false → P (intoNext w h m (isOverrideable letter)))
+      → ((letter : ℕ) → k ≡ Group letter → P (intoNext w h m (isOverrideable letter) (isIndexed letter)))
       → P (nextOf w k h m)
   unfolding nextOf past movedTo
   next-by P (Fixed c) over into = over
   next-by P (Variable t l c) over into = over
   next-by P Genus over into = over
-  next-by P (Group letter) over into = go (isOpaque letter) refl
-    where
-      go : (b : Bool) → isOpaque letter ≡ b → P (nextOf w (Group letter) h m)
-      go true o = rw (opaque-next letter o) over
-      go false o = rw (opens-next letter o) (into letter refl o)
+  next-by P (Indexed c) over into = over
+  next-by P (Group letter) over into = rw (opens-next letter) (into letter refl)
 
 -- ---- text and binary
 

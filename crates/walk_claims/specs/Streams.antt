@@ -14,7 +14,7 @@ use Rattle.format.specs.declared.Verdict.{Verdict}
 use Rattle.format.specs.declared.Verdict.the-variants.{Accepted, Refused}
 use Rattle.format.specs.Units.{Domain}
 use Rattle.format.specs.Registry.{opening}
-use Rattle.format.specs.Framing.{sextet, frame, frameRuled, frameWith, ruled, scale}
+use Rattle.format.specs.Framing.{sextet, frame, frameRuled, frameNext, frameWith, ruled, scale}
 use Rattle.format.specs.Judging.{shift, judgeKind, group, maxDepth}
 use Rattle.format.specs.Report.{frameIn, judgeIn, placed}
 use Rattle.laws.specs.Registry.{opening-opens}
@@ -32,6 +32,11 @@ whole-units s at n e =
     rw u
     (ruled-there opening opening-opens (sextet (drop (4 * at) s)) (sextet (part s at n)) (length (drop (4 * at) s) / 4)
     (λ i lt _. getD-drop (4 * at) (take (4 * n) s) i 0 ∙ getD-take (4 * n) s (4 * at + i) 0 (omega arith) ∙ sym (getD-drop (4 * at) s i 0)))
+
+-- an item at top level is an item anywhere
+pub ruled-any : (s : List ℕ) (k : Kind) (h m : ℕ) → frameRuled s ≡ Item k h m → frame s ≡ Item k h m
+unfolding frameRuled frameNext
+ruled-any s k h m e = any-item false true s k h m e
 
 -- a place counted on from a unit
 pub placed-shift : (u at : ℕ) (v : Verdict) → placed u (shift (4 * at) v) ≡ shift (at * u) (placed u v)
@@ -71,11 +76,11 @@ module _ (d : Domain) (R : Reader d) (xs : List ℕ) where
   judged-from at k h m le e fits =
       let s : List ℕ = d .sextets xs in
       let f : frame (drop (4 * at) s) ≡ Item k h m =
-      any-item true (drop (4 * at) s) k h m (sym (whole-units s at (unitsIn d xs) (sym (R .units xs))) ∙ e) in
+      ruled-any (drop (4 * at) s) k h m (sym (whole-units s at (unitsIn d xs) (sym (R .units xs))) ∙ e) in
       let o : 4 * at + m * 4 ≡ 4 * (at + m) = omega arith in
       let own : take (m * 4) (drop (4 * at) s) ≡ part s at (at + m) = take-of-drop (m * 4) (4 * at) s ∙ rw o in
       ap (placed (d .unit))
-      (rw (R .taken (from d xs at) m fits, sextets-from at le, judge-own maxDepth (drop (4 * at) s) k h m f, own))
+      (rw (R .taken (from d xs at) m fits, sextets-from at le, judge-own false maxDepth (drop (4 * at) s) k h m f, own))
 
   pub framed-item : (at : ℕ) (k : Kind) (h m : ℕ) → at < unitsIn d xs → frameRuled (part (d .sextets xs) at (unitsIn d xs)) ≡ Item k h m
       → frameIn d (from d xs at) ≡ Item k (h * d .unit) (m * d .unit)

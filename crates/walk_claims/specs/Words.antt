@@ -2,20 +2,20 @@
 use Prim.Native.Nat.{ℕ, zero, suc, _+_, _-_, _*_, _/_, _%_, _≤_, _<_}
 use mathlib.Core.Path.{_≡_}
 use mathlib.Core.List.{List, [], _∷_, _++_}
-use mathlib.Core.Bool.{Bool, true, false, not}
+use mathlib.Core.Bool.{Bool, true, false}
 use mathlib.Core.Logic.{_⊎_}
-use lib.ListN.{length, getD}
+use lib.ListN.{length, getD, drop}
 use lib.Seq.{slice}
 use lib.Dec.{ltb}
 use Rattle.base.specs.Pick.{pick}
 use Rattle.format.specs.declared.Kind.{Kind}
-use Rattle.format.specs.declared.Kind.the-variants.{Fixed, Variable, Group, Genus}
+use Rattle.format.specs.declared.Kind.the-variants.{Fixed, Variable, Group, Genus, Indexed}
 use Rattle.format.specs.declared.Framed.{Framed}
 use Rattle.format.specs.declared.Framed.the-variants.{Item, Unframed}
 use Rattle.format.specs.declared.Verdict.{Verdict}
 use Rattle.format.specs.declared.Verdict.the-variants.{Accepted, Refused}
 use Rattle.format.specs.Units.{Domain}
-use Rattle.format.specs.Registry.{isOpaque, isOverrideable}
+use Rattle.format.specs.Registry.{isIndexed, isOverrideable}
 use Rattle.format.specs.Framing.{isOurs, sextet, frameRuled}
 use Rattle.format.specs.Cutting.{Cut, cut}
 use Rattle.format.specs.Cutting.Cut.{done, stopped, item}
@@ -49,6 +49,8 @@ pub record Fit (w : Walk) (n : ℕ) : Type 0 where
   pub outermost : 0 < w .depth → getD (w .ends) 0 0 ≤ n
   -- "or the first-item mark set with none open"
   pub unmarked : w .depth ≡ 0 → w .first ≡ false
+  -- 02 a: "its state says whether the innermost open group is one, and that mark with none open is 13"
+  pub unindexed : w .depth ≡ 0 → w .indexed ≡ false
 
 -- ---- a step's numbers, in order: 1, 13, framing, 7 where it is asked, judging
 
@@ -62,15 +64,17 @@ ownOf d xs w n = slice (4 * w .at) (4 * (w .at + n)) (d .sextets xs)
 
 -- "genus/version required but not `AAACAA`": at top level, and where the first-item mark is set
 abbrev pub OtherGenus : Walk → List ℕ → Type 0
-OtherGenus w s = ((w .depth ≡ 0) ⊎ (w .first ≡ true)) × (itemKind s ≡ Genus) × (isOurs (sextet s) ≡ false)
+OtherGenus w s = ((w .depth ≡ 0) ⊎ (w .first ≡ true)) × (itemKind (w .indexed) s ≡ Genus) × (isOurs (sextet s) ≡ false)
 
--- s: the sextets that are left; "of a group it judges only 11 and, if opaque, 5", and 18 by 02 h
+-- s: the sextets that are left, framed by the indexed table where its mark is set; of a group it judges only 11, and 18 by 02 h
 abbrev pub stepRules : Domain → List ℕ → Walk → List Rule
 stepRules d xs w =
     let s : List ℕ = aheadOf d xs w in
     1 when (d .limit < length xs) ∷
     13 when (Fit w (length xs / d .unit) → ⊥) ∷
-    (framing s ++ (7 when (OtherGenus w s) ∷ ownRules (maxDepth - w .depth) (itemKind s) (itemHead s) (ownOf d xs w (itemSize s))))
+    (framing (w .indexed) s
+    ++ (7 when (OtherGenus w s) ∷
+    ownRules (maxDepth - w .depth) (itemKind (w .indexed) s) (itemHead (w .indexed) s) (ownOf d xs w (itemSize (w .indexed) s))))
 
 -- ---- the walk from the start
 
@@ -115,12 +119,13 @@ foundPlace F.End = 0
 
 -- ---- a step that yields
 
--- "An opaque group is yielded and stepped over whole. Any other group is opened."
+-- every group is opened
 unfoldable pub opens : Kind → Bool
 opens (Fixed c) = false
 opens (Variable t l c) = false
 opens Genus = false
-opens (Group letter) = not (isOpaque letter)
+opens (Group letter) = true
+opens (Indexed c) = false
 
 -- "an `-A` `-B` `-C` group that isn't empty"
 unfoldable pub marks : Kind → ℕ → ℕ → Bool
@@ -128,6 +133,7 @@ marks (Fixed c) head size = false
 marks (Variable t l c) head size = false
 marks Genus head size = false
 marks (Group letter) head size = pick (ltb head size) (isOverrideable letter) false
+marks (Indexed c) head size = false
 
 -- the state next behind an item at offset o, of n elements, within e groups, of kind k with a header of h units
 pub record Behind (d : Domain) (w : Walk) (o n e : ℕ) (k : Kind) (h : ℕ) (next : Walk) : Type 0 where
@@ -139,6 +145,32 @@ pub record Behind (d : Domain) (w : Walk) (o n e : ℕ) (k : Kind) (h : ℕ) (ne
   -- "The first-item mark is set exactly by a step that opens an `-A` `-B` `-C` group that isn't empty; every other yielding
   -- step clears it."
   pub mark : next .first ≡ marks k (h * d .unit) n
+
+-- ---- the open groups
+
+-- the letter of a group that a step yields
+unfoldable pub letterOf : Found → List ℕ
+letterOf (F.Item o n e (Fixed c) h) = []
+letterOf (F.Item o n e (Variable t l c) h) = []
+letterOf (F.Item o n e Genus h) = []
+letterOf (F.Item o n e (Indexed c) h) = []
+letterOf (F.Item o n e (Group letter) h) = letter ∷ []
+letterOf (F.Refused m p) = []
+letterOf F.End = []
+
+-- as many as are said to be open: those that were opened first
+unfoldable pub stillOpen : ℕ → List ℕ → List ℕ
+stillOpen depth letters = drop (length letters - depth) letters
+
+-- the letters of the groups that are open after k steps, innermost first
+unfoldable pub openGroups : Domain → List ℕ → ℕ → List ℕ
+openGroups d xs zero = []
+openGroups d xs (suc k) = stillOpen (after d xs (suc k) .depth) (letterOf (foundAt d xs k) ++ openGroups d xs k)
+
+-- the innermost of these groups is a `-K` or `-L`
+unfoldable pub innermostIndexed : List ℕ → Bool
+innermostIndexed [] = false
+innermostIndexed (letter ∷ outer) = isIndexed letter
 
 -- ---- the items at depth 0
 
@@ -160,8 +192,7 @@ outerItems d xs (suc k) = outerItems d xs k ++ outer (foundAt d xs k)
 abbrev pub spanOf : ItemRow → Span
 spanOf r = record { offset = r .offset; size = r .size }
 
--- "of a group it judges only 11 and, if opaque, 5", and 18 by 02 h: a group that is opened is yielded before its contents are judged, unless it is
--- itself 18; sizes in units
+-- of a group a step judges only 11, and 18 by 02 h: it is yielded before its contents are judged, unless it is itself 18; sizes in units
 unfoldable pub isOpened : Framed → Bool
 isOpened (Item k h n) = pick (opens k) (isShortest h (n - h)) false
 isOpened (Unframed n p) = false

@@ -31,6 +31,10 @@ pick-same {ℓ} : {X : Type ℓ} (b : Bool) (x : X) → pick b x x ≡ x
 pick-same true x = refl
 pick-same false x = refl
 
+not-pick : (b : Bool) → not b ≡ pick b false true
+not-pick true = refl
+not-pick false = refl
+
 -- a number that does not pass the test spoils the whole
 pub all-spoilt : (p : ℕ → Bool) (n k : ℕ) → k < n → p k ≡ false → allBelow p n ≡ false
 unfolding allBelow
@@ -55,9 +59,14 @@ module _ (s : List ℕ) (p : Place) (n : ℕ) where
       unfolding isFit
       fit-slots h = rw (le-leb _ _ few, le-leb _ _ there, sym e ∙ h)
 
-      pub fit-top : b ≡ true → p .depth ≡ 0 → not (p .first) ≡ isFit (walkAt s p) n
+      -- with none open neither mark
+      pub fit-indexed : b ≡ true → p .depth ≡ 0 → p .indexed ≡ true → false ≡ isFit (walkAt s p) n
       unfolding isFit
-      fit-top h z = rw (le-leb _ _ few, le-leb _ _ there, sym e ∙ h, eq-eqb _ _ z)
+      fit-indexed h z i = rw (le-leb _ _ few, le-leb _ _ there, sym e ∙ h, eq-eqb _ _ z, i) (sym (pick-same (p .first) false))
+
+      pub fit-top : b ≡ true → p .depth ≡ 0 → p .indexed ≡ false → not (p .first) ≡ isFit (walkAt s p) n
+      unfolding isFit
+      fit-top h z i = rw (le-leb _ _ few, le-leb _ _ there, sym e ∙ h, eq-eqb _ _ z, i) (not-pick (p .first))
 
       pub fit-inner : b ≡ true → ¬ (p .depth ≡ 0) → ltb (p .at) (getD s (p .depth - 1) 0) ≡ isFit (walkAt s p) n
       unfolding isFit

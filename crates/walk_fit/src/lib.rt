@@ -55,6 +55,9 @@ pub fn is_fit(slots: &[usize], p: Place, n: usize) -> bool
         return false;
     }
     if depth == 0 {
+        if p.indexed {
+            return false;
+        }
         return !p.first;
     }
     let inner = slots[depth - 1];

@@ -20,7 +20,7 @@ use Rattle.walk_state.specs.Moving.{finished, entered, stepOver}
 
 pub closed-step : (d : ℕ) (w : Walk) → 0 < d
     → closed d w ≡ pick (eqb (getD (w .ends) (d - 1) 0) (w .at))
-    (closed (d - 1) (record { ends = set (w .ends) (d - 1) 0; depth = d - 1; at = w .at; first = w .first })) w
+    (closed (d - 1) (record { ends = set (w .ends) (d - 1) 0; depth = d - 1; at = w .at; first = w .first; indexed = false })) w
 unfolding closed
 closed-step zero w h = absurd (omega arith)
 closed-step (suc k) w h = rw sub-one
@@ -43,16 +43,17 @@ on-both a h n =
     (λ g. le-ltb (a + h) (a + n) (omega arith) ∙ sym (le-ltb h n g)) (lt-or-ge h n)
 
 -- into a group that finds a slot, and past an item
-module _ (w : Walk) (h n : ℕ) (mark : Bool) where
-  into : w .depth < maxDepth → entered w (w .at + h) (w .at + n) mark ≡ opened w h n mark
+module _ (w : Walk) (h n : ℕ) (mark indexed : Bool) where
+  into : w .depth < maxDepth → entered w (w .at + h) (w .at + n) mark indexed ≡ opened w h n mark indexed
   unfolding entered opened
   into l = rw (lt-leb maxDepth (w .depth) l, on-both (w .at) h n)
 
   pub steps-into : w .depth < maxDepth
-      → stepOver w (w .at + h) (w .at + n) true mark ≡ closed (opened w h n mark .depth) (opened w h n mark)
+      → stepOver w (w .at + h) (w .at + n) true mark indexed ≡ closed (opened w h n mark indexed .depth) (opened w h n mark indexed)
   unfolding stepOver opened
-  steps-into l = rw (into l) (finish (opened w h n mark) (omega arith))
+  steps-into l = rw (into l) (finish (opened w h n mark indexed) (omega arith))
 
-  pub steps-past : w .depth ≤ maxDepth → stepOver w (w .at + h) (w .at + n) false mark ≡ closed (w .depth) (movedTo w (w .at + n))
+  pub steps-past : w .depth ≤ maxDepth
+      → stepOver w (w .at + h) (w .at + n) false mark indexed ≡ closed (w .depth) (movedTo w (w .at + n))
   unfolding stepOver movedTo
   steps-past l = finish (movedTo w (w .at + n)) l

@@ -13,12 +13,13 @@ use Rattle.walk_state.specs.Walking.{closed, movedTo}
 unfoldable pub finished : Walk → Walk
 finished w = pick (ltb maxDepth (w .depth)) w (closed (w .depth) w)
 
--- entering a group with contents from at to end; the mark is kept where there are any. A state with no slot left is left
-unfoldable pub entered : Walk → ℕ → ℕ → Bool → Walk
-entered w at end mark =
+-- entering a group with contents from at to end; the first-item mark is kept where there are any; indexed: they are indexed items. A state
+-- with no slot left is left
+unfoldable pub entered : Walk → ℕ → ℕ → Bool → Bool → Walk
+entered w at end mark indexed =
     pick (leb maxDepth (w .depth)) w
-    (record { ends = set (w .ends) (w .depth) end; depth = w .depth + 1; at = at; first = pick (ltb at end) mark false })
+    (record { ends = set (w .ends) (w .depth) end; depth = w .depth + 1; at = at; first = pick (ltb at end) mark false; indexed = indexed })
 
 -- a step over an item with contents from at to end: into them, or past them
-unfoldable pub stepOver : Walk → ℕ → ℕ → Bool → Bool → Walk
-stepOver w at end opens mark = finished (pick opens (entered w at end mark) (movedTo w end))
+unfoldable pub stepOver : Walk → ℕ → ℕ → Bool → Bool → Bool → Walk
+stepOver w at end opens mark indexed = finished (pick opens (entered w at end mark indexed) (movedTo w end))

@@ -1,5 +1,5 @@
--- 01, "The walk", over a stream's sextets: one definition for both forms. Positions, ends and sizes in units, places in sextets.
--- Assumes nothing.
+-- 01, "The walk", over a stream's sextets: one definition for both forms. 02 a: "The walk opens these groups now, its state says whether the
+-- innermost open group is one". Positions, ends and sizes in units, places in sextets. Assumes nothing.
 use Prim.Native.Nat.{ℕ, zero, suc, _+_, _-_, _*_, _/_, _%_}
 use mathlib.Core.List.{List}
 use mathlib.Core.Bool.{Bool, true, false, not}
@@ -9,15 +9,15 @@ use lib.Dec.{ltb, leb, eqb}
 use Rattle.base.specs.Pick.{pick}
 use Rattle.format.specs.declared.CodeRow.{CodeRow}
 use Rattle.format.specs.declared.Kind.{Kind}
-use Rattle.format.specs.declared.Kind.the-variants.{Fixed, Variable, Group, Genus}
+use Rattle.format.specs.declared.Kind.the-variants.{Fixed, Variable, Group, Genus, Indexed}
 use Rattle.format.specs.declared.Framed.{Framed}
 use Rattle.format.specs.declared.Framed.the-variants.{Item, Unframed}
 use Rattle.format.specs.declared.Verdict.{Verdict}
 use Rattle.format.specs.declared.Verdict.the-variants.{Accepted, Refused}
 use Rattle.format.specs.Units.{Domain, text, binary}
 use Rattle.format.specs.Offsets.{textOffset, binaryOffset}
-use Rattle.format.specs.Registry.{isOpaque, isOverrideable}
-use Rattle.format.specs.Framing.{frame, frameRuled}
+use Rattle.format.specs.Registry.{isIndexed, isOverrideable}
+use Rattle.format.specs.Framing.{frameNext}
 use Rattle.format.specs.Judging.{judgeKind, ownCheck, maxDepth}
 use Rattle.walk_state.specs.declared.Walk.{Walk}
 use Rattle.walk_state.specs.declared.Found.{Found}
@@ -32,7 +32,7 @@ use Rattle.walk_state.specs.declared.BinaryStep.{BinaryStep}
 
 -- none open, at the stream's start
 unfoldable pub start : Walk
-start = record { ends = replicate maxDepth 0; depth = 0; at = 0; first = false }
+start = record { ends = replicate maxDepth 0; depth = 0; at = 0; first = false; indexed = false }
 
 -- ---- 13: "walk state unfit for the stream", of n whole units
 
@@ -45,41 +45,50 @@ unfoldable pub slotFits : List ℕ → ℕ → ℕ → ℕ → Bool
 slotFits ends depth n k =
     pick (ltb k depth) (leb (getD ends k 0) (pick (eqb k 0) n (getD ends (k - 1) 0))) (eqb (getD ends k 0) 0)
 
--- no more than 64 open; the position not past the stream; the slots; with none open no first-item mark, else the position
--- before the innermost end
+-- no more than 64 open; the position not past the stream; the slots; with none open neither mark, else the position before the
+-- innermost end
 unfoldable pub isFit : Walk → ℕ → Bool
 isFit w n =
     pick (leb (w .depth) maxDepth)
     (pick (leb (w .at) n)
     (pick (allBelow (slotFits (w .ends) (w .depth) n) maxDepth)
-    (pick (eqb (w .depth) 0) (not (w .first)) (ltb (w .at) (getD (w .ends) (w .depth - 1) 0)))
+    (pick (eqb (w .depth) 0) (pick (w .first) false (not (w .indexed))) (ltb (w .at) (getD (w .ends) (w .depth - 1) 0)))
     false)
     false)
     false
 
 -- ---- the next state
 
--- "Groups whose end is reached close within that step", innermost first, and their slots are 0
+-- "Groups whose end is reached close within that step", innermost first, and their slots are 0. A `-K` or `-L` holds no groups, so none
+-- that is around a group is one
 unfoldable pub closed : ℕ → Walk → Walk
 closed zero w = w
 closed (suc k) w =
-    pick (eqb (getD (w .ends) k 0) (w .at)) (closed k (record { ends = set (w .ends) k 0; depth = k; at = w .at; first = w .first })) w
+    pick (eqb (getD (w .ends) k 0) (w .at))
+    (closed k (record { ends = set (w .ends) k 0; depth = k; at = w .at; first = w .first; indexed = false })) w
 
 unfoldable pub movedTo : Walk → ℕ → Walk
-movedTo w at = record { ends = w .ends; depth = w .depth; at = at; first = false }
+movedTo w at = record { ends = w .ends; depth = w .depth; at = at; first = false; indexed = w .indexed }
 
 -- a group with a header of h units and n in all: "The first-item mark is set exactly by a step that opens an `-A` `-B` `-C` group
 -- that isn't empty"
-unfoldable pub opened : Walk → ℕ → ℕ → Bool → Walk
-opened w h n first =
-    record { ends = set (w .ends) (w .depth) (w .at + n); depth = w .depth + 1; at = w .at + h; first = pick (ltb h n) first false }
+unfoldable pub opened : Walk → ℕ → ℕ → Bool → Bool → Walk
+opened w h n first indexed =
+    record {
+      ends = set (w .ends) (w .depth) (w .at + n);
+      depth = w .depth + 1;
+      at = w .at + h;
+      first = pick (ltb h n) first false;
+      indexed = indexed;
+    }
 
--- "An opaque group is yielded and stepped over whole. Any other group is opened."
+-- every group is opened
 unfoldable pub past : Walk → Kind → ℕ → ℕ → Walk
 past w (Fixed c) h n = movedTo w (w .at + n)
 past w (Variable t l c) h n = movedTo w (w .at + n)
 past w Genus h n = movedTo w (w .at + n)
-past w (Group letter) h n = pick (isOpaque letter) (movedTo w (w .at + n)) (opened w h n (isOverrideable letter))
+past w (Indexed c) h n = movedTo w (w .at + n)
+past w (Group letter) h n = opened w h n (isOverrideable letter) (isIndexed letter)
 
 unfoldable pub nextOf : Walk → Kind → ℕ → ℕ → Walk
 nextOf w k h n = let v : Walk = past w k h n in closed (v .depth) v
@@ -95,14 +104,14 @@ unfoldable pub judged : Walk → Kind → ℕ → ℕ → Verdict → Stepped
 judged w k h n (Refused m p) = record { next = w; found = F.Refused m (4 * w .at + p) }
 judged w k h n Accepted = record { next = nextOf w k h n; found = F.Item (w .at) n (w .depth) k h }
 
--- "of a group it judges only 11 and, if opaque, 5", and 18 by 02 h
+-- of a group it judges only 11, and 18 by 02 h
 unfoldable pub framedBy : List ℕ → Walk → Framed → Stepped
 framedBy s w (Unframed m p) = record { next = w; found = F.Refused m (4 * w .at + p) }
 framedBy s w (Item k h n) = judged w k h n (judgeKind k h (slice (4 * w .at) (4 * (w .at + n)) s) (ownCheck (maxDepth - w .depth)))
 
--- 7 is asked at top level, and where the mark is set
+-- by the indexed table where that mark is set; 7 is asked at top level, and where the first-item mark is set
 unfoldable pub frameAt : Walk → List ℕ → Framed
-frameAt w part = pick (eqb (w .depth) 0) (frameRuled part) (pick (w .first) (frameRuled part) (frame part))
+frameAt w part = frameNext (w .indexed) (pick (eqb (w .depth) 0) true (w .first)) part
 
 -- s: the sextets of n whole units; tail: elements of a unit that is not whole stand behind them, which is 4 there
 unfoldable pub stepFit : List ℕ → ℕ → Bool → Walk → Stepped

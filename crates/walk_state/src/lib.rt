@@ -10,15 +10,16 @@ ghost use lib.ListN.{length};
 ghost use Rattle.format.specs.Judging.{maxDepth};
 ghost use Rattle.walk_state.specs.Walking.{start};
 ghost use Rattle.walk_state.specs.Moving.{finished, entered, stepOver};
-ghost use Rattle.walk_state.specs.Lent.{walkAt, Closes, Moves};
+ghost use Rattle.walk_state.specs.Lent.{walkAt, stillAt, Closes, Moves};
 
 // ends: the ends of the open groups, outermost first, unused slots 0; depth: how many are open; at: the position; first: whether
-// the next item is first in an overrideable group.
+// the next item is first in an overrideable group; indexed: whether the innermost open group holds indexed items.
 pub struct Walk {
     pub ends: [usize; MAX_DEPTH],
     pub depth: usize,
     pub at: usize,
     pub first: bool,
+    pub indexed: bool,
 }
 
 // The state but the ends, which who has them lends: the first MAX_DEPTH numbers of a slice. So a step copies none of them.
@@ -26,6 +27,7 @@ pub struct Place {
     pub depth: usize,
     pub at: usize,
     pub first: bool,
+    pub indexed: bool,
 }
 
 // What a step finds. The code is the kind with the header's units, which tell small from large. Offset and size count units or, as
@@ -111,6 +113,18 @@ fn close(slots: &mut [usize], depth: usize, at: usize) -> usize
     still
 }
 
+// A place where so many groups are still open: the mark of indexed items goes with the first that closes.
+fn still_open(p: Place, still: usize) -> Place
+    ensures { λ r. ⌜ r ≡ stillAt p still ⌝ }
+{
+    Place {
+        depth: still,
+        at: p.at,
+        first: p.first,
+        indexed: if still == p.depth { p.indexed } else { false },
+    }
+}
+
 // With more open than there are slots all stays as it is.
 fn finish(slots: &mut [usize], p: Place) -> Place
     requires { ⌜ maxDepth ≤ length (now slots) ⌝ }
@@ -119,18 +133,15 @@ fn finish(slots: &mut [usize], p: Place) -> Place
     if MAX_DEPTH < p.depth {
         return p;
     }
-    let depth = close(slots, p.depth, p.at);
-    Place {
-        depth,
-        at: p.at,
-        first: p.first,
-    }
+    let still = close(slots, p.depth, p.at);
+    still_open(p, still)
 }
 
-// Into a group with contents from at to end; mark: 7 is asked of its first item, if it has one. With no slot left all stays as it is.
-fn enter(slots: &mut [usize], p: Place, at: usize, end: usize, mark: bool) -> Place
+// Into a group with contents from at to end; mark: 7 is asked of its first item, if it has one; indexed: its items are indexed ones. With no
+// slot left all stays as it is.
+fn enter(slots: &mut [usize], p: Place, at: usize, end: usize, mark: bool, indexed: bool) -> Place
     requires { ⌜ maxDepth ≤ length (now slots) ⌝ }
-    ensures { λ r. ⌜ Moves (now (slots .entry)) (now (slots .exit)) r (entered (walkAt (now (slots .entry)) p) at end mark) ⌝ }
+    ensures { λ r. ⌜ Moves (now (slots .entry)) (now (slots .exit)) r (entered (walkAt (now (slots .entry)) p) at end mark indexed) ⌝ }
 {
     let depth = p.depth;
     if MAX_DEPTH <= depth {
@@ -141,6 +152,7 @@ fn enter(slots: &mut [usize], p: Place, at: usize, end: usize, mark: bool) -> Pl
         depth: depth + 1,
         at,
         first: if at < end { mark } else { false },
+        indexed,
     }
 }
 
@@ -153,20 +165,22 @@ pub fn advance(
     end: usize,
     opens: bool,
     mark: bool,
+    indexed: bool,
 ) -> Place
-    ensures { λ r. ⌜ (maxDepth ≤ length (now (slots .entry)) → Moves (now (slots .entry)) (now (slots .exit)) r (stepOver (walkAt (now (slots .entry)) p) at end opens mark)) ⌝ }
+    ensures { λ r. ⌜ (maxDepth ≤ length (now (slots .entry)) → Moves (now (slots .entry)) (now (slots .exit)) r (stepOver (walkAt (now (slots .entry)) p) at end opens mark indexed)) ⌝ }
 {
     if slots.len() < MAX_DEPTH {
         return p;
     }
     if opens {
-        let inside = enter(slots, p, at, end, mark);
+        let inside = enter(slots, p, at, end, mark, indexed);
         return finish(slots, inside);
     }
     let past = Place {
         depth: p.depth,
         at: end,
         first: false,
+        indexed: p.indexed,
     };
     finish(slots, past)
 }
@@ -183,6 +197,7 @@ impl Walk {
             depth: 0,
             at: 0,
             first: false,
+            indexed: false,
         }
     }
 
@@ -194,6 +209,7 @@ impl Walk {
             depth: self.depth,
             at: self.at,
             first: self.first,
+            indexed: self.indexed,
         }
     }
 
@@ -208,35 +224,38 @@ impl Walk {
             depth: p.depth,
             at: p.at,
             first: p.first,
+            indexed: p.indexed,
         }
     }
 
-    // Into a group with contents from at to end; mark: 7 is asked of its first item, if it has one. A state with no slot left
-    // stays as it is.
-    pub fn open_group(self, at: usize, end: usize, mark: bool) -> Walk
-        ensures { λ r. ⌜ r ≡ entered self at end mark ⌝ }
+    // Into a group with contents from at to end; mark: 7 is asked of its first item, if it has one; indexed: its items are indexed ones. A
+    // state with no slot left stays as it is.
+    pub fn open_group(self, at: usize, end: usize, mark: bool, indexed: bool) -> Walk
+        ensures { λ r. ⌜ r ≡ entered self at end mark indexed ⌝ }
     {
         let mut ends = self.ends;
-        let p = enter(&mut ends, self.place(), at, end, mark);
+        let p = enter(&mut ends, self.place(), at, end, mark, indexed);
         Walk {
             ends,
             depth: p.depth,
             at: p.at,
             first: p.first,
+            indexed: p.indexed,
         }
     }
 
     // A step over an item with contents from at to end: into them if they are items, else past them. Groups whose end is reached close.
-    pub fn step(self, at: usize, end: usize, opens: bool, mark: bool) -> Walk
-        ensures { λ r. ⌜ r ≡ stepOver self at end opens mark ⌝ }
+    pub fn step(self, at: usize, end: usize, opens: bool, mark: bool, indexed: bool) -> Walk
+        ensures { λ r. ⌜ r ≡ stepOver self at end opens mark indexed ⌝ }
     {
         let mut ends = self.ends;
-        let p = advance(&mut ends, self.place(), at, end, opens, mark);
+        let p = advance(&mut ends, self.place(), at, end, opens, mark, indexed);
         Walk {
             ends,
             depth: p.depth,
             at: p.at,
             first: p.first,
+            indexed: p.indexed,
         }
     }
 }

@@ -1,58 +1,22 @@
 -- The answers of the writing calls by the plan, and what the buffer holds then. Assumes nothing.
 use mathlib.Core.Path.{_≡_, refl, _∙_}
-use mathlib.Core.List.{List, _++_}
-use Prim.Native.Nat.{ℕ, _+_, _-_, _*_, _/_, _<_, _≤_}
-use native.Mathlib.Omega.{arith}
-use borrow.Author.Tests.{lt-ltb, le-ltb}
-use lib.ListN.{length, take, drop}
+use mathlib.Core.List.{List}
+use Prim.Native.Nat.{ℕ, _+_, _≤_}
+use lib.ListN.{length}
 use Rattle.format.specs.declared.Code.{Code}
 use Rattle.format.specs.declared.TextWritten.{TextWritten}
 use Rattle.format.specs.declared.TextWritten.the-variants as T
 use Rattle.format.specs.declared.BinaryWritten.{BinaryWritten}
 use Rattle.format.specs.declared.BinaryWritten.the-variants as B
-use Rattle.format.specs.Offsets.{textOffset, binaryOffset}
 use Rattle.format.specs.Texts.{textCount}
-use Rattle.format.specs.Conversion.{toText, firstStranger}
+use Rattle.format.specs.Conversion.{firstStranger}
 use Rattle.format.specs.Writing.{named, Writing, writing, textOutcome, binaryOutcome}
 use Rattle.format.specs.Writing.{writtenBytes, writeText, writeBinary, textItemLeft, binaryItemLeft}
 use Rattle.format.specs.Writing.Writing.{refused, written}
-use Rattle.writing_head.specs.Heads.{Sized, TextSized}
-use Rattle.writing_plan.specs.Plan.{roomFor, binaryIn, textIn}
+use Rattle.writing_raw.specs.Item.{Sized, rawItem, roomFor, binaryIn, textIn}
+use Rattle.writing_head.specs.Heads.{TextSized}
 use Rattle.writing_plan.proofs.Plans.{Ready, TextReady}
 use Rattle.writing_text.specs.Filled.{textItem}
-use Rattle.writing.specs.Item.{planned}
-
--- ---- room
-
-module _ (k : ℕ) (head raw d : List ℕ) where
-  pub binary-no-room : length d < k * 3
-      → (B.Refused 3 0 ≡ binaryOutcome (roomFor 3 k (length d))) × (d ≡ binaryIn (roomFor 3 k (length d)) (planned k head raw) d)
-  unfolding binaryOutcome
-  binary-no-room h = rw (lt-ltb _ _ h) (refl, refl)
-
-  pub text-no-room : length d < k * 4
-      → (T.Refused 3 0 ≡ textOutcome (roomFor 4 k (length d))) × (d ≡ textIn (roomFor 4 k (length d)) (planned k head raw) d)
-  unfolding textOutcome
-  text-no-room h = rw (lt-ltb _ _ h) (refl, refl)
-
-  module _ (s : Sized (length raw) k) (d′ : List ℕ) where
-    pub binary-put : k * 3 ≤ length d → d′ ≡ take (k * 3 - length raw) head ++ raw ++ drop (k * 3 - length raw + length raw) d
-        → (B.Written (binaryOffset (k * 3)) ≡ binaryOutcome (roomFor 3 k (length d))) × (d′ ≡ binaryIn (roomFor 3 k (length d)) (planned k head raw) d)
-    unfolding binaryOutcome
-    binary-put h e =
-        let m : k * 3 ≡ 3 * k = omega arith in
-        let z : k * 3 - length raw + length raw ≡ k * 3 = omega (arith, s .whole) in
-        rw (le-ltb _ _ h) (refl, e ∙ rw (z, m))
-
-    pub text-put : k * 4 ≤ length d → d′ ≡ toText (take (k * 3 - length raw) head ++ raw) ++ drop ((k * 3 - length raw + length raw) / 3 * 4) d
-        → (T.Written (textOffset (k * 4)) ≡ textOutcome (roomFor 4 k (length d))) × (d′ ≡ textIn (roomFor 4 k (length d)) (planned k head raw) d)
-    unfolding textOutcome
-    text-put h e =
-        let m : k * 3 ≡ 3 * k = omega arith in
-        let z : (k * 3 - length raw + length raw) / 3 * 4 ≡ k * 4 = omega (arith, s .whole) in
-        rw (le-ltb _ _ h) (refl, e ∙ rw (z, m))
-
--- ---- the calls
 
 module _ (code : Code) (tag : List ℕ) (tags : ℕ) (raw d : List ℕ) where
   pub binary-refused : (m p : ℕ) → ((u room : ℕ) → writing u (named code) tag tags raw room ≡ refused m p)
@@ -90,17 +54,19 @@ module _ (code : Code) (tag : List ℕ) (tags : ℕ) (raw d : List ℕ) where
 
   -- an item that a raw value ends
   module _ (k : ℕ) (head : List ℕ) (r : Ready (named code) tag tags raw k head) (d′ : List ℕ) where
-    raw-bytes : writtenBytes code tag tags raw ≡ planned k head raw
+    raw-bytes : writtenBytes code tag tags raw ≡ rawItem k head raw
     unfolding writtenBytes
     raw-bytes = r .item .bytes
 
-    pub binary-done : (w : BinaryWritten) → w ≡ binaryOutcome (roomFor 3 k (length d)) → d′ ≡ binaryIn (roomFor 3 k (length d)) (planned k head raw) d
+    pub binary-done : (w : BinaryWritten) → (Sized (length raw) k → w ≡ binaryOutcome (roomFor 3 k (length d)))
+        → (Sized (length raw) k → d′ ≡ binaryIn (roomFor 3 k (length d)) (rawItem k head raw) d)
         → (w ≡ writeBinary code tag tags raw (length d)) × (d′ ≡ binaryItemLeft w code tag tags raw d)
-    binary-done = binary-by k (planned k head raw) (r .answer) raw-bytes d′
+    binary-done w e f = binary-by k (rawItem k head raw) (r .answer) raw-bytes d′ w (e (r .item .size)) (f (r .item .size))
 
-    pub text-done : (w : TextWritten) → w ≡ textOutcome (roomFor 4 k (length d)) → d′ ≡ textIn (roomFor 4 k (length d)) (planned k head raw) d
+    pub text-done : (w : TextWritten) → (Sized (length raw) k → w ≡ textOutcome (roomFor 4 k (length d)))
+        → (Sized (length raw) k → d′ ≡ textIn (roomFor 4 k (length d)) (rawItem k head raw) d)
         → (w ≡ writeText code tag tags raw (length d)) × (d′ ≡ textItemLeft w code tag tags raw d)
-    text-done = text-by k (planned k head raw) (r .answer) raw-bytes d′
+    text-done w e f = text-by k (rawItem k head raw) (r .answer) raw-bytes d′ w (e (r .item .size)) (f (r .item .size))
 
   -- an item that a text ends
   module _ (h : ℕ) (head : List ℕ) (r : TextReady (named code) tag tags raw h head) (d′ : List ℕ) where

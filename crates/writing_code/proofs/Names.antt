@@ -9,9 +9,9 @@ use borrow.Author.Tests.{eqb-true, eqb-false, eq-eqb, leb-true}
 use lib.Dec.{eqb, leb}
 use Rattle.base.specs.Pick.{pick, pick-by}
 use Rattle.format.specs.declared.CodeRow.{CodeRow}
-use Rattle.format.specs.declared.Kind.the-variants.{Fixed, Variable, Group, Genus}
+use Rattle.format.specs.declared.Kind.the-variants.{Fixed, Variable, Group, Genus, Indexed}
 use Rattle.format.specs.declared.Opening.{Opening}
-use Rattle.format.specs.declared.Opening.the-variants.{Unknown, Short, LargeVariable, LargeGroup, Version}
+use Rattle.format.specs.declared.Opening.the-variants.{Unknown, Short, Long, LargeVariable, LargeGroup, Version}
 use Rattle.format.specs.declared.Code.{Code}
 use Rattle.format.specs.declared.Code.the-variants as C
 use Rattle.format.specs.Alphabet.{sextetOf}
@@ -44,6 +44,8 @@ able-fixed chars letter (Short (Fixed c) n) tags raw f e =
 able-fixed chars letter (Short (Variable t l m) n) tags raw f e = never e
 able-fixed chars letter (Short (Group l) n) tags raw f e = never e
 able-fixed chars letter (Short Genus n) tags raw f e = never e
+able-fixed chars letter (Short (Indexed c) n) tags raw f e = never e
+able-fixed chars letter (Long k n) tags raw f e = never e
 able-fixed chars letter (LargeVariable t l) tags raw f e = never e
 able-fixed chars letter (LargeGroup l d) tags raw f e = never e
 able-fixed chars letter Version tags raw f e = never e

@@ -45,7 +45,9 @@ fn row_of(op: Opening) -> Named
             } => Named::Unknown,
             Kind::Group { letter: _ } => Named::Unknown,
             Kind::Genus => Named::Unknown,
+            Kind::Indexed(_) => Named::Unknown,
         },
+        Opening::Long { kind: _, size: _ } => Named::Unknown,
         Opening::LargeVariable { letter: _, lead: _ } => Named::Unknown,
         Opening::LargeGroup {
             letter: _,

@@ -29,7 +29,8 @@ use Rattle.format.specs.Writing.Named.{unknown, row, variable, textual}
 use Rattle.laws.specs.Registry.{Sound}
 use Rattle.laws.specs.Units.{bytes-size}
 use Rattle.writing_code.specs.Names.{Able}
-use Rattle.writing_head.specs.Heads.{padTo, rowHead, variableSextets, variableHead, headSextets, headBytes, Sized, TextSized, Divided}
+use Rattle.writing_raw.specs.Item.{Sized}
+use Rattle.writing_head.specs.Heads.{padTo, rowHead, variableSextets, variableHead, headSextets, headBytes, TextSized, Divided}
 use Rattle.writing_head.proofs.Heads.{code-length}
 
 -- ---- the first bytes of a row with a raw value

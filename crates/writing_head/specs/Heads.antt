@@ -15,6 +15,7 @@ use Rattle.format.specs.Registry.{prepadOf}
 use Rattle.format.specs.Texts.{textLead, textCount}
 use Rattle.format.specs.Values.{bytesIn}
 use Rattle.format.specs.Writing as F
+use Rattle.writing_raw.specs.Item.{Sized}
 
 -- zeros up to so many
 unfoldable pub padTo : ℕ → List ℕ → List ℕ
@@ -44,13 +45,6 @@ unfoldable pub headBytes : F.Named → List ℕ → ℕ → List ℕ
 headBytes n tag raw = each 4 bytesOf 3 (headSextets n tag raw)
 
 -- ---- an item's parts
-
--- its units k hold the raw bytes behind the first 3 k - raw ones, of at most nine
-pub record Sized (raw k : ℕ) : Type 0 where
-  pub some : 0 < k
-  pub few : k ≤ 1048576
-  pub whole : raw ≤ 3 * k
-  pub start : 3 * k ≤ raw + 9
 
 -- a header of h units, one or two, and then the units of a text with its fill
 pub record TextSized (chars h : ℕ) : Type 0 where

@@ -20,7 +20,8 @@ use Rattle.writing_plan.specs.declared.Refusal.{Refusal}
 use Rattle.writing_plan.specs.declared.Planned.{Planned}
 use Rattle.writing_plan.specs.declared.Planned.the-variants as P
 use Rattle.writing_plan.specs.declared.Plan.{Plan}
-use Rattle.writing_plan.specs.Plan.{charsRefusal, refusalOf, plannedOf, planOf, roomFor}
+use Rattle.writing_raw.specs.Item.{roomFor}
+use Rattle.writing_plan.specs.Plan.{charsRefusal, refusalOf, plannedOf, planOf}
 use Rattle.writing_plan.proofs.Refusals.{unrefused, by-refusal, text-clean}
 
 -- ---- how it is made

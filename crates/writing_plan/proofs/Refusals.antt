@@ -20,7 +20,8 @@ use Rattle.format.specs.Writing.Named.{unknown, row, variable, textual}
 use Rattle.format.specs.Writing.Writing.{refused}
 use Rattle.laws.specs.Alphabet.{number-some}
 use Rattle.writing_plan.specs.declared.Refusal.{Refusal}
-use Rattle.writing_plan.specs.Plan.{refusal, tagRefusal, textRefusal, charsRefusal, refusalOf, roomFor}
+use Rattle.writing_raw.specs.Item.{roomFor}
+use Rattle.writing_plan.specs.Plan.{refusal, tagRefusal, textRefusal, charsRefusal, refusalOf}
 
 -- ---- the characters, case by case
 

@@ -1,11 +1,11 @@
 -- The plan of an item before its room is asked, as format's writing goes: refused or not. Assumes nothing.
-use Prim.Native.Nat.{ℕ, _*_}
-use mathlib.Core.List.{List, _++_}
+use Prim.Native.Nat.{ℕ}
+use mathlib.Core.List.{List}
 use lib.Dec.{ltb, eqb}
-use lib.ListN.{length, take, drop, replicate}
+use lib.ListN.{length, take, replicate}
 use Rattle.base.specs.Pick.{pick}
 use Rattle.format.specs.Units.{textSextets}
-use Rattle.format.specs.Conversion.{toText, firstStranger, firstNumber}
+use Rattle.format.specs.Conversion.{firstStranger, firstNumber}
 use Rattle.format.specs.Texts.{fills}
 use Rattle.format.specs.Writing as F
 use Rattle.writing_head.specs.Heads.{headBytes}
@@ -60,17 +60,3 @@ planBy r n tag raw =
 
 unfoldable pub planOf : F.Named → List ℕ → ℕ → List ℕ → Plan
 planOf n tag tags raw = planBy (refusalOf n tag tags raw) n (take tags tag) (length raw)
-
--- ---- what is asked last: 3, with u elements to the unit
-
-abbrev pub roomFor : ℕ → ℕ → ℕ → F.Writing
-roomFor u k room = pick (ltb room (k * u)) (F.Writing.refused 3 0) (F.Writing.written k)
-
--- what the buffer holds then: the bytes b of the item, or their text, where it is written
-abbrev pub binaryIn : F.Writing → List ℕ → List ℕ → List ℕ
-binaryIn (F.Writing.refused m p) b d = d
-binaryIn (F.Writing.written k) b d = b ++ drop (k * 3) d
-
-abbrev pub textIn : F.Writing → List ℕ → List ℕ → List ℕ
-textIn (F.Writing.refused m p) b d = d
-textIn (F.Writing.written k) b d = toText b ++ drop (k * 4) d

@@ -14,10 +14,10 @@ use Rattle.format.specs.Values.{bytesIn}
 use Rattle.format.specs.Conversion.{toText, toBinary, firstStranger}
 use Rattle.format.specs.Writing.{filled, textOutcome, binaryOutcome}
 use Rattle.writing_head.specs.Heads.{TextSized}
-use Rattle.writing_plan.specs.Plan.{roomFor, binaryIn, textIn}
+use Rattle.writing_raw.specs.Item.{roomFor, binaryIn, textIn}
 use Rattle.writing_text.specs.Filled.{filledText, textItem}
 use Rattle.writing_text.proofs.Filled.{filled-bytes, filled-text}
-use Rattle.writing_text.proofs.Buffers.{text-append}
+use Rattle.writing_raw.proofs.Buffers.{text-append}
 
 module _ (h : ℕ) (head chars d : List ℕ) (count : ℕ) (e : count ≡ textCount (length chars)) where
   abbrev units : ℕ

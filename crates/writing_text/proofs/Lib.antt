@@ -1,4 +1,3 @@
 pub mod Filled
-pub mod Buffers
 pub mod Parts
 pub mod Answers

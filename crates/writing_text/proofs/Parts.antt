@@ -13,7 +13,7 @@ use Rattle.laws.specs.Conversion.{length-to-binary, length-to-text}
 use Rattle.judging.proofs.Laws.{to-end}
 use Rattle.writing_text.specs.Filled.{filledText}
 use Rattle.writing_text.proofs.Filled.{filled-known, known-take, known-drop, first-part}
-use Rattle.writing_text.proofs.Buffers.{copied, converted-text, converted-binary, lent, behind, binary-append}
+use Rattle.writing_raw.proofs.Buffers.{copied, converted-text, converted-binary, lent, behind, binary-append}
 
 -- ---- as characters: the fill, and then the text
 

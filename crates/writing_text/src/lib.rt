@@ -13,7 +13,7 @@ ghost use Rattle.format.specs.Texts.{fillFor, textCount};
 ghost use Rattle.format.specs.Conversion.{toBinary, toText, firstStranger};
 ghost use Rattle.format.specs.Writing.{textOutcome, binaryOutcome};
 ghost use Rattle.writing_head.specs.Heads.{TextSized};
-ghost use Rattle.writing_plan.specs.Plan.{roomFor, binaryIn, textIn};
+ghost use Rattle.writing_raw.specs.Item.{roomFor, binaryIn, textIn};
 ghost use Rattle.writing_text.specs.Filled.{filledText, textItem};
 
 // ---- the characters and their fill

@@ -24,11 +24,18 @@ pub enum Class {
     Text2,
     /// A large variable code whose count fits the small one.
     NotShort,
-    /// A group; one with a first-item mark; one not to be looked into; a large
-    /// one whose count fits the small code.
+    /// Indexed items: the fourth sextet must be zero (`0B`); with a header of
+    /// two units four zero bits behind the ondex (`2A`, `2C`), which too must be
+    /// zero (`2B`, `2D`), and zero alone (`3B`).
+    Ondex,
+    Big,
+    BigOndex,
+    WideOndex,
+    /// A group; one with a first-item mark; one of indexed items; a large one
+    /// whose count fits the small code.
     Group,
     Override,
-    Opaque,
+    Indexed,
     NotShortGroup,
     /// A genus/version: the one that is read, and any other.
     Genus,
@@ -74,7 +81,7 @@ impl Front {
 }
 
 impl Class {
-    /// A group that is looked into.
+    /// A group of items of the master table.
     #[inline(always)]
     pub fn opens(self) -> bool {
         matches!(self, Class::Group | Class::Override)
@@ -97,6 +104,7 @@ const fn checks() -> [Check; CLASSES] {
     checks[Class::FourZero as usize] = of_header(0xF00, 0, 8);
     checks[Class::Prepad as usize] = of_header(0xFC0, 0xFC0, 10);
     checks[Class::NotShort as usize] = of_header(0, 1, 18);
+    checks[Class::Ondex as usize] = of_header(0x3F, 0, 15);
     checks[Class::Lead1 as usize] = of_value(0, 0xFFFF);
     checks[Class::Lead2 as usize] = of_value(0, 0xFF);
     // A text starts with another character than `A`: behind one `A` or none
@@ -136,6 +144,25 @@ impl Row {
     #[inline(always)]
     pub fn behind(self, low: u16) -> usize {
         usize::from(self.behind) + usize::from(low & self.count)
+    }
+}
+
+/// The units of an indexed item and of its header, and its class, by its first
+/// two sextets.
+#[inline(always)]
+pub fn indexed(code: u16) -> Option<(usize, usize, Class)> {
+    const A: u16 = 0;
+    const D: u16 = 3;
+    const ZERO: u16 = 52;
+    match (code >> 6, code & 63) {
+        (A..=D, _) => Some((22, 1, Class::FourZero)),
+        (ZERO, 0) => Some((39, 1, Class::Plain)),
+        (ZERO, 1) => Some((39, 1, Class::Ondex)),
+        (54, 0 | 2) => Some((23, 2, Class::Big)),
+        (54, 1 | 3) => Some((23, 2, Class::BigOndex)),
+        (55, 0) => Some((40, 2, Class::Plain)),
+        (55, 1) => Some((40, 2, Class::WideOndex)),
+        _ => None,
     }
 }
 
@@ -248,7 +275,7 @@ pub const fn variable(letter: usize, lead: usize) -> Class {
 pub const fn group(letter: usize) -> Class {
     match letter {
         0..=2 => Class::Override,
-        10 | 11 => Class::Opaque,
+        10 | 11 => Class::Indexed,
         _ => Class::Group,
     }
 }

@@ -212,6 +212,84 @@ fn refused_front<U: Unit>(value: &[U], class: Class) -> u8 {
     }
 }
 
+/// Frames the indexed item that starts `left`, which is not empty.
+#[inline(always)]
+pub fn frame_indexed<U: Unit, const CAREFUL: bool>(left: &[U], clean: usize) -> Result<Frame, u8> {
+    if CAREFUL && clean < 1 {
+        return Err(5);
+    }
+    let (code, low) = left[0].halves();
+    let Some((size, header, class)) = codes::indexed(code) else {
+        return Err(6);
+    };
+    if header > left.len() {
+        return Err(4);
+    }
+    if CAREFUL && clean < header {
+        return Err(5);
+    }
+    if size > left.len() {
+        return Err(4);
+    }
+    Ok(Frame {
+        size,
+        header,
+        class,
+        low,
+    })
+}
+
+/// Judges a framed indexed item without strangers: 0, 8, 15.
+#[inline(always)]
+pub fn indexed<U: Unit>(item: &[U], framed: &Frame) -> u8 {
+    let check = framed.class.check();
+    if framed.low & check.mask != check.want {
+        return check.number;
+    }
+    match framed.header {
+        1 => 0,
+        _ => second_of_indexed(item[1].bits(), framed.class),
+    }
+}
+
+/// The second unit of a header: `##&&` behind `2B##`, `####` behind `3B##`.
+fn second_of_indexed(bits: u32, class: Class) -> u8 {
+    match class {
+        Class::Big | Class::BigOndex if bits & 0xF00 != 0 => 8,
+        Class::BigOndex if bits >> 12 != 0 => 15,
+        Class::WideOndex if bits & 0x3_FFFF != 0 => 15,
+        _ => 0,
+    }
+}
+
+/// Judges the items of a group of signatures, whose `body` starts at unit `at`;
+/// `bad` is the first unit with a stranger from there on.
+#[inline(always)]
+pub fn signatures<U: Unit, const CAREFUL: bool>(
+    body: &[U],
+    mut at: usize,
+    bad: usize,
+) -> Result<(), Refused> {
+    let mut left = body;
+    while !left.is_empty() {
+        let clean = bad.wrapping_sub(at);
+        let item = match frame_indexed::<U, CAREFUL>(left, clean) {
+            Ok(item) => item,
+            Err(number) => return refuse(number, at),
+        };
+        let (whole, after) = left.split_at(item.size);
+        let number = match clean {
+            _ if CAREFUL && clean < item.size => 5,
+            _ => indexed(whole, &item),
+        };
+        if number != 0 {
+            return refuse(number, at);
+        }
+        (left, at) = (after, at + item.size);
+    }
+    Ok(())
+}
+
 /// No group stands within more.
 pub const MOST_GROUPS: usize = 64;
 
@@ -248,8 +326,7 @@ pub fn contents<'s, U: Unit, const CAREFUL: bool>(
             (left, depth, first) = (around.after, around.depth, false);
             continue;
         };
-        let clean = bad.wrapping_sub(at);
-        let item = match item::<U, CAREFUL>(*unit, left, clean, depth, first) {
+        let item = match item::<U, CAREFUL>(*unit, left, bad.wrapping_sub(at), depth, first) {
             Ok(item) => item,
             Err(number) => return refuse(number, at),
         };
@@ -261,6 +338,9 @@ pub fn contents<'s, U: Unit, const CAREFUL: bool>(
             (left, at) = (&whole[item.header..], at + item.header);
             (depth, first) = (depth + 1, item.class == Class::Override);
         } else {
+            if item.class == Class::Indexed {
+                signatures::<U, CAREFUL>(&whole[item.header..], at + item.header, bad)?;
+            }
             (left, at, first) = (after, at + item.size, false);
         }
     }
@@ -314,7 +394,7 @@ fn item<U: Unit, const CAREFUL: bool>(
     if item.class == Class::NotShortGroup {
         return Err(18);
     }
-    if item.class.opens() {
+    if item.class.opens() || item.class == Class::Indexed {
         return Ok(item);
     }
     if item.class == Class::OtherGenus && first {

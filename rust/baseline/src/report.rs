@@ -8,7 +8,7 @@
 
 use crate::alphabet::{self, first_stranger};
 use crate::codes::{Class, Row as Code};
-use crate::judge::{contents, frame, primitive, Around, Frame, Refused, Unit};
+use crate::judge::{contents, frame, primitive, signatures, Around, Frame, Refused, Unit};
 use crate::{Form, Refusal, BINARY_LIMIT, TEXT_LIMIT};
 
 /// A row of the first two sections.
@@ -248,6 +248,10 @@ fn judge<'s, U: Unit, const CAREFUL: bool>(
         let body = &whole[item.header..];
         let first = item.class == Class::Override;
         return contents::<U, CAREFUL>(body, at + item.header, bad, first, open);
+    }
+    if item.class == Class::Indexed {
+        let body = &whole[item.header..];
+        return signatures::<U, CAREFUL>(body, at + item.header, bad);
     }
     let number = match item.class {
         Class::NotShortGroup => 18,

@@ -3,7 +3,7 @@
 
 use crate::alphabet::{self, first_stranger};
 use crate::codes::Class;
-use crate::judge::{frame, primitive, Frame, Unit, MOST_GROUPS};
+use crate::judge::{frame, frame_indexed, indexed, primitive, Frame, Unit, MOST_GROUPS};
 use crate::{Form, Refusal, BINARY_LIMIT, TEXT_LIMIT};
 
 /// Why an instalment is over.
@@ -21,6 +21,8 @@ pub struct Walk {
     ends: Vec<usize>,
     at: usize,
     first: bool,
+    /// Is the innermost open group one of indexed items?
+    indexed: bool,
     known: usize,
 }
 
@@ -61,7 +63,7 @@ impl Walk {
         (budget, Pause::Spent)
     }
 
-    /// Frames and judges the next item; of a group that is opened the framing,
+    /// Frames and judges the next item; of a group the framing,
     /// 11 and 18.
     #[inline(always)]
     fn next<U: Checked>(&mut self, units: &[U]) -> Result<Frame, Refusal> {
@@ -70,7 +72,11 @@ impl Walk {
         let start = self.at * U::SIZE;
         let bad = self.stranger(units, self.at + left.len().min(2));
         let clean = bad.map_or(usize::MAX, |bad| bad.place / U::SIZE - self.at);
-        let item = frame::<U, true>(left, clean).map_err(|number| match (number, bad) {
+        let framed = match self.indexed {
+            true => frame_indexed::<U, true>(left, clean),
+            false => frame::<U, true>(left, clean),
+        };
+        let item = framed.map_err(|number| match (number, bad) {
             (5, Some(bad)) => bad,
             _ => Refusal::new(number, start),
         })?;
@@ -85,15 +91,24 @@ impl Walk {
         if item.class == Class::NotShortGroup {
             return Err(Refusal::new(18, start));
         }
-        if item.class.opens() {
+        if item.class.opens() || item.class == Class::Indexed {
             return Ok(item);
         }
         if let Some(bad) = self.stranger(units, self.at + item.size) {
             return Err(bad);
         }
-        match primitive(&left[..item.size], &item) {
+        match self.judged(&left[..item.size], &item) {
             0 => Ok(item),
             number => Err(Refusal::new(number, start)),
+        }
+    }
+
+    /// By the table of its group.
+    #[inline(always)]
+    fn judged<U: Checked>(&self, whole: &[U], item: &Frame) -> u8 {
+        match self.indexed {
+            true => indexed(whole, item),
+            false => primitive(whole, item),
         }
     }
 
@@ -111,19 +126,21 @@ impl Walk {
         (self.known < end).then(|| Refusal::new(alphabet::number(text[self.known]), self.known))
     }
 
-    /// Into a group that is looked into, past anything else; groups that end
+    /// Into a group, past anything else; groups that end
     /// there close.
     #[inline(always)]
     fn pass(&mut self, item: &Frame) {
         self.first = item.class == Class::Override && item.size > item.header;
-        if item.class.opens() {
+        if item.class.opens() || item.class == Class::Indexed {
             self.ends.push(self.at + item.size);
             self.at += item.header;
+            self.indexed = item.class == Class::Indexed;
         } else {
             self.at += item.size;
         }
         while self.ends.last() == Some(&self.at) {
             self.ends.pop();
+            self.indexed = false;
         }
     }
 }

@@ -8,11 +8,12 @@ use oracle::Form as Judge;
 use streams::damage::{damage, OPERATORS};
 use streams::form::FORMS;
 use streams::generate::{
-    any_deck, any_fill_deck, every_code, large_code, long_item, nested, not_short_deck, LARGE_CODES,
+    any_deck, any_fill_deck, any_signatures_deck, every_code, indexed, large_code, long_item,
+    nested, not_short_deck, LARGE_CODES,
 };
 use streams::item::stream;
 use streams::noise::noise;
-use streams::table::{GROUPS, HEADS};
+use streams::table::{GROUPS, HEADS, INDEXED};
 use streams::{Form, Item, Random};
 
 /// 01, "The deck we check by" and "Errors we have seen shipped", and the
@@ -180,6 +181,79 @@ fn on_any_fill() {
     }
 }
 
+/// A group's text around whole units.
+fn signed(body: &[u8]) -> Vec<u8> {
+    stream(&[Item::Group {
+        letter: b'K',
+        large: false,
+        body: vec![Item::Primitive(body.to_vec())],
+    }])
+}
+
+/// Every value of an indexed item's first two sextets, and of each character
+/// that is a digit or has pad bits.
+#[test]
+fn on_every_start_of_an_indexed_item() {
+    for bits in 0..4096 {
+        let [_, _, a, b] = streams::form::characters(bits);
+        for full in [4, 8, 88, 92, 156, 160] {
+            let mut text = vec![b'A'; full];
+            text[..2].copy_from_slice(&[a, b]);
+            assert_alike_in_both(&signed(&text), "indexed start");
+        }
+    }
+    for row in INDEXED {
+        let whole = stream(&[indexed(&mut Random::new(1), row)]);
+        for place in 0..12 {
+            for sextet in 0..64 {
+                let mut text = whole.clone();
+                text[place] = streams::form::ALPHABET[sextet];
+                assert_alike_in_both(&signed(&text), "indexed digit");
+            }
+        }
+    }
+}
+
+/// A stranger at each place, by itself and with another fault before it, and
+/// each length.
+#[test]
+fn on_strangers_and_cuts_in_indexed_items() {
+    let mut random = Random::new(0x0015);
+    for row in INDEXED {
+        let whole = stream(&[indexed(&mut random, row)]);
+        for place in 0..row.full {
+            for stranger in *b"!+" {
+                let mut text = [&whole[..], &whole].concat();
+                text[row.full + place] = stranger;
+                assert_alike(&signed(&text), Form::Text, "stranger");
+                text[6] = b'_';
+                assert_alike(&signed(&text), Form::Text, "stranger behind");
+                assert_alike(&signed(&text[row.full..]), Form::Text, "stranger alone");
+            }
+        }
+        for units in 0..row.full / 4 {
+            assert_alike_in_both(&signed(&whole[..4 * units]), "cut");
+            let mut text = signed(&whole);
+            text.truncate(4 * units);
+            assert_alike_in_both(&text, "cut off");
+        }
+    }
+}
+
+#[test]
+fn on_any_signatures() {
+    let mut random = Random::new(0x0151);
+    for round in 0..12_000 {
+        for form in FORMS {
+            let mut stream = form.of_text(&stream(&any_signatures_deck(&mut random)));
+            if round % 2 == 1 {
+                damage(&mut random, form, &mut stream);
+            }
+            assert_alike(&stream, form, "signatures");
+        }
+    }
+}
+
 #[test]
 fn on_long_items() {
     let mut random = Random::new(0x4096);
@@ -254,7 +328,7 @@ fn on_noise() {
 
 #[test]
 fn the_streams_meet_every_number() {
-    // D44: a verdict is 4 to 11, 16, 18 or 19, a remainder's number 4 to 7 or
+    // D44: a verdict is 4 to 11, 15, 16, 18 or 19, a remainder's number 4 to 7 or
     // 19; 5 and 19 in text only.
     let mut random = Random::new(0xA11);
     for (form, judge) in [(Form::Text, Judge::Text), (Form::Binary, Judge::Binary)] {
@@ -269,10 +343,10 @@ fn the_streams_meet_every_number() {
             rest.into_iter()
                 .for_each(|n| remainders[usize::from(n)] += 1);
         }
-        for number in (4..12).chain([16, 18, 19]) {
+        for number in (4..12).chain([15, 16, 18, 19]) {
             let possible = ![5, 19].contains(&number) || form == Form::Text;
             assert_eq!(verdicts[number] > 0, possible, "{form:?} verdict {number}");
-            let possible = possible && ![8, 9, 10, 11, 16, 18].contains(&number);
+            let possible = possible && ![8, 9, 10, 11, 15, 16, 18].contains(&number);
             assert_eq!(remainders[number] > 0, possible, "{form:?} rest {number}");
         }
     }

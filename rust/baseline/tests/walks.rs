@@ -5,7 +5,7 @@ use baseline::{Pause, Walk};
 use oracle::{instalments, walk};
 use streams::damage::damage;
 use streams::form::FORMS;
-use streams::generate::{any_deck, deep, one_code, CODES};
+use streams::generate::{any_deck, any_signatures_deck, deep, one_code, CODES};
 use streams::item::stream;
 use streams::noise::noise;
 use streams::{Form, Random};
@@ -42,12 +42,13 @@ fn on_generated_streams() {
     for seed in 0..20_000 {
         let mut random = Random::new(seed);
         let form = FORMS[seed as usize % 2];
-        let mut made = match seed / 2 % 5 {
+        let mut made = match seed / 2 % 6 {
             0 => noise(&mut random, form, 200),
             1 => form.of_text(&stream(&[deep(&mut random)])),
+            2 => form.of_text(&stream(&any_signatures_deck(&mut random))),
             _ => form.of_text(&stream(&any_deck(&mut random, 6))),
         };
-        if seed / 2 % 5 < 4 {
+        if seed / 2 % 6 < 5 && seed % 5 > 0 {
             damage(&mut random, form, &mut made);
         }
         assert_alike(&made, form, &mut random);

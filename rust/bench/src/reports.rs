@@ -3,7 +3,7 @@
 
 use crate::race::{Contender, Race, Rate, REFUSED};
 use crate::SIZES;
-use streams::decks::{digests, labels, mixed, nests, small_bytes};
+use streams::decks::{digests, labels, mixed, nests, signatures, small_bytes};
 use streams::{Form, Random};
 
 /// A further program is one more line in each of the two lists.
@@ -37,9 +37,10 @@ fn binary_report(stream: &[u8], out: &mut [u8]) -> usize {
 pub type Deck = fn(&mut Random, usize) -> Vec<u8>;
 
 /// The last two have the same sizes and selectors, from the same seed.
-pub const DECKS: [(&str, Deck); 5] = [
+pub const DECKS: [(&str, Deck); 6] = [
     ("digests", digests),
     ("groups nested ten deep", nests),
+    ("groups of one to four indexed signatures", signatures),
     ("all codes, groups three deep", mixed),
     ("labels and locations of type A", labels),
     ("the same as bytes of type B", small_bytes),

@@ -8,10 +8,12 @@
 
 mod walk;
 
+use oracle::indexed::{self, IndexedItem};
 use oracle::primitive::{self, Named};
+use oracle::registry::Indexed as Row;
 use oracle::report::write_report;
 use oracle::{convert, Form};
-use proved::{Counts, Info, Primitive, Refusal, Tag};
+use proved::{Counts, Indexed, IndexedInfo, Info, Primitive, Refusal, Tag};
 pub use walk::{walk_binary, walk_on_binary, walk_on_text, walk_text};
 
 /// A refusal of the oracle as one of the library.
@@ -102,6 +104,65 @@ fn write(item: &Primitive, form: Form, out: &mut [u8]) -> Result<usize, Refusal>
         characters: item.tag,
     };
     primitive::write(named, &tag, item.raw, form, out).map_err(refused)
+}
+
+pub fn read_indexed_text(
+    text: &[u8],
+    at: usize,
+    out: &mut [u8],
+    info: &mut IndexedInfo,
+) -> Result<usize, Refusal> {
+    let found = indexed::read_text(text, at, out).map_err(refused)?;
+    *info = told_indexed(&found, Form::Text);
+    Ok(found.raw)
+}
+
+pub fn read_indexed_binary(
+    binary: &[u8],
+    at: usize,
+    info: &mut IndexedInfo,
+) -> Result<usize, Refusal> {
+    let (found, part) = indexed::read_binary(binary, at).map_err(refused)?;
+    *info = told_indexed(&found, Form::Binary);
+    let start = at + info[proved::INDEXED_START];
+    assert!(std::ptr::eq(part, &binary[start..start + found.raw]));
+    Ok(found.raw)
+}
+
+/// Selector, 0 where the letter stands alone, and letter.
+fn indexed_code(row: &Row) -> (u8, u8) {
+    match *row.code.as_bytes() {
+        [selector, letter] => (selector, letter),
+        _ => (0, row.code.as_bytes()[0]),
+    }
+}
+
+fn told_indexed(found: &IndexedItem, form: Form) -> IndexedInfo {
+    let (selector, letter) = indexed_code(found.row);
+    let units = found.size / form.unit();
+    let (index, ondex) = (found.index as usize, found.ondex as usize);
+    let start = 3 * units - found.raw;
+    let code = [selector, letter].map(usize::from);
+    [code[0], code[1], units, start, found.raw, index, ondex]
+}
+
+pub fn write_indexed_text(item: &Indexed, out: &mut [u8]) -> Result<usize, Refusal> {
+    write_indexed(item, Form::Text, out)
+}
+
+pub fn write_indexed_binary(item: &Indexed, out: &mut [u8]) -> Result<usize, Refusal> {
+    write_indexed(item, Form::Binary, out)
+}
+
+fn write_indexed(item: &Indexed, form: Form, out: &mut [u8]) -> Result<usize, Refusal> {
+    let both = [item.selector, item.letter];
+    let code = if item.selector == 0 {
+        &both[1..]
+    } else {
+        &both[..]
+    };
+    let (index, ondex) = (item.index as u64, item.ondex as u64);
+    indexed::write(code, index, ondex, item.raw, form, out).map_err(refused)
 }
 
 pub fn compare(expected: &[u8], report: &[u8], counts: &mut Counts) -> Result<(), Refusal> {

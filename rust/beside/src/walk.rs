@@ -1,16 +1,17 @@
 //! The walk. The oracle's state counts the stream's own elements, the
 //! library's counts units.
 
-use crate::refused;
+use crate::{indexed_code, refused};
 use oracle::instalments;
 use oracle::registry::Code;
 use oracle::walk::{step, Found, Walk};
 use oracle::Form;
 use proved::{
-    Instalment, Item, Pause, Refusal, State, STATE, STATE_FIRST, STATE_OPEN, STATE_POSITION,
+    Instalment, Item, Pause, Refusal, State, STATE, STATE_FIRST, STATE_INDEXED, STATE_OPEN,
+    STATE_POSITION,
 };
 
-/// chars, letter and lead bytes, as `include/cesr.h` numbers them.
+/// chars, letter, and lead bytes or selector, as `include/cesr.h` numbers them.
 pub fn code(code: Code) -> (usize, usize, usize) {
     match code {
         Code::Fixed(row) => {
@@ -28,6 +29,10 @@ pub fn code(code: Code) -> (usize, usize, usize) {
         }
         Code::Group { letter, large } => (7 + usize::from(large), usize::from(letter), 0),
         Code::Genus => (9, 0, 0),
+        Code::Indexed(row) => {
+            let (selector, letter) = indexed_code(row);
+            (10, usize::from(letter), usize::from(selector))
+        }
     }
 }
 
@@ -102,7 +107,8 @@ fn in_elements(state: &State, unit: usize) -> Option<Walk> {
     walk.open = state[STATE_OPEN];
     walk.position = state[STATE_POSITION].saturating_mul(unit);
     walk.first = state[STATE_FIRST] == 1;
-    (state[STATE_FIRST] < 2).then_some(walk)
+    walk.indexed = state[STATE_INDEXED] == 1;
+    (state[STATE_FIRST] < 2 && state[STATE_INDEXED] < 2).then_some(walk)
 }
 
 fn in_units(walk: &Walk, unit: usize) -> State {
@@ -113,5 +119,6 @@ fn in_units(walk: &Walk, unit: usize) -> State {
     state[STATE_OPEN] = walk.open;
     state[STATE_POSITION] = walk.position / unit;
     state[STATE_FIRST] = usize::from(walk.first);
+    state[STATE_INDEXED] = usize::from(walk.indexed);
     state
 }

@@ -1,9 +1,12 @@
 //! Codes as the library names them, and their characters and names for people.
 
 use crate::names::{FIXED, GENUS_VERSION, GROUPS, VARIABLES};
-use crate::{to_text_into, Form};
+use crate::{to_text_into, Form, IndexedCode};
 use core::fmt;
 use core::str::FromStr;
+
+/// The library's number for an indexed item.
+const INDEXED: u8 = 10;
 
 /// How many characters a fixed code has.
 #[derive(Clone, Copy, Debug, PartialEq, Eq, Hash)]
@@ -54,6 +57,9 @@ pub enum Code {
     },
     /// A genus/version, `-_`.
     GenusVersion,
+    /// An indexed item within a signature group, `-K` or `-L`: `A`, `0B`, `2C`.
+    /// Its table is another one, so that `A` there is no `A` elsewhere.
+    Indexed(IndexedCode),
     /// No code at all: what [`Code::fixed`] makes of a length that none has.
     Unknown,
 }
@@ -100,7 +106,7 @@ impl Code {
         }
     }
 
-    /// The library's two numbers.
+    /// The library's two numbers. Only a primitive's are a code to its writer.
     pub(crate) fn numbers(self) -> (u8, u8) {
         match self {
             Code::Fixed { chars, letter } => (chars as u8, letter),
@@ -109,6 +115,7 @@ impl Code {
             Code::SmallGroup { letter } => (7, letter),
             Code::LargeGroup { letter } => (8, letter),
             Code::GenusVersion => (9, 0),
+            Code::Indexed(code) => (INDEXED, code.letter()),
             Code::Unknown => (0, 0),
         }
     }
@@ -139,6 +146,7 @@ impl Code {
             Code::Small { letter } | Code::Large { letter } => lettered(&VARIABLES, letter),
             Code::SmallGroup { letter } | Code::LargeGroup { letter } => lettered(&GROUPS, letter),
             Code::GenusVersion => Some(GENUS_VERSION),
+            Code::Indexed(code) => code.name(),
             Code::Unknown => None,
         }
     }
@@ -225,6 +233,16 @@ impl Head {
         Head::new(code, lead).unwrap_or(Head { code, lead: 0 })
     }
 
+    /// As the walk answered it: its last number is a variable's lead, or the
+    /// selector of an indexed item.
+    pub(crate) fn walked(chars: usize, letter: usize, last: usize) -> Head {
+        if chars != usize::from(INDEXED) {
+            return Head::answered(Code::answered(chars, letter), last);
+        }
+        let code = Code::Indexed(IndexedCode::answered(last, letter));
+        Head { code, lead: 0 }
+    }
+
     /// The code.
     pub const fn code(&self) -> Code {
         self.code
@@ -246,15 +264,25 @@ impl Head {
     /// assert_eq!(head.name(), Some("Bytes"));
     /// ```
     pub fn of(form: Form, item: &[u8]) -> Option<Head> {
-        let mut unit = [0; 4];
-        match form {
-            Form::Text => unit = *item.first_chunk()?,
-            Form::Binary => {
-                let first: [u8; 3] = *item.first_chunk()?;
-                to_text_into(&first, &mut unit).ok()?;
+        let head = Head::spelt(first_unit(form, item)?);
+        head.filter(|head| head.name().is_some())
+    }
+
+    /// The same within a signature group, where items are indexed ones.
+    ///
+    /// ```
+    /// use cesr::{Form, Head};
+    /// let head = Head::of_indexed(Form::Text, b"0BAB").expect("an indexed code");
+    /// assert_eq!(head.name(), Some("Ed448 indexed sig, current only"));
+    /// ```
+    pub fn of_indexed(form: Form, item: &[u8]) -> Option<Head> {
+        let code = match first_unit(form, item)? {
+            [selector @ (b'0' | b'2' | b'3'), letter, ..] => {
+                IndexedCode::new(Some(selector), letter)
             }
-        }
-        let head = Head::spelt(unit);
+            [letter, ..] => IndexedCode::new(None, letter),
+        };
+        let head = Head::new(Code::Indexed(code), 0);
         head.filter(|head| head.name().is_some())
     }
 
@@ -280,6 +308,19 @@ impl Head {
     }
 }
 
+/// The characters of an item's first unit.
+fn first_unit(form: Form, item: &[u8]) -> Option<[u8; 4]> {
+    match form {
+        Form::Text => item.first_chunk().copied(),
+        Form::Binary => {
+            let mut unit = [0; 4];
+            let first: [u8; 3] = *item.first_chunk()?;
+            to_text_into(&first, &mut unit).ok()?;
+            Some(unit)
+        }
+    }
+}
+
 /// The code's characters: `M`, `0H`, `1AAM`, `5B`, `8AAB`, `-A`, `--A`, `-_`.
 impl fmt::Display for Head {
     fn fmt(&self, f: &mut fmt::Formatter<'_>) -> fmt::Result {
@@ -298,6 +339,7 @@ impl fmt::Display for Head {
             Code::SmallGroup { letter } => write!(f, "-{}", char::from(letter)),
             Code::LargeGroup { letter } => write!(f, "--{}", char::from(letter)),
             Code::GenusVersion => f.write_str("-_"),
+            Code::Indexed(code) => code.fmt(f),
             Code::Unknown => f.write_str("?"),
         }
     }

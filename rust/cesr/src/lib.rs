@@ -9,11 +9,11 @@
 //! | To | Call |
 //! | --- | --- |
 //! | judge a stream | [`judge`], [`judge_into`], [`judge_with`]: a [`Report`] with its rows |
-//! | know what was not looked into | [`opaque`] |
 //! | convert a stream | [`to_binary`], [`to_text`] and their `_into` forms |
 //! | read one primitive | [`read`], [`read_text_into`], [`read_binary_into`]: a [`Value`] |
 //! | write one primitive | [`write()`], [`write_into`] |
 //! | write a value by its type alone | [`write_variable`], [`write_variable_into`] |
+//! | read or write one indexed signature | [`read_indexed`], [`write_indexed`]: an [`IndexedItem`] |
 //! | go through all depths | [`Walk`], an iterator |
 //! | go on later, or by so many items at once | [`State`], saved as bytes, and [`Walk::walk_on`] |
 //! | look at one item of any kind | [`item_at`] |
@@ -70,8 +70,8 @@ mod code;
 mod convert;
 mod expectation;
 mod form;
+mod indexed;
 mod names;
-mod opaque;
 mod primitive;
 mod refusal;
 mod report;
@@ -81,12 +81,15 @@ pub use code::{Chars, Code, Head, ParseCodeError};
 pub use convert::{to_binary, to_binary_into, to_text, to_text_into};
 pub use expectation::{compare, Comparison, Expectation};
 pub use form::{Form, ParseFormError};
-pub use opaque::{opaque, Opaque};
+pub use indexed::{
+    read_indexed, read_indexed_text_into, write_indexed, write_indexed_into, IndexedCode,
+    IndexedItem, ParseIndexedCodeError,
+};
 pub use primitive::{
     read, read_binary_into, read_text_into, write, write_into, write_variable, write_variable_into,
     Primitive, Tag, Value,
 };
-pub use proved::{STATE, STATE_POSITION};
+pub use proved::{STATE, STATE_INDEXED, STATE_OPEN, STATE_POSITION};
 pub use refusal::{Number, Refusal};
 pub use report::{
     judge, judge_into, judge_with, Item, Items, RefusalRow, Refusals, Remainder, Report, Verdict,

@@ -1,7 +1,7 @@
 //! The names of 003's codes, for display only: nothing is decided by them.
 //!
-//! Left out as the library has it: op codes, the grams `0P` to `0S`, the
-//! indexed table and other genera. A test asks the library which codes it
+//! Left out as the library has it: op codes, the grams `0P` to `0S` and other
+//! genera. A test asks the library which codes it
 //! knows and compares.
 
 /// Fixed codes: the code's characters and its name.
@@ -65,6 +65,22 @@ pub(crate) const FIXED: [(&str, &str); 58] = [
     ("1AAN", "Tag8 (8 B64 chars)"),
     ("1AAO", "Escape code for map field values"),
     ("1AAP", "Empty value (nonce/string)"),
+];
+
+/// Indexed codes, which stand within `-K` and `-L` alone.
+pub(crate) const INDEXED: [(&str, &str); 12] = [
+    ("A", "Ed25519 indexed sig, both same"),
+    ("B", "Ed25519 indexed sig, current only"),
+    ("C", "ECDSA secp256k1 indexed sig, both same"),
+    ("D", "ECDSA secp256k1 indexed sig, current only"),
+    ("0A", "Ed448 indexed sig, dual"),
+    ("0B", "Ed448 indexed sig, current only"),
+    ("2A", "Ed25519 indexed sig, big dual"),
+    ("2B", "Ed25519 indexed sig, big current only"),
+    ("2C", "ECDSA secp256k1 indexed sig, big dual"),
+    ("2D", "ECDSA secp256k1 indexed sig, big current only"),
+    ("3A", "Ed448 indexed sig, big dual"),
+    ("3B", "Ed448 indexed sig, big current only"),
 ];
 
 /// Variable types, small and large.

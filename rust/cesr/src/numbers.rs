@@ -34,15 +34,18 @@ numbers! {
     /// Group standing within 64 groups already.
     TooDeep = 11,
     "group standing within 64 groups already";
-    /// Writer: raw length or tag length unfit for the code.
+    /// Writer: raw length, tag length, index or ondex unfit for the code.
     UnfitLength = 12,
-    "writer: raw length or tag length unfit for the code";
+    "writer: raw length, tag length, index or ondex unfit for the code";
     /// Walk state unfit for the stream.
     UnfitState = 13,
     "walk state unfit for the stream";
     /// Primitive asked for, group or genus/version found.
     NotAPrimitive = 14,
     "primitive asked for, group or genus/version found";
+    /// Ondex digits not zero in a code for the current key list only.
+    Ondex = 15,
+    "ondex digits not zero in a code for the current key list only";
     /// Type `A` without its full fill, or text that itself starts with `A`.
     TextFill = 16,
     "type `A` without its full fill, or text that itself starts with `A`";

@@ -78,7 +78,7 @@ impl fmt::Display for Number {
 /// A refusal: its number, and the place in characters or bytes.
 ///
 /// The place is the character for 5 and 19, else the item's start; 0 for 1, 2,
-/// 3, 12, 13, 20 and for a writer's 6, 16 and 18, and for a writer's 5 and 19
+/// 3, 12, 13, 20 and for a writer's 6, 15, 16 and 18, and for a writer's 5 and 19
 /// the index among the tag characters or in the text.
 #[derive(Clone, Copy, Debug, PartialEq, Eq, Hash)]
 pub struct Refusal {

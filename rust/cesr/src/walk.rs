@@ -1,13 +1,14 @@
 //! The walk through a stream's items at all depths, item by item or in
 //! instalments.
 
-use crate::{read, Code, Form, Head, Number, Refusal};
+use crate::{read, Form, Head, Number, Refusal};
 use proved::STATE;
 
 /// The walk's state between two steps: the ends of the open groups, 64 at
 /// most, outermost first, unused ones 0; the number open; the position; whether the
-/// next item is first in an overrideable group, 0 or 1. Ends and position
-/// count units, so the same stream has the same states in both forms.
+/// next item is first in an overrideable group, and whether the innermost open
+/// group holds indexed items, each 0 or 1. Ends and position count units, so the
+/// same stream has the same states in both forms.
 ///
 /// The default is the start of every stream. A state that is unfit for its
 /// stream is refused 13 by the next step.
@@ -35,7 +36,7 @@ impl State {
     /// At so many units, with no group open.
     pub(crate) fn at(units: usize) -> State {
         let mut numbers = [0; STATE];
-        let [.., position, _] = &mut numbers;
+        let [.., position, _, _] = &mut numbers;
         *position = units;
         State(numbers)
     }
@@ -122,7 +123,8 @@ pub struct Step {
 /// Items at all depths, outer before inner, up to the end or the first
 /// refusal, which is yielded last.
 ///
-/// An opaque group (`-K`, `-L`) is yielded and stepped over whole.
+/// A signature group (`-K`, `-L`) is opened as any other; its items are indexed
+/// ones, with a [`Code::Indexed`](crate::Code::Indexed).
 ///
 /// ```
 /// use cesr::{Form, Walk};
@@ -233,21 +235,22 @@ impl core::iter::FusedIterator for Walk<'_> {}
 
 impl Step {
     fn of(item: proved::Item) -> Step {
-        let [offset, size, depth, chars, letter, lead] = item;
+        let [offset, size, depth, chars, letter, last] = item;
         Step {
             offset,
             size,
             depth,
-            head: Head::answered(Code::answered(chars, letter), lead),
+            head: Head::walked(chars, letter, last),
         }
     }
 }
 
 /// The item of any kind at an offset, as it would stand within one group that
 /// ends with the stream: a primitive is framed and judged, a group is framed
-/// and judged by its code (18), its contents are not looked at (those of an
-/// opaque one are), and a genus/version of any version is an item. Its depth
-/// is then 1.
+/// and judged by its code (18), its contents are not looked at, and a
+/// genus/version of any version is an item. Its depth is then 1. What stands
+/// within a signature group is read by another table, see
+/// [`read_indexed`](crate::read_indexed).
 ///
 /// # Errors
 ///
@@ -281,7 +284,7 @@ pub fn item_at(form: Form, stream: &[u8], at: usize) -> Result<Step, Refusal> {
 fn within_a_group(form: Form, stream: &[u8], at: usize) -> Option<Result<Step, Refusal>> {
     let rest = stream.get(at..)?;
     let mut numbers = [0; STATE];
-    let [end, .., open, _, _] = &mut numbers;
+    let [end, .., open, _, _, _] = &mut numbers;
     *end = form.units(rest.len());
     *open = 1;
     let answer = Walk::resumed(form, rest, State(numbers)).next()?;

@@ -100,7 +100,12 @@ fn a_group_has_a_name_exactly_if_the_library_walks_it() {
 
 #[test]
 fn names_are_those_that_the_second_program_has() {
-    use oracle::registry::{FIXED, GENUS_NAME, GROUPS, VARIABLE};
+    use oracle::registry::{FIXED, GENUS_NAME, GROUPS, INDEXED, VARIABLE};
+    for row in INDEXED {
+        let code: cesr::IndexedCode = row.code.parse().expect("an indexed code");
+        assert_eq!(code.name(), Some(row.name));
+        assert_eq!(code.to_string(), row.code);
+    }
     for row in FIXED {
         let code: Code = row.code.parse().expect("a fixed code");
         assert_eq!(code.name(), Some(row.name));
@@ -114,6 +119,34 @@ fn names_are_those_that_the_second_program_has() {
         assert_eq!(Code::LargeGroup { letter }.name(), Some(name));
     }
     assert_eq!(Code::GenusVersion.name(), Some(GENUS_NAME));
+}
+
+/// The library writes an indexed code exactly where it has a name.
+#[test]
+fn indexed_codes_are_those_that_the_library_writes() {
+    let mut known = 0;
+    for selector in 0..=255 {
+        for letter in 0..=255 {
+            let selector = (selector > 0).then_some(selector);
+            let code = cesr::IndexedCode::new(selector, letter);
+            let written = [64, 114]
+                .map(|length| cesr::write_indexed(Form::Text, code, 0, 0, &vec![0; length]));
+            let unknown = |answer: &Result<Vec<u8>, cesr::Refusal>| matches!(answer, Err(refusal) if refusal.number == Number::UnknownCode);
+            let some = written.iter().filter(|answer| answer.is_ok()).count();
+            assert_eq!(
+                code.name().is_none(),
+                written.iter().all(unknown),
+                "{code:?}"
+            );
+            assert_eq!(some, usize::from(code.name().is_some()), "{code:?}");
+            known += some;
+            if let Some(Ok(item)) = written.into_iter().find(Result::is_ok) {
+                let head = Head::of_indexed(Form::Text, &item).expect("an indexed code");
+                assert_eq!(head.code(), Code::Indexed(code));
+            }
+        }
+    }
+    assert_eq!(known, 12);
 }
 
 /// Every first unit over a part of the alphabet: a head is found exactly where

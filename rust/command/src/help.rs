@@ -32,7 +32,9 @@ convert   The whole stream in the other form, to standard output or --out FILE,
           which is replaced when all is written. It looks at no codes: a
           converted stream has not been judged.
 show      One item at an offset, as a stream by itself: code, name, raw value in
-          hexadecimal, text or tag characters; a group with the items inside.
+          hexadecimal, text or tag characters; a group with the items inside; a
+          signature of a group -K or -L with index and ondex. An offset where no
+          item starts is said to be none, and what it lies in.
 manifest  A line for each FILE: SHA256 LENGTH FORM NAME. Names in a manifest are
           relative to its folder. It looks at no codes.
 compare   An expectation file held against a report's bytes (judge --report): how
@@ -56,9 +58,10 @@ Exit status
   2  a call was refused (a stream over the limit), a stream is empty, changed
      while it was read or is other than listed, or something could not be read
      or written
-show says so of its one item. convert, manifest and expect give 0 if all was
-written. compare gives 0 if all is as expected, 1 if anything is otherwise, and 2
-for a file or report that is not well made, or nothing expected and nothing there.
+show says so of its one item, and gives 1 where no item starts. convert, manifest
+and expect give 0 if all was written. compare gives 0 if all is as expected, 1 if
+anything is otherwise, and 2 for a file or report that is not well made, or
+nothing expected and nothing there.
 --help behind a command gives 2: nothing was judged.
 ";
 

@@ -92,6 +92,11 @@ const WORDS: &[(Number, &str, &str)] = &[
         "the offset of a group: its items stand behind its header",
     ),
     (
+        Number::Ondex,
+        "A signature for the current keys alone says a place among the next ones.",
+        "a code for the current key list with the ondex of one that has both",
+    ),
+    (
         Number::TextFill,
         "Text must be filled up in front with A, and may not start with A itself.",
         "text filled up behind its end, or another selector than its length asks for",

@@ -7,7 +7,10 @@
 //! the size that the library gives it with enough behind its header.
 
 use crate::words::measured;
-use cesr::{item_at, to_text, Code, Form, Head, Number, Refusal, Step, Walk, STATE_POSITION};
+use cesr::{
+    item_at, read_indexed, to_text, Code, Form, Head, IndexedCode, Number, Refusal, Step, Walk,
+    STATE_INDEXED, STATE_OPEN, STATE_POSITION,
+};
 
 /// Characters behind a header that are enough for an item: a fixed one, a small
 /// one, a large one.
@@ -48,17 +51,28 @@ impl Inner {
         for group in &mut groups {
             group.offset = group.offset.saturating_add(start);
         }
+        let head = match is_indexed(&walk) {
+            true => Head::of_indexed(form, here),
+            false => Head::of(form, here),
+        };
+        let inner = Inner::new(form, head, here, at.saturating_add(start));
+        Inner { groups, ..inner }
+    }
+
+    /// An indexed item that starts what is left of its group.
+    pub fn indexed(form: Form, left: &[u8], start: usize) -> Inner {
+        Inner::new(form, Head::of_indexed(form, left), left, start)
+    }
+
+    fn new(form: Form, head: Option<Head>, left: &[u8], at: usize) -> Inner {
+        let start = left.iter().take(form.unit().saturating_mul(2));
         Inner {
             form,
-            groups,
-            at: at.saturating_add(start),
-            head: Head::of(form, here),
-            start: here
-                .iter()
-                .take(form.unit().saturating_mul(2))
-                .copied()
-                .collect(),
-            left: here.len(),
+            groups: Vec::new(),
+            at,
+            head,
+            start: start.copied().collect(),
+            left: left.len(),
         }
     }
 
@@ -75,11 +89,14 @@ impl Inner {
     }
 
     /// The size that it asks for: of its header where that is not all there.
-    fn size(&self) -> Option<usize> {
+    pub fn size(&self) -> Option<usize> {
         let unit = self.form.unit();
         let Some(head) = self.head else {
             return (self.left < unit).then_some(unit);
         };
+        if let Code::Indexed(code) = head.code() {
+            return self.indexed_size(code);
+        }
         let units: usize = match head.code() {
             Code::Large { .. } | Code::LargeGroup { .. } | Code::GenusVersion => 2,
             _ => 1,
@@ -97,6 +114,28 @@ impl Inner {
         let units = size_in_text(&header)?.checked_div(Form::Text.unit())?;
         Some(units.saturating_mul(unit))
     }
+
+    /// An indexed item's size is its code's, and zeros behind that are right.
+    fn indexed_size(&self, code: IndexedCode) -> Option<usize> {
+        let mut whole = code.to_string().into_bytes();
+        whole.resize(256, b'A');
+        let size = read_indexed(Form::Text, &whole, 0).ok()?.size;
+        let units = size.checked_div(Form::Text.unit())?;
+        Some(units.saturating_mul(self.form.unit()))
+    }
+}
+
+/// Does a walk stand within a group of indexed items?
+pub fn is_indexed(walk: &Walk) -> bool {
+    walk.state().numbers().get(STATE_INDEXED) == Some(&1)
+}
+
+/// The end of the innermost group that a walk has open.
+pub fn innermost(form: Form, walk: &Walk) -> Option<usize> {
+    let state = walk.state();
+    let open = state.numbers().get(STATE_OPEN)?.checked_sub(1)?;
+    let units = state.numbers().get(open)?;
+    Some(units.saturating_mul(form.unit()))
 }
 
 /// Where a walk stands: behind what it yielded, before what it refused.
@@ -161,6 +200,9 @@ mod tests {
             ),
             (b"7AAB____", "asks for more, 8 characters are left"),
             (b"MAAB\n", "asks for 4 characters, 1 character is left"),
+            // By the indexed table: 88 and 92.
+            (b"-KABAAAA", "asks for 88 characters, 4 characters are left"),
+            (b"-KAB2DAA", "asks for 92 characters, 4 characters are left"),
         ] {
             let told = asked(Form::Text, part);
             let stranger = part.contains(&b'!');

@@ -58,9 +58,8 @@ fn judged(out: &mut dyn Write, input: &Input, report: &Report, all: bool) -> io:
         Some(rest) => remainder(out, input, rest)?,
         None => write!(out, ",\"remainder\":null")?,
     }
-    let opaque = cesr::opaque(input.form, &input.bytes, report).groups;
     let zeros = input.is_all_zeros();
-    write!(out, ",\"opaque\":{opaque},\"zeros\":{zeros}")?;
+    write!(out, ",\"zeros\":{zeros}")?;
     if all {
         listed(out, "rows", report.items(), |out, item| {
             row(out, input, &item)

@@ -37,6 +37,7 @@ mod memory;
 mod name;
 mod outcome;
 mod pages;
+mod place;
 mod readable;
 mod replace;
 mod sarif;

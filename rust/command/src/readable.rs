@@ -8,9 +8,7 @@ use crate::outcome::{code_and_name, Found, Outcome};
 use crate::standing::Standing;
 use crate::terminal::Paint;
 use crate::words::{counted, measured};
-use cesr::{
-    Code, Form, Head, Item, Number, Opaque, Refusal, RefusalRow, Remainder, Report, Verdict,
-};
+use cesr::{Code, Form, Head, Item, Number, Refusal, RefusalRow, Remainder, Report, Verdict};
 use std::io::{self, Write};
 use std::ops::Range;
 
@@ -30,7 +28,7 @@ pub fn in_a_line(outcome: &Outcome) -> String {
             let detected = if input.detected { " (detected)" } else { "" };
             let mut parts = vec![format!("{}{detected}, {}", input.form, sums(report))];
             parts.extend(first_fault(report));
-            parts.extend(unseen(input, report));
+            parts.extend(beware(input).map(str::to_string));
             parts.join("; ")
         }
         (_, complaint) => complaint.unwrap_or_default(),
@@ -62,21 +60,9 @@ fn first_fault(report: &Report) -> Option<String> {
     Some(format!("first refused {number} at {place}"))
 }
 
-/// What may be accepted and was not looked into.
-pub fn unseen(input: &Input, report: &Report) -> Vec<String> {
-    let mut unseen = Vec::new();
-    if input.is_all_zeros() {
-        unseen.push("every byte is 0".to_string());
-    }
-    unseen.extend(opaque(input.form, &input.bytes, report));
-    unseen
-}
-
-/// The groups in accepted items whose contents nobody looked at.
-pub fn opaque(form: Form, stream: &[u8], report: &Report) -> Option<String> {
-    let Opaque { groups, size } = cesr::opaque(form, stream, report);
-    let (said, size) = (counted(groups, "opaque group"), measured(form, size));
-    (groups > 0).then(|| format!("{said} with {size} not looked into"))
+/// What a person must weigh beside the verdict.
+pub fn beware(input: &Input) -> Option<&'static str> {
+    input.is_all_zeros().then_some("every byte is 0")
 }
 
 /// One stream in full: sums, with `all` every item, then refused items and the
@@ -90,7 +76,7 @@ pub fn block(out: &mut dyn Write, outcome: &Outcome, all: bool, paint: Paint) ->
     let length = measured(input.form, input.bytes.len());
     writeln!(out, "{word}{}: {}", outcome.name, sums(report))?;
     writeln!(out, "        {}, {length}", input.form_in_words())?;
-    for part in unseen(input, report) {
+    if let Some(part) = beware(input) {
         writeln!(out, "        {part}")?;
     }
     if all {
@@ -174,22 +160,16 @@ fn refused(
     let size = measured(input.form, item.size);
     writeln!(out, "        {code} {name}, {size} from {}", item.offset)?;
     bytes_at(out, input, item.range(), row.refusal)?;
-    asked(out, input, item.range(), row.refusal)
+    let inner = || Inner::of(input.form, item.of(&input.bytes), item.offset);
+    asked(out, inner, row.refusal)
 }
 
 /// For 4: how much is asked for and how much is left.
-pub fn asked(
-    out: &mut dyn Write,
-    input: &Input,
-    part: Range<usize>,
-    refusal: Refusal,
-) -> io::Result<()> {
+pub fn asked(out: &mut dyn Write, inner: impl Fn() -> Inner, refusal: Refusal) -> io::Result<()> {
     if refusal.number != Number::PastEnd {
         return Ok(());
     }
-    let start = part.start;
-    let part = input.bytes.get(part).unwrap_or_default();
-    match Inner::of(input.form, part, start).asked(refusal) {
+    match inner().asked(refusal) {
         Some(asked) => writeln!(out, "        {asked}"),
         None => Ok(()),
     }
@@ -203,7 +183,14 @@ fn remainder(out: &mut dyn Write, input: &Input, rest: Remainder, paint: Paint) 
     writeln!(out, "\n{verdict}: {}", number.words())?;
     writeln!(out, "        {left} not judged")?;
     bytes_at(out, input, offset..refusal.place, refusal)?;
-    asked(out, input, offset..input.bytes.len(), refusal)
+    let inner = || {
+        Inner::of(
+            input.form,
+            input.bytes.get(offset..).unwrap_or_default(),
+            offset,
+        )
+    };
+    asked(out, inner, refusal)
 }
 
 /// The bytes of an item with a caret, and a note where one helps.

@@ -104,7 +104,7 @@ fn as_expected_or_otherwise() {
             "faults.cesr",
             1,
             "otherwise  standard input: 5 expected, 0 passed, 5 failed, 0 not reached, \
-             7 beyond, remainders agree\n",
+             8 beyond, remainders agree\n",
         ),
     ] {
         let ran = fed(&["compare", &first], &report(name));

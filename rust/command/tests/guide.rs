@@ -82,10 +82,15 @@ fn commands_of_the_guide_print_what_it_shows() {
     let guide = page("docs/GUIDE.md");
     let programs = blocks(&guide, "c");
     let blocks = blocks(&guide, "console");
-    assert!(blocks.len() >= 14 && programs.len() == 1);
+    assert!(blocks.len() >= 14 && programs.len() == 2);
     // The blocks stand in one place, as a reader's would.
     let folder = place();
-    folder.file("judge.c", programs[0].as_bytes());
+    for program in programs {
+        let name = program
+            .strip_prefix("/* ")
+            .and_then(|line| line.split(':').next());
+        folder.file(name.expect("its file's name"), program.as_bytes());
+    }
     for block in blocks {
         assert_eq!(ran(&block, folder.path()), block);
     }

@@ -204,47 +204,6 @@ fn without_memory_every_stream_has_its_line() {
     }
 }
 
-/// 01: `-K` and `-L` hold any units in the alphabet; `_AAA` is no code. How
-/// many such groups an accepted item holds, and how much is in them. An empty
-/// group hides nothing, and of what is refused nothing is accepted.
-const OPAQUE: [(&[u8], usize, &str); 4] = [
-    (b"-KAB_AAAMAAB", 1, "1 opaque group with 4 characters"),
-    (
-        b"-AAG-KAC_AAA_AAA-LAB_AAA-KAA",
-        2,
-        "2 opaque groups with 12 characters",
-    ),
-    (b"-KAA-LAA-AAA", 0, ""),
-    (
-        b"-AAD-KAB_AAAMQAA-LAB____",
-        1,
-        "1 opaque group with 4 characters",
-    ),
-];
-
-#[test]
-fn what_was_not_looked_into_is_said() {
-    for (stream, groups, said) in OPAQUE {
-        let ran = fed(&["judge"], stream);
-        let line = format!(" characters\n        {said} not looked into\n");
-        assert_eq!(ran.text().contains(&line), groups > 0, "{}", ran.text());
-        assert_eq!(ran.text().contains("opaque"), groups > 0, "{}", ran.text());
-        let ran = fed(&["judge", "-", "samples/clean.cesr"], stream);
-        let end = format!("; {said} not looked into\n");
-        assert_eq!(ran.text().contains(&end), groups > 0, "{}", ran.text());
-    }
-}
-
-/// The large `--L` has 4,096 units behind a header of two.
-#[test]
-fn a_large_opaque_group_is_counted_whole() {
-    let mut stream = b"--LAABAA".to_vec();
-    stream.extend(b"_AAA".repeat(4096));
-    let ran = fed(&["judge"], &stream);
-    let said = "        1 opaque group with 16384 characters not looked into\n";
-    assert!(ran.text().contains(said), "{}", ran.text());
-}
-
 /// 02 h: what is refused for its large code has a small one, which is told in
 /// both forms.
 #[test]
@@ -321,35 +280,6 @@ fn the_fill_of_a_text_is_told() {
         assert!(ran.text().contains("refused 16 at "), "{}", ran.text());
         let binary = fed(&["convert", "--to", "binary"], stream.as_bytes()).out;
         let ran = fed(&["judge", "--form=binary"], &binary);
-        assert!(ran.text().contains(&said), "{}", ran.text());
-    }
-}
-
-/// So where one item is shown.
-#[test]
-fn what_was_not_looked_into_is_said_of_an_item() {
-    let told = "stream   standard input: text
-offset   4
-code     -K
-name     Indexed controller signature group
-size     8 characters
-inside   1 opaque group with 4 characters not looked into
-verdict  accepted
-";
-    let ran = fed(&["show", "4", "--form", "text"], b"MAAB-KAB_AAA");
-    assert_eq!((ran.status, ran.text().as_str()), (0, told));
-    let ran = fed(&["show", "0", "--form", "text"], b"-AABMAAB");
-    assert!(!ran.text().contains("opaque"));
-}
-
-#[test]
-fn what_was_not_looked_into_is_counted_in_json() {
-    for (stream, groups, _) in OPAQUE {
-        let said = format!(",\"opaque\":{groups},\"zeros\":false");
-        let ran = fed(&["judge", "--json"], stream);
-        assert!(ran.text().contains(&said), "{}", ran.text());
-        let binary = fed(&["convert", "--to", "binary"], stream).out;
-        let ran = fed(&["judge", "--json", "--form", "binary"], &binary);
         assert!(ran.text().contains(&said), "{}", ran.text());
     }
 }

@@ -83,26 +83,21 @@ assert float(refused[0]['width'].rstrip('%')) >= 0.3, refused
     assert_eq!(reads(&page, script), "");
 }
 
-/// What is not looked into, and what is deeper than the rows.
+/// What stands in groups, of signatures too, and what is deeper than the rows.
 #[test]
 fn groups_are_drawn_with_their_contents() {
-    let (ran, page) = beside("--html", &["--form", "text"], b"-AAE-KAC_AAA_AAAMAAB");
+    let stream = format!("-AAY-KAW{}MAAB", "A".repeat(88));
+    let (ran, page) = beside("--html", &["--form", "text"], stream.as_bytes());
     assert_eq!(ran.status, 0);
     let script = "
-assert sorted(rect['class'] for rect in page.rects) == ['accepted'] * 3 + ['opaque'], page.rects
-assert 'not looked into' in text and 'Beware 1 opaque group with 8 characters' in text, text
+assert [rect['class'] for rect in page.rects] == ['accepted'] * 4, page.rects
 ";
     assert_eq!(reads(&page, script), "");
-    // Not looked into before a refusal as well; a group that holds nothing hides nothing.
-    let (_, page) = beside("--html", &["--form", "text"], b"-AAE-KAB_AAAMQAA-AAA-KAA");
-    let script = "
-kinds = sorted(rect['class'] for rect in page.rects)
-assert kinds == ['accepted'] * 2 + ['opaque'] + ['refused'] * 2, page.rects
-";
-    assert_eq!(reads(&page, script), "");
-    // A stranger in a group that is not looked into: the group itself is refused.
+    // A stranger in a signature group: it is refused where it stands.
     let (_, page) = beside("--html", &["--form", "text"], b"-KACAAA!_AAA");
-    let script = "assert [rect['class'] for rect in page.rects] == ['refused'], page.rects";
+    let script = "
+assert [rect['class'] for rect in page.rects] == ['refused'] * 2, page.rects
+";
     assert_eq!(reads(&page, script), "");
     let (_, page) = beside("--html", &["samples/faults.cesr"], b"");
     let script = "assert 'items deeper than 6 groups not drawn' in text, text";

@@ -4,7 +4,9 @@
 use crate::fence::{Edge, Fence, LONGEST};
 use crate::input::{Call, Front, Made, Room, LONG, LONG_UNITS};
 use crate::long;
-use proved::{Info, Pause, Primitive, Refusal, State, Tag, INFO, INFO_TEXT, STATE};
+use proved::{
+    Indexed, Info, Pause, Primitive, Refusal, State, Tag, INDEXED, INFO, INFO_TEXT, STATE,
+};
 use std::cell::RefCell;
 use streams::Form;
 
@@ -52,7 +54,9 @@ pub fn one(input: &[u8]) {
             Call::Write => write(memory, form, room, front),
             Call::Read => {
                 let at = front.number();
-                read(memory, form, room, &front.stream(form, long), at);
+                let stream = front.stream(form, long);
+                read(memory, form, room, &stream, at);
+                read_indexed(memory, form, room, &stream, at);
             }
             Call::WalkFrom => {
                 let state = front.state();
@@ -79,6 +83,7 @@ fn stream(memory: &mut Memory, call: Call, form: Form, room: Room, stream: &[u8]
         Call::ReadItems => {
             for at in walk(memory, form, stream, [0; STATE], steps.min(40)) {
                 read(memory, form, room, stream, at);
+                read_indexed(memory, form, room, stream, at);
             }
         }
         Call::Walk => {
@@ -170,9 +175,90 @@ fn read(memory: &mut Memory, form: Form, room: Room, stream: &[u8], at: usize) {
     assert_eq!(source, stream);
 }
 
+/// The room asked is the raw value's length; of a binary none is asked.
+fn read_indexed(memory: &mut Memory, form: Form, room: Room, stream: &[u8], at: usize) {
+    let edge = memory.edge;
+    let source = placed(&mut memory.stream, edge, stream);
+    let info = memory.numbers.numbers(edge, [NUMBER; INDEXED]);
+    let mut told_info = [NUMBER; INDEXED];
+    if form == Form::Binary {
+        let ours = proved::read_indexed_binary(source, at, info);
+        assert_eq!(
+            ours,
+            beside::read_indexed_binary(stream, at, &mut told_info)
+        );
+    } else {
+        let asked = beside::read_indexed_text(stream, at, &mut [0; 114], &mut told_info);
+        told_info = [NUMBER; INDEXED];
+        let room = room.of(asked.unwrap_or(0));
+        let out = memory.out.lend(edge, room, HELD);
+        let mut told_out = vec![HELD; room];
+        let ours = proved::read_indexed_text(source, at, out, info);
+        let told = beside::read_indexed_text(stream, at, &mut told_out, &mut told_info);
+        assert_eq!(ours, told);
+        assert_eq!(out, told_out);
+    }
+    assert_eq!(*info, told_info);
+    assert_eq!(source, stream);
+}
+
+/// An indexed item of a primitive's bytes: low numbers choose a selector, and
+/// the tag is index and ondex.
+pub fn indexed_item<'r>(code: (u8, u8), tag: Tag, raw: &'r [u8]) -> Indexed<'r> {
+    let selector = match code.0 {
+        low @ ..=63 => [0, b'0', b'2', b'3'][usize::from(low % 4)],
+        other => other,
+    };
+    let number = |from: usize| {
+        let bytes = [tag[from], tag[from + 1], tag[from + 2], tag[from + 3]];
+        (u32::from_be_bytes(bytes) >> (8 * (tag[10] & 3))) as usize
+    };
+    let has_ondex = !tag[9].is_multiple_of(2);
+    Indexed {
+        selector,
+        letter: code.1,
+        index: number(0),
+        ondex: if has_ondex { number(4) } else { 0 },
+        raw,
+    }
+}
+
+/// A raw value over and over, with a length that some code has, or its own.
+pub fn indexed_raw(tag: Tag, raw: &[u8]) -> Vec<u8> {
+    let length = [64, 114, raw.len().min(200)][usize::from(tag[8] % 3)];
+    let some: &[u8] = if raw.is_empty() { &[0] } else { raw };
+    some.iter().copied().cycle().take(length).collect()
+}
+
+fn write_indexed(
+    memory: &mut Memory,
+    form: Form,
+    room: Room,
+    code: (u8, u8),
+    tag: Tag,
+    raw: &[u8],
+) {
+    let raw = indexed_raw(tag, raw);
+    let item = |raw| indexed_item(code, tag, raw);
+    let [proved, oracle] = match form {
+        Form::Text => [proved::write_indexed_text, beside::write_indexed_text],
+        Form::Binary => [proved::write_indexed_binary, beside::write_indexed_binary],
+    };
+    let asked = oracle(&item(&raw), &mut [0; 160]).unwrap_or(0);
+    let room = room.of(asked);
+    let placed = placed(&mut memory.stream, memory.edge, &raw);
+    let ours = memory.out.lend(memory.edge, room, HELD);
+    let mut theirs = vec![HELD; room];
+    let answer = proved(&item(placed), ours);
+    assert_eq!(answer, oracle(&item(&raw), &mut theirs));
+    assert_eq!(ours, theirs);
+    assert_eq!(placed, raw);
+}
+
 fn write(memory: &mut Memory, form: Form, room: Room, mut front: Front) {
     let (chars, letter, tags, tag) = front.primitive();
     let raw = front.raw();
+    write_indexed(memory, form, room, (chars, letter), tag, &raw);
     let [proved, oracle] = match form {
         Form::Text => [proved::write_text, beside::write_text],
         Form::Binary => [proved::write_binary, beside::write_binary],

@@ -4,11 +4,13 @@
 //! | --- | --- |
 //! | 0 | call (bits 0 to 2), binary (bit 3), buffers against the page before them (bit 4), one too long (bits 5 to 7 all set), a comparison (bits 6 and 7 alone of these set) |
 //! | 1 | room: just enough, one less, none, nine more, or the number itself; of a walk the budget: without bound, 1, 0, 64, or the number itself; 255 just enough, and the stream is a long one |
-//! | then | comparison: how the two are made (bits 0 to 2 of byte 0), the number of verdicts expected, these, and a remainder's number, or the file's length and the file; read: two bytes of offset; walk from a state: the state; write: the primitive |
+//! | then | comparison: how the two are made (bits 0 to 2 of byte 0), the number of verdicts expected, these, and a remainder's number, or the file's length and the file; read: two bytes of offset; walk from a state: the state; write: the primitive, and an indexed item of the same bytes |
 //! | then | the stream, or the raw value or text; of a long stream the last unit is taken over and over |
 
 use crate::fence::{Edge, LONGEST};
-use proved::{State, Tag, MAX_DEPTH, STATE, STATE_FIRST, STATE_OPEN, STATE_POSITION};
+use proved::{
+    State, Tag, MAX_DEPTH, STATE, STATE_FIRST, STATE_INDEXED, STATE_OPEN, STATE_POSITION,
+};
 use std::borrow::Cow;
 use streams::expectation::file;
 use streams::Form;
@@ -166,7 +168,8 @@ impl Front<'_> {
         Cow::Owned(stream)
     }
 
-    /// The number open, the position, the mark, and how many ends follow.
+    /// The number open, the position, the marks, and how many ends follow. One byte
+    /// has both marks, so that either may be no mark.
     pub fn state(&mut self) -> State {
         let mut state = [0; STATE];
         state[STATE_OPEN] = match self.byte() {
@@ -174,7 +177,9 @@ impl Front<'_> {
             open => usize::from(open),
         };
         state[STATE_POSITION] = self.number();
-        state[STATE_FIRST] = usize::from(self.byte());
+        let marks = self.byte();
+        state[STATE_FIRST] = usize::from(marks & 15);
+        state[STATE_INDEXED] = usize::from(marks >> 4);
         let ends = usize::from(self.byte()) % (MAX_DEPTH + 1);
         state[..ends].fill_with(|| self.number());
         state

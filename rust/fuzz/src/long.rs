@@ -4,7 +4,7 @@
 
 use crate::calls::{HELD, NUMBER};
 use crate::input::{Call, Front, Room};
-use proved::{Primitive, Refusal, INFO};
+use proved::{Primitive, Refusal, INDEXED, INFO};
 use std::sync::OnceLock;
 use streams::table::TEXT;
 use streams::Form;
@@ -22,7 +22,11 @@ pub fn one(call: Call, form: Form, lent_room: Room, mut front: Front) {
         Form::Binary => zeros(3_145_729),
     };
     match call {
-        Call::Read | Call::ReadItems => read(form, stream, room, front.number()),
+        Call::Read | Call::ReadItems => {
+            let at = front.number();
+            read(form, stream, room, at);
+            read_indexed(form, stream, room, at);
+        }
         Call::Walk | Call::WalkFrom => walk(form, stream, front, lent_room.budget()),
         Call::Write => write(form, room, front),
         Call::Report | Call::Convert | Call::All | Call::Compare => lent(form, stream, room),
@@ -63,6 +67,23 @@ fn read(form: Form, stream: &[u8], room: usize, at: usize) {
     };
     assert_eq!(answers.0, answers.1);
     assert_eq!((out, tag, info), (told_out, told_tag, told_info));
+}
+
+fn read_indexed(form: Form, stream: &[u8], room: usize, at: usize) {
+    let (mut out, mut info) = (vec![HELD; room], [NUMBER; INDEXED]);
+    let (mut told_out, mut told_info) = (out.clone(), info);
+    let answers = match form {
+        Form::Text => (
+            proved::read_indexed_text(stream, at, &mut out, &mut info),
+            beside::read_indexed_text(stream, at, &mut told_out, &mut told_info),
+        ),
+        Form::Binary => (
+            proved::read_indexed_binary(stream, at, &mut info),
+            beside::read_indexed_binary(stream, at, &mut told_info),
+        ),
+    };
+    assert_eq!(answers.0, answers.1);
+    assert_eq!((out, info), (told_out, told_info));
 }
 
 fn walk(form: Form, stream: &[u8], mut front: Front, budget: usize) {

@@ -1,7 +1,7 @@
 //! Inputs to start from: the papers' streams, an item of every code, large ones
 //! for few units too and around 4,096, groups around the depth limit, streams so
-//! long that conversion goes by its tables, a primitive of every code to write,
-//! some states, some comparisons.
+//! long that conversion goes by its tables, a primitive and an indexed item of
+//! every code to write, some states, some comparisons.
 
 use crate::input::{Call, CALLS, COMPARE, LONG};
 use streams::damage::GENUS_CODES;
@@ -9,7 +9,7 @@ use streams::expectation::{file, report};
 use streams::form::FORMS;
 use streams::generate::{large_code, nested, one_code, CODES, LARGE_CODES};
 use streams::item::{stream, Item};
-use streams::table::{Kind, FIXED, HEADS, TEXT, TYPES};
+use streams::table::{Kind, FIXED, HEADS, INDEXED, TEXT, TYPES};
 use streams::{papers, Form, Random};
 
 /// The first byte of an input.
@@ -35,6 +35,7 @@ pub fn seeds() -> Vec<Vec<u8>> {
     for form in FORMS {
         seeds.push([&[choice(Call::Convert, form), 0], &form.of_text(&long)[..]].concat());
         seeds.extend(writes(form));
+        seeds.extend(indexed_writes(form));
         seeds.extend(states(form));
         for header in [&b"--JAABAA"[..], b"--AAAA__", b"7AABABAA", b"9AABAA__"] {
             let made = form.of_text(&[header, b"AAAA"].concat());
@@ -106,6 +107,30 @@ fn text_write(form: Form, chars: u8, length: [u8; 2], text: &[u8]) -> Vec<u8> {
     [&head[..], &[0; 11], &length, text].concat()
 }
 
+/// The same bytes as `calls::write_indexed` takes them: a number that chooses
+/// the selector, the letter, and in the tag index, ondex, which raw length,
+/// whether there is an ondex, and by how many bytes both are shifted.
+pub fn indexed_writes(form: Form) -> Vec<Vec<u8>> {
+    let row = |row: &streams::table::Indexed| {
+        let (place, letter) = match *row.code.as_bytes() {
+            [selector, letter] => (b"?023".iter().position(|known| *known == selector), letter),
+            _ => (Some(0), row.code.as_bytes()[0]),
+        };
+        let most = |digits: usize| ((1u32 << (6 * digits)) - 1).to_be_bytes();
+        let is_long = u8::from(row.raw() == 114);
+        let has_ondex = u8::from(row.ondex > 0 && !row.current);
+        let start = [choice(Call::Write, form), 0];
+        let head = [place.unwrap_or(0) as u8, letter, 0];
+        let tag = [
+            &most(row.index)[..],
+            &most(row.ondex),
+            &[is_long, has_ondex, 0],
+        ];
+        [&start[..], &head, &tag.concat(), &[0, 0], &[0x5A]].concat()
+    };
+    INDEXED.iter().map(row).collect()
+}
+
 /// Files and reports as bytes; verdicts with a stream's own report, right and
 /// one off.
 fn compares() -> Vec<Vec<u8>> {
@@ -124,14 +149,20 @@ fn compares() -> Vec<Vec<u8>> {
     seeds
 }
 
-/// Three units in a group, from inside it; and a state that does not fit.
+/// Three units in a group, from inside it, and a state that does not fit; a
+/// signature in its group, from inside it with one mark and both, without its
+/// mark, and a mark with none open.
 fn states(form: Form) -> Vec<Vec<u8>> {
     let start = [choice(Call::WalkFrom, form), 0];
     let made = form.of_text(b"-AADMAAB0J_A1AAKMAAB");
-    let state = |open, position, mark| [open, 0, position, mark, 1, 0, 4];
-    [state(1, 1, 1), state(1, 2, 0), state(2, 2, 0)]
-        .map(|state| [&start[..], &state, &made].concat())
-        .to_vec()
+    let signed = form.of_text(&[&b"-KAWAB"[..], &[b'A'; 86]].concat());
+    let state = |open, position, marks, end| [open, 0, position, marks, 1, 0, end];
+    let plain = [state(1, 1, 1, 4), state(1, 2, 0, 4), state(2, 2, 0, 4)];
+    let plain = plain.map(|state| [&start[..], &state, &made].concat());
+    let inside = [0x10, 0x11, 0].map(|marks| state(1, 1, marks, 23));
+    let inside = inside.map(|state| [&start[..], &state, &signed].concat());
+    let none_open = [&start[..], &[0, 0, 0, 0x10, 0], &signed].concat();
+    [&plain[..], &inside, &[none_open]].concat()
 }
 
 /// Words that a fuzzer may put anywhere: heads in both forms.
@@ -150,6 +181,20 @@ pub fn dictionary() -> String {
 mod tests {
     use super::*;
     use crate::input::Front;
+
+    #[test]
+    fn every_indexed_write_is_accepted() {
+        for form in FORMS {
+            for seed in indexed_writes(form) {
+                let mut front = Front(&seed[2..]);
+                let (chars, letter, _, tag) = front.primitive();
+                let raw = crate::calls::indexed_raw(tag, &front.raw());
+                let item = crate::calls::indexed_item((chars, letter), tag, &raw);
+                let answer = proved::write_indexed_text(&item, &mut [0; 160]);
+                assert!(answer.is_ok(), "{answer:?} {item:?}");
+            }
+        }
+    }
 
     #[test]
     fn every_write_is_accepted() {

@@ -6,7 +6,7 @@
 
 use crate::form::Form;
 use crate::refusal::{Refusal, GENUS_VERSION, PAST_END, UNKNOWN_CODE};
-use crate::registry::{self, Code};
+use crate::registry::{self, Code, Table};
 
 /// A framed item. Offset and sizes are in the stream's own measure.
 #[derive(Clone, Copy, Debug, PartialEq, Eq)]
@@ -36,6 +36,17 @@ impl Frame {
 /// Frames the item at `offset`, which must not pass `end`: the end of the
 /// stream or of the innermost enclosing group (D10).
 pub fn frame(stream: &[u8], form: Form, offset: usize, end: usize) -> Result<Frame, Refusal> {
+    frame_by(Table::Master, stream, form, offset, end)
+}
+
+/// The same with the code looked up in either table.
+pub fn frame_by(
+    table: Table,
+    stream: &[u8],
+    form: Form,
+    offset: usize,
+    end: usize,
+) -> Result<Frame, Refusal> {
     let unit = form.unit();
     let left = end.min(stream.len()).saturating_sub(offset);
     // The place of 4 is always the item's start (D10).
@@ -44,7 +55,8 @@ pub fn frame(stream: &[u8], form: Form, offset: usize, end: usize) -> Result<Fra
         return past_end;
     }
     form.check_alphabet(stream, offset, offset + unit)?;
-    let Some(code) = first_unit(stream, form, offset).and_then(registry::identify) else {
+    let first = first_unit(stream, form, offset);
+    let Some(code) = first.and_then(|unit| table.identify(unit)) else {
         return Err(Refusal::new(UNKNOWN_CODE, offset));
     };
     let header = code.header_units() * unit;
@@ -52,7 +64,7 @@ pub fn frame(stream: &[u8], form: Form, offset: usize, end: usize) -> Result<Fra
         return past_end;
     }
     form.check_alphabet(stream, offset + unit, offset + header)?;
-    let count = number(stream, form, offset, code);
+    let count = number(stream, form, offset, code.digits());
     let size = code.units(count) * unit as u64;
     if size > left as u64 {
         return past_end;
@@ -98,9 +110,10 @@ fn first_unit(stream: &[u8], form: Form, offset: usize) -> Option<[u8; 4]> {
     Some(unit)
 }
 
-/// n: base 64, most significant digit first.
-fn number(stream: &[u8], form: Form, offset: usize, code: Code) -> u64 {
-    code.digits().fold(0, |n, index| {
+/// A number in the digits with these places in an item: base 64, most
+/// significant digit first; 0 where there are none.
+pub fn number(stream: &[u8], form: Form, offset: usize, digits: std::ops::Range<usize>) -> u64 {
+    digits.fold(0, |n, index| {
         let digit = form.sextet(stream, offset, index).unwrap_or(0);
         n * 64 + u64::from(digit)
     })
@@ -217,6 +230,61 @@ mod tests {
         // `-_AA` `ABAA`: FB F0 00, 00 10 00.
         let old = frame_top_level(&[0xFB, 0xF0, 0, 0, 0x10, 0], Form::Binary, 0);
         assert_eq!(old, Err(Refusal::new(7, 0)));
+    }
+
+    /// Full size and header of an indexed item, or number and place.
+    fn indexed(stream: &str) -> Result<(usize, usize), (u8, usize)> {
+        let stream = stream.as_bytes();
+        frame_by(Table::Indexed, stream, Form::Text, 0, stream.len())
+            .map(|framed| (framed.size, framed.header))
+            .map_err(|refused| (refused.number, refused.place))
+    }
+
+    #[test]
+    fn indexed_items_by_their_own_table() {
+        for row in registry::INDEXED {
+            let header = 4 * row.header_units();
+            let whole = format!("{}{}", row.code, "A".repeat(row.full - row.code.len()));
+            assert_eq!(indexed(&whole), Ok((row.full, header)));
+            assert_eq!(indexed(&format!("{whole}!!!!")), Ok((row.full, header)));
+            // 4 for the extent, for the second unit and for the first one.
+            for left in [row.full - 1, row.full - 4, header, header - 1, 3, 1, 0] {
+                assert_eq!(indexed(&whole[..left]), Err((4, 0)), "{} {left}", row.code);
+            }
+            // A stranger in the header is framing's, and before the extent.
+            for place in row.code.len()..row.full {
+                for (stranger, number) in [("!", 5), ("+", 19)] {
+                    let mut strange = whole.clone();
+                    strange.replace_range(place..place + 1, stranger);
+                    let found = indexed(&strange);
+                    if place < header {
+                        assert_eq!(found, Err((number, place)));
+                        assert_eq!(indexed(&strange[..header]), Err((number, place)));
+                    } else {
+                        assert_eq!(found, Ok((row.full, header)));
+                    }
+                }
+            }
+        }
+    }
+
+    #[test]
+    fn the_indexed_orders_of_framing() {
+        // 5 before 6 in the first unit, 6 before the second unit is asked for.
+        assert_eq!(indexed("E!AA"), Err((5, 1)));
+        assert_eq!(indexed("2EA="), Err((19, 3)));
+        assert_eq!(indexed("2EAA"), Err((6, 0)));
+        assert_eq!(indexed("2AAA"), Err((4, 0)));
+        assert_eq!(indexed("2AAA!AA"), Err((4, 0)));
+        assert_eq!(indexed("2AAA!AAA"), Err((5, 4)));
+        assert_eq!(indexed("2AAAAA+!"), Err((19, 6)));
+        assert_eq!(indexed("3BAA___/"), Err((19, 7)));
+        // Groups, genus/versions and what only the master table has.
+        for start in [
+            "-KAA", "-AAA", "--KAAAAA", "-_AAACAA", "MAAB", "1AAK", "4BAA",
+        ] {
+            assert_eq!(indexed(start), Err((6, 0)));
+        }
     }
 
     #[test]

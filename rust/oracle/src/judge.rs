@@ -2,8 +2,11 @@
 //!
 //! 01: "Judging a framed primitive: 5 behind the header, 9, 8, 10. Judging a
 //! group: 11, then its items one by one, each framed (an inner 7 next), then
-//! judged; the first refusal stands, with number and place. An opaque group:
-//! 11, then 5."
+//! judged; the first refusal stands, with number and place."
+//!
+//! 02 a: `-K` and `-L` hold indexed items by a table of their own, and nothing
+//! else: "The four "current only" codes that carry ondex digits must have them
+//! zero, else a new number 15, judged after 8."
 //!
 //! 02 c: 16 for type `A`, "Judged after 8".
 //!
@@ -14,11 +17,12 @@
 //! 02 j: where 5 stands, `+`, `/` and `=` are 19.
 
 use crate::form::Form;
-use crate::frame::{frame, require_genus_version, Frame};
+use crate::frame::{frame_by, require_genus_version, Frame};
+use crate::indexed;
 use crate::refusal::{
-    Refusal, LEAD_WITHOUT_VALUE, NOT_SHORT, NOT_ZERO, PREPAD, TEXT_FILL, TOO_DEEP,
+    Refusal, LEAD_WITHOUT_VALUE, NOT_SHORT, NOT_ZERO, ONDEX, PREPAD, TEXT_FILL, TOO_DEEP,
 };
-use crate::registry::{Code, MOST_SMALL_COUNT};
+use crate::registry::{Code, Indexed, MOST_SMALL_COUNT};
 use crate::text;
 
 /// A group may stand within this many groups less one. 02 g: "Raise the limit
@@ -32,7 +36,28 @@ pub fn judge(stream: &[u8], form: Form, framed: &Frame, depth: usize) -> Result<
         Code::Fixed(_) | Code::Variable { .. } => judge_primitive(stream, form, framed),
         Code::Group { .. } => judge_group(stream, form, framed, depth),
         Code::Genus => Ok(()),
+        Code::Indexed(row) => judge_indexed(stream, form, framed, row),
     }
+}
+
+/// 5 or 19 behind the header, 8, 15.
+pub fn judge_indexed(
+    stream: &[u8],
+    form: Form,
+    framed: &Frame,
+    row: &Indexed,
+) -> Result<(), Refusal> {
+    form.check_alphabet(stream, framed.behind_header(), framed.end())?;
+    let refuse = |number| Err(Refusal::new(number, framed.offset));
+    // The pad bits stand between the last digit and the raw bytes.
+    let behind_digits = 6 * row.code_length();
+    if !form.zero_bits(stream, framed.offset, behind_digits, row.pad_bits()) {
+        return refuse(NOT_ZERO);
+    }
+    if row.is_current_only() && indexed::ondex(stream, form, framed, row) != 0 {
+        return refuse(ONDEX);
+    }
+    Ok(())
 }
 
 /// 18: a large code with a count that the small one has digits for.
@@ -71,33 +96,21 @@ pub fn judge_primitive(stream: &[u8], form: Form, framed: &Frame) -> Result<(), 
     Ok(())
 }
 
-/// What is judged of a group itself, before its items: 11, 18, then 5 or 19 if
-/// opaque.
-pub fn judge_group_itself(
-    stream: &[u8],
-    form: Form,
-    framed: &Frame,
-    depth: usize,
-) -> Result<(), Refusal> {
+/// What is judged of a group itself, before its items: 11, 18.
+pub fn judge_group_itself(framed: &Frame, depth: usize) -> Result<(), Refusal> {
     if depth >= MOST_GROUPS {
         return Err(Refusal::new(TOO_DEEP, framed.offset));
     }
-    check_short(framed)?;
-    if framed.code.is_opaque() {
-        form.check_alphabet(stream, framed.behind_header(), framed.end())?;
-    }
-    Ok(())
+    check_short(framed)
 }
 
 fn judge_group(stream: &[u8], form: Form, group: &Frame, depth: usize) -> Result<(), Refusal> {
-    judge_group_itself(stream, form, group, depth)?;
-    if group.code.is_opaque() {
-        return Ok(());
-    }
+    judge_group_itself(group, depth)?;
+    let table = group.code.table_within();
     let mut position = group.behind_header();
     let mut first = group.code.is_overrideable();
     while position < group.end() {
-        let item = frame(stream, form, position, group.end())?;
+        let item = frame_by(table, stream, form, position, group.end())?;
         if first {
             require_genus_version(stream, form, &item)?;
         }
@@ -118,7 +131,7 @@ fn zeros(code: Code) -> (usize, usize) {
     match code {
         Code::Fixed(row) => (6 * row.code.len(), row.pad_bits() + 8 * row.lead),
         Code::Variable { .. } => (24 * code.header_units(), 8 * code.lead()),
-        Code::Group { .. } | Code::Genus => (0, 0),
+        Code::Group { .. } | Code::Genus | Code::Indexed(_) => (0, 0),
     }
 }
 
@@ -126,6 +139,7 @@ fn zeros(code: Code) -> (usize, usize) {
 mod tests {
     use super::*;
     use crate::frame::frame_top_level;
+    use crate::registry::INDEXED;
 
     fn text(stream: &str) -> Result<(), (u8, usize)> {
         let framed = frame_top_level(stream.as_bytes(), Form::Text, 0).unwrap();
@@ -220,7 +234,7 @@ mod tests {
         assert_eq!(text(&whole), Ok(()));
         let short = format!("--AAAA__{}", "1AAK".repeat(4095));
         assert_eq!(text(&short), Err((18, 0)));
-        // Before what stands in it, and before an opaque one's 5.
+        // Before what stands in it.
         for stream in [
             "--AAAAAA",
             "--JAAAAB_AAA",
@@ -270,16 +284,142 @@ mod tests {
         assert_eq!(text("-AAB0AAA"), Err((4, 4)));
     }
 
+    /// A `-K` around these characters, whole units.
+    fn signatures(body: &str) -> String {
+        let units = body.len() / 4;
+        let digit = |value| crate::alphabet::character(value) as char;
+        let digits = [digit((units / 64) as u8), digit((units % 64) as u8)];
+        format!("-K{}{}{body}", digits[0], digits[1])
+    }
+
+    /// An indexed item: code and digits, then `value`, then `A` to its size.
+    fn item(code: &str, value: &str) -> String {
+        let row = INDEXED.iter().find(|row| code.starts_with(row.code));
+        let full = row.unwrap().full;
+        let rest = full - code.len() - value.len();
+        format!("{code}{value}{}", "A".repeat(rest))
+    }
+
     #[test]
-    fn only_k_and_l_are_opaque() {
-        assert_eq!(text("-KAB_AAA"), Ok(()));
-        assert_eq!(text("-LAB_AAA"), Ok(()));
-        let large = format!("--KAABAA{}", "_AAA".repeat(4096));
+    fn only_k_and_l_hold_indexed_items() {
+        // 88 characters, as two master items of 44 in any other group.
+        let two = format!("A{}A{}", "A".repeat(43), "A".repeat(43));
+        let bad = two.replacen("AAAA", "AAQA", 1);
+        for letter in ["K", "L"] {
+            assert_eq!(text(&format!("-{letter}AW{two}")), Ok(()));
+            // The indexed table's four pad bits; the master's two are others.
+            assert_eq!(text(&format!("-{letter}AW{bad}")), Err((8, 4)));
+        }
+        for letter in ["A", "J", "M", "X", "Y"] {
+            assert_eq!(text(&format!("-{letter}AW{two}")), Ok(()));
+            assert_eq!(text(&format!("-{letter}AW{bad}")), Ok(()));
+            assert_eq!(
+                text(&format!("-{letter}AX{}", item("2AAAAA", ""))),
+                Err((6, 4))
+            );
+        }
+        // 187 of 22 units are 4,114.
+        let large = format!("--KAABAS{}", item("AA", "").repeat(187));
         assert_eq!(text(&large), Ok(()));
-        assert_eq!(text(&large.replacen("_AAA", "_A!A", 1)), Err((5, 10)));
+        assert_eq!(text(&large.replacen("AAAA", "AAEA", 2)[..]), Err((8, 8)));
         assert_eq!(text("-HAB_AAA"), Err((6, 4)));
         assert_eq!(text("-KAB_A!A"), Err((5, 6)));
         assert_eq!(text("-KAB_A/!"), Err((19, 6)));
+    }
+
+    #[test]
+    fn six_for_any_other_start_in_a_signature_group() {
+        for start in [
+            "_AAA", "MAAB", "1AAK", "4BAA", "-KAA", "-AAA", "-JAA", "-_AA", "EAAA", "0CAA", "2EAA",
+            "3CAA", "7AAB", "--KA",
+        ] {
+            assert_eq!(text(&signatures(start)), Err((6, 4)), "{start}");
+            let behind = format!("{}{start}", item("BA", ""));
+            assert_eq!(text(&signatures(&behind)), Err((6, 92)), "{start}");
+        }
+        // The genus/version that is read, too; an empty group has no start.
+        assert_eq!(text("-KAC-_AAACAA"), Err((6, 4)));
+        assert_eq!(text("-KAA"), Ok(()));
+        assert_eq!(text("-LAA"), Ok(()));
+    }
+
+    #[test]
+    fn the_twelve_codes_from_both_sides() {
+        for row in INDEXED {
+            for digit in ["A", "B", "_"] {
+                let index = digit.repeat(row.index);
+                let code = format!("{}{index}{}", row.code, "A".repeat(row.ondex));
+                let zero = item(&code, "");
+                assert_eq!(text(&signatures(&zero)), Ok(()), "{code}");
+                // All of the value may be set but for the pad bits.
+                let (low, high) = match row.pad_bits() {
+                    4 => ("D", "E"),
+                    _ => ("_", "_"),
+                };
+                let rest = "_".repeat(row.full - code.len() - 1);
+                assert_eq!(
+                    text(&signatures(&item(&code, &format!("{low}{rest}")))),
+                    Ok(())
+                );
+                let set = text(&signatures(&item(&code, &format!("{high}{rest}"))));
+                let told = if row.pad_bits() == 4 {
+                    Err((8, 4))
+                } else {
+                    Ok(())
+                };
+                assert_eq!(set, told, "{code}");
+            }
+            // One past its size and one short of it.
+            let whole = item(row.code, "");
+            assert_eq!(text(&signatures(&whole[..row.full - 4])), Err((4, 4)));
+            assert_eq!(
+                text(&signatures(&format!("{whole}AAAA"))),
+                Err((4, 4 + row.full))
+            );
+        }
+    }
+
+    #[test]
+    fn fifteen_for_the_four_that_have_ondex_digits() {
+        for row in INDEXED.iter().filter(|row| row.ondex > 0) {
+            for place in 0..row.ondex {
+                for digit in ["B", "g", "_"] {
+                    let mut ondex = "A".repeat(row.ondex);
+                    ondex.replace_range(place..place + 1, digit);
+                    let code = format!("{}{}{ondex}", row.code, "_".repeat(row.index));
+                    let current = ["0B", "2B", "2D", "3B"].contains(&row.code);
+                    let told = if current { Err((15, 4)) } else { Ok(()) };
+                    assert_eq!(text(&signatures(&item(&code, ""))), told, "{code}");
+                }
+            }
+        }
+        // `B#` and `D#` have none, so any second character is an index.
+        assert_eq!(text(&signatures(&item("B_", ""))), Ok(()));
+        assert_eq!(text(&signatures(&item("D_", ""))), Ok(()));
+    }
+
+    #[test]
+    fn the_indexed_orders_of_judging() {
+        // 8 before 15, 5 and 19 over the whole item before both; behind it
+        // nothing is looked at.
+        assert_eq!(text(&signatures(&item("2BAAAB", "E"))), Err((8, 4)));
+        assert_eq!(text(&signatures(&item("2BAAAB", "D"))), Err((15, 4)));
+        let strange = item("2BAAAB", "EAA!");
+        assert_eq!(text(&signatures(&strange)), Err((5, 13)));
+        let strange = strange.replace('!', "/");
+        assert_eq!(text(&signatures(&strange)), Err((19, 13)));
+        let two = format!("{}{}", item("0BAB", ""), item("AA", "E"));
+        assert_eq!(text(&signatures(&two)), Err((15, 4)));
+        let two = format!("{}{}", item("0BAA", ""), item("AA", "E"));
+        assert_eq!(text(&signatures(&two)), Err((8, 160)));
+        // In binary the same, in bytes: `-KAW` is F8 A0 16, `AA` 00 0.
+        let mut bytes = vec![0xF8, 0xA0, 0x16];
+        bytes.extend([0; 66]);
+        assert_eq!(binary(&bytes), Ok(()));
+        bytes[4] = 0x08;
+        assert_eq!(binary(&bytes), Err((8, 3)));
+        bytes[4] = 0xF0;
+        assert_eq!(binary(&bytes), Ok(()));
     }
 
     #[test]
@@ -312,11 +452,13 @@ mod tests {
     }
 
     #[test]
-    fn eleven_for_opaque_groups_too_but_behind_framing() {
-        // D20: the 65th group is an opaque one with a bad character, and
+    fn eleven_for_signature_groups_too_but_behind_framing() {
+        // D20: the 65th group is one of signatures with a bad character, and
         // then one that passes its group.
-        let opaque = format!("{}-KAB!!!!", nested(64, 2));
-        assert_eq!(text(&opaque), Err((11, 256)));
+        let strange = format!("{}-KAB!!!!", nested(64, 2));
+        assert_eq!(text(&strange), Err((11, 256)));
+        let last = format!("{}{}", nested(63, 23), signatures(&item("AA", "")));
+        assert_eq!(text(&last), Ok(()));
         let passing = format!("{}-KAB", nested(64, 1));
         assert_eq!(text(&passing), Err((4, 256)));
         // 02 h: 18 directly after 11.

@@ -2,6 +2,7 @@
 
 use oracle::convert;
 use oracle::form::Form;
+use oracle::indexed::{self, IndexedItem};
 use oracle::primitive::{self, Named, Primitive, Tag};
 use oracle::refusal::Refusal;
 use oracle::report::{report, write_report};
@@ -17,10 +18,12 @@ usage, with FORM = text or binary; the stream comes from standard input:
   oracle convert to-binary [--room N] the stream's bytes in binary
   oracle convert to-text [--room N]   the stream's characters in text
   oracle read FORM OFFSET [--room N]  one line: code=C tag=T raw=HEX text=T size=N
+  oracle read-indexed FORM OFFSET [--room N]
+                                      one line: code=C index=N ondex=N raw=HEX size=N
   oracle walk FORM                    one line an item: OFFSET SIZE DEPTH CODE
-  oracle step FORM OPEN POSITION FIRST [END ...]
-                                      one step from a given state, FIRST 0 or 1,
-                                      up to 64 slots (the rest 0); two lines:
+  oracle step FORM OPEN POSITION FIRST INDEXED [END ...]
+                                      one step from a given state, FIRST and
+                                      INDEXED 0 or 1, up to 64 slots (the rest 0); two lines:
                                       what is found (as in walk, or `end`), and
                                       the next state in the same order
 without a stream:
@@ -28,6 +31,9 @@ without a stream:
   oracle write FORM small|large TYPE [--raw HEX | --text S] [--room N]
                                       the item's characters or bytes; type A
                                       takes text
+  oracle write-indexed FORM CODE [--index N] [--ondex N] [--raw HEX] [--room N]
+                                      the item's characters or bytes; CODE A to D,
+                                      0A, 0B, 2A to 2D, 3A, 3B
 
 N is the room lent, in bytes (for read of the raw value or the text); without it
 the room is enough. In binary, read asks room for text only. Offsets and sizes are in characters
@@ -87,6 +93,8 @@ fn run(words: &[Vec<u8>]) -> Answer {
         [b"report", name] => run_report(form(name)?, &options),
         [b"convert", way] => run_convert(way, &options),
         [b"read", name, offset] => run_read(form(name)?, number(offset)?, &options),
+        [b"read-indexed", name, offset] => run_read_indexed(form(name)?, number(offset)?, &options),
+        [b"write-indexed", name, code] => run_write_indexed(form(name)?, code, &options),
         [b"walk", name] => run_walk(form(name)?),
         [b"step", name, rest @ ..] => run_step(form(name)?, rest),
         [b"write", name, b"small", letter] => {
@@ -106,6 +114,8 @@ struct Options {
     room: Option<usize>,
     tag: Vec<u8>,
     raw: Vec<u8>,
+    index: usize,
+    ondex: usize,
 }
 
 impl Options {
@@ -117,6 +127,8 @@ impl Options {
             let mut given = || words.next().ok_or(Failure::Usage("a value is missing"));
             match *word {
                 b"--room" => options.room = Some(number(given()?)?),
+                b"--index" => options.index = number(given()?)?,
+                b"--ondex" => options.ondex = number(given()?)?,
                 b"--tag" => options.tag = given()?.to_vec(),
                 b"--raw" => options.raw = bytes_of_hex(given()?)?,
                 b"--text" => options.raw = given()?.to_vec(),
@@ -177,6 +189,38 @@ fn read_line(found: &Primitive, raw: &[u8], text: &[u8]) -> Vec<u8> {
     .into()
 }
 
+fn run_read_indexed(form: Form, offset: usize, options: &Options) -> Answer {
+    let stream = standard_input()?;
+    if form == Form::Binary {
+        let (found, raw) = indexed::read_binary(&stream, offset)?;
+        return Ok(indexed_line(&found, raw));
+    }
+    let mut out = options.buffer(stream.len());
+    let found = indexed::read_text(&stream, offset, &mut out)?;
+    Ok(indexed_line(&found, &out[..found.raw]))
+}
+
+fn indexed_line(found: &IndexedItem, raw: &[u8]) -> Vec<u8> {
+    let raw: String = raw.iter().map(|byte| format!("{byte:02x}")).collect();
+    let IndexedItem {
+        row,
+        size,
+        index,
+        ondex,
+        ..
+    } = found;
+    let code = row.code;
+    format!("code={code} index={index} ondex={ondex} raw={raw} size={size}\n").into()
+}
+
+fn run_write_indexed(form: Form, code: &[u8], options: &Options) -> Answer {
+    let (index, ondex) = (options.index as u64, options.ondex as u64);
+    let mut out = options.buffer(256);
+    let length = indexed::write(code, index, ondex, &options.raw, form, &mut out)?;
+    out.truncate(length);
+    Ok(out)
+}
+
 fn run_write(form: Form, named: Named, options: &Options) -> Answer {
     // Enough for any item: the largest header, lead, fixed item and value.
     let mut out = options.buffer(256 + options.raw.len() / 3 * 4);
@@ -220,22 +264,25 @@ fn found_line(found: &Found) -> String {
 fn run_step(form: Form, words: &[&[u8]]) -> Answer {
     let numbers: Result<Vec<usize>, Failure> = words.iter().map(|w| number(w)).collect();
     let numbers = numbers?;
-    let [open, position, first, ends @ ..] = numbers.as_slice() else {
-        return Err(Failure::Usage("step FORM OPEN POSITION FIRST [END ...]"));
+    let [open, position, first, indexed, ends @ ..] = numbers.as_slice() else {
+        return Err(Failure::Usage(
+            "step FORM OPEN POSITION FIRST INDEXED [END ...]",
+        ));
     };
     let mut state = Walk::start();
-    if ends.len() > state.ends.len() || *first > 1 {
-        return Err(Failure::Usage("at most 64 ends, and FIRST 0 or 1"));
+    if ends.len() > state.ends.len() || *first > 1 || *indexed > 1 {
+        return Err(Failure::Usage("at most 64 ends, FIRST and INDEXED 0 or 1"));
     }
     state.ends[..ends.len()].copy_from_slice(ends);
-    (state.open, state.position, state.first) = (*open, *position, *first == 1);
+    (state.open, state.position) = (*open, *position);
+    (state.first, state.indexed) = (*first == 1, *indexed == 1);
     let (next, found) = step(state, &standard_input()?, form);
     if let Found::Refused { number, place } = found {
         return Err(Refusal::new(number, place).into());
     }
     let ends: String = next.ends.iter().map(|end| format!(" {end}")).collect();
-    let first = u8::from(next.first);
-    let line = format!("{} {} {first}{ends}\n", next.open, next.position);
+    let (first, indexed) = (u8::from(next.first), u8::from(next.indexed));
+    let line = format!("{} {} {first} {indexed}{ends}\n", next.open, next.position);
     Ok((found_line(&found) + &line).into())
 }
 

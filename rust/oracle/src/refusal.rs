@@ -35,12 +35,14 @@ pub const LEAD_WITHOUT_VALUE: u8 = 9;
 pub const PREPAD: u8 = 10;
 /// Group standing within 64 groups already.
 pub const TOO_DEEP: u8 = 11;
-/// Writer: raw length or tag length unfit for the code.
+/// Writer: raw length, tag length, index or ondex unfit for the code.
 pub const UNFIT_LENGTH: u8 = 12;
 /// Walk state unfit for the stream.
 pub const UNFIT_STATE: u8 = 13;
 /// Primitive asked for, group or genus/version found.
 pub const NOT_A_PRIMITIVE: u8 = 14;
+/// 02 a: ondex digits not zero in a code for the current key list only.
+pub const ONDEX: u8 = 15;
 /// 02 c: Base64 text without its full fill, or that starts with `A`.
 pub const TEXT_FILL: u8 = 16;
 /// 02 h: large variable code or large group whose size fits the small code.
@@ -74,6 +76,9 @@ mod tests {
             NOT_A_PRIMITIVE,
         ];
         assert!(numbers.iter().copied().eq(1..=14));
-        assert_eq!([TEXT_FILL, NOT_SHORT, ORDINARY_BASE64], [16, 18, 19]);
+        assert_eq!(
+            [ONDEX, TEXT_FILL, NOT_SHORT, ORDINARY_BASE64],
+            [15, 16, 18, 19]
+        );
     }
 }

@@ -1,7 +1,8 @@
 //! The code registry of 003, with 003's description of every code.
 //!
-//! Left out as 01 has it: op codes, the grams `0P` to `0S`, the indexed table
-//! and other genera. What is not in these tables is unknown (6).
+//! Left out as 01 has it: op codes, the grams `0P` to `0S` and other genera.
+//! What is not in these tables is unknown (6). Items are read by the master
+//! table, but within `-K` and `-L` by the indexed one (02 a).
 
 /// A fixed code: its full size is known from the code alone.
 #[derive(Clone, Copy, Debug, PartialEq, Eq)]
@@ -139,6 +140,90 @@ pub const FIXED: [Fixed; 58] = [
     raw("1AAP", 4, "Empty value (nonce/string)"),
 ];
 
+/// A code of 003's Indexed Code Table: a signature with its place in the
+/// current key list (index) and in the next one (ondex).
+#[derive(Clone, Copy, Debug, PartialEq, Eq)]
+pub struct Indexed {
+    /// The code's own characters: a letter, or a selector and a letter.
+    pub code: &'static str,
+    /// Digits of the index, behind the code's characters.
+    pub index: usize,
+    /// Digits of the ondex, behind those of the index (D151).
+    pub ondex: usize,
+    /// Full size in text characters, code and all.
+    pub full: usize,
+    /// 003's description.
+    pub name: &'static str,
+}
+
+impl Indexed {
+    /// Code and digits in characters: 003's "Code Len".
+    pub fn code_length(&self) -> usize {
+        self.code.len() + self.index + self.ondex
+    }
+
+    /// "The header is one unit, or two for selectors 2 and 3."
+    pub fn header_units(&self) -> usize {
+        match self.code.as_bytes()[0] {
+            b'2' | b'3' => 2,
+            _ => 1,
+        }
+    }
+
+    /// "Four zero pad bits stand before the raw bytes of `A` to `D` and `2A` to
+    /// `2D`, none in the others."
+    pub fn pad_bits(&self) -> usize {
+        match self.code.as_bytes()[0] {
+            b'A'..=b'D' | b'2' => 4,
+            _ => 0,
+        }
+    }
+
+    /// Raw value's length in bytes: what is left behind code, digits and pad
+    /// bits.
+    pub fn raw(&self) -> usize {
+        self.full / 4 * 3 - (6 * self.code_length() + self.pad_bits()) / 8
+    }
+
+    /// 003: "\"Current only\" = indexes current list only."
+    pub fn is_current_only(&self) -> bool {
+        self.name.ends_with("current only")
+    }
+}
+
+const fn indexed(
+    code: &'static str,
+    index: usize,
+    ondex: usize,
+    full: usize,
+    name: &'static str,
+) -> Indexed {
+    Indexed {
+        code,
+        index,
+        ondex,
+        full,
+        name,
+    }
+}
+
+/// 003, "Indexed Code Table".
+#[rustfmt::skip]
+pub const INDEXED: [Indexed; 12] = [
+    indexed("A", 1, 0, 88, "Ed25519 indexed sig, both same"),
+    indexed("B", 1, 0, 88, "Ed25519 indexed sig, current only"),
+    indexed("C", 1, 0, 88, "ECDSA secp256k1 indexed sig, both same"),
+    indexed("D", 1, 0, 88, "ECDSA secp256k1 indexed sig, current only"),
+    indexed("0A", 1, 1, 156, "Ed448 indexed sig, dual"),
+    indexed("0B", 1, 1, 156, "Ed448 indexed sig, current only"),
+    indexed("2A", 2, 2, 92, "Ed25519 indexed sig, big dual"),
+    indexed("2B", 2, 2, 92, "Ed25519 indexed sig, big current only"),
+    indexed("2C", 2, 2, 92, "ECDSA secp256k1 indexed sig, big dual"),
+    indexed("2D", 2, 2, 92, "ECDSA secp256k1 indexed sig, big current only"),
+    indexed("3A", 3, 3, 160, "Ed448 indexed sig, big dual"),
+    indexed("3B", 3, 3, 160, "Ed448 indexed sig, big current only"),
+];
+
 /// 003, "Variable Raw Size Codes": type letter and description.
 pub const VARIABLE: [(u8, &str); 7] = [
     (b'A', "String Base64 Only"),
@@ -206,6 +291,43 @@ pub enum Code {
         large: bool,
     },
     Genus,
+    /// Of the Indexed Code Table; it stands within `-K` and `-L` alone.
+    Indexed(&'static Indexed),
+}
+
+/// Which of 003's tables a start is looked up in. 02 a: within `-K` and `-L`
+/// "Nothing but indexed items may stand there; any other start is 6". A start
+/// that both tables have is read by the one that is asked (D152).
+#[derive(Clone, Copy, Debug, PartialEq, Eq)]
+pub enum Table {
+    Master,
+    Indexed,
+}
+
+impl Table {
+    /// The code at the head of an item, from the characters of its first unit
+    /// alone (D8). Nothing for an unknown or reserved one (6).
+    pub fn identify(self, unit: [u8; 4]) -> Option<Code> {
+        match self {
+            Table::Master => identify(unit),
+            Table::Indexed => identify_indexed(unit),
+        }
+    }
+}
+
+/// The indexed code with just these characters.
+pub fn indexed_code(characters: &[u8]) -> Option<&'static Indexed> {
+    INDEXED.iter().find(|row| row.code.as_bytes() == characters)
+}
+
+/// A letter is a code by itself; `0`, `2` and `3` are selectors of the letter
+/// behind them.
+fn identify_indexed(unit: [u8; 4]) -> Option<Code> {
+    let length = match unit[0] {
+        b'0' | b'2' | b'3' => 2,
+        _ => 1,
+    };
+    indexed_code(&unit[..length]).map(Code::Indexed)
 }
 
 /// The fixed code with just these characters.
@@ -221,8 +343,7 @@ pub fn is_group_letter(letter: u8) -> bool {
     GROUPS.iter().any(|row| row.0 == letter)
 }
 
-/// The code at the head of an item, from the characters of its first unit
-/// alone (D8). Nothing for an unknown or reserved one (6).
+/// The same by the master table.
 pub fn identify(unit: [u8; 4]) -> Option<Code> {
     match unit {
         [b'-', b'_', ..] => Some(Code::Genus),
@@ -254,6 +375,7 @@ impl Code {
             Code::Variable { .. } => 2,
             Code::Group { large, .. } => 1 + usize::from(*large),
             Code::Genus => 2,
+            Code::Indexed(row) => row.header_units(),
         }
     }
 
@@ -261,7 +383,7 @@ impl Code {
     /// has no n.
     pub fn digits(&self) -> std::ops::Range<usize> {
         match self {
-            Code::Fixed(_) | Code::Genus => 0..0,
+            Code::Fixed(_) | Code::Genus | Code::Indexed(_) => 0..0,
             Code::Variable { selector, .. } if *selector < b'7' => 2..4,
             Code::Variable { .. } => 4..8,
             Code::Group { large: false, .. } => 2..4,
@@ -274,6 +396,7 @@ impl Code {
     pub fn units(&self, n: u64) -> u64 {
         match self {
             Code::Fixed(row) => row.full as u64 / 4,
+            Code::Indexed(row) => row.full as u64 / 4,
             Code::Genus => 2,
             Code::Variable { .. } | Code::Group { .. } => self.header_units() as u64 + n,
         }
@@ -284,7 +407,7 @@ impl Code {
         match self {
             Code::Variable { selector, .. } => *selector >= b'7',
             Code::Group { large, .. } => *large,
-            Code::Fixed(_) | Code::Genus => false,
+            Code::Fixed(_) | Code::Genus | Code::Indexed(_) => false,
         }
     }
 
@@ -293,7 +416,7 @@ impl Code {
         match self {
             Code::Fixed(row) => row.lead,
             Code::Variable { selector, .. } => usize::from((selector - b'4') % 3),
-            Code::Group { .. } | Code::Genus => 0,
+            Code::Group { .. } | Code::Genus | Code::Indexed(_) => 0,
         }
     }
 
@@ -301,8 +424,8 @@ impl Code {
         matches!(self, Code::Fixed(_) | Code::Variable { .. })
     }
 
-    /// `-K` and `-L`, large too: any units in the alphabet.
-    pub fn is_opaque(&self) -> bool {
+    /// `-K` and `-L`, large too: they hold indexed items and nothing else.
+    pub fn holds_indexed(&self) -> bool {
         matches!(
             self,
             Code::Group {
@@ -310,6 +433,15 @@ impl Code {
                 ..
             }
         )
+    }
+
+    /// The table that a group's items are looked up in.
+    pub fn table_within(&self) -> Table {
+        if self.holds_indexed() {
+            Table::Indexed
+        } else {
+            Table::Master
+        }
     }
 
     /// `-A` `-B` `-C`, large too: the first item may override genus/version.
@@ -327,6 +459,7 @@ impl Code {
     pub fn characters(&self) -> String {
         match *self {
             Code::Fixed(row) => row.code.to_string(),
+            Code::Indexed(row) => row.code.to_string(),
             Code::Variable { selector, letter } if selector < b'7' => {
                 format!("{}{}", selector as char, letter as char)
             }
@@ -352,6 +485,7 @@ impl Code {
             Code::Variable { letter, .. } => described(&VARIABLE, letter),
             Code::Group { letter, .. } => described(&GROUPS, letter),
             Code::Genus => GENUS_NAME,
+            Code::Indexed(row) => row.name,
         }
     }
 }
@@ -467,6 +601,64 @@ mod tests {
         for row in FIXED.iter().filter(|row| row.tag == 0) {
             let pad = (3 - ((row.raw() + row.lead) % 3)) % 3;
             assert_eq!(row.code.len(), [4, 1, 2][pad], "{}", row.code);
+        }
+    }
+
+    #[test]
+    fn the_indexed_table_adds_up() {
+        // 003's "Code Len" by the code's length: 2, 4, 6, 8. A signature has 64
+        // bytes, of Ed448 114. The pad bits are what is left to a whole byte.
+        for row in INDEXED {
+            let (length, raw) = match row.code.as_bytes()[0] {
+                b'0' => (4, 114),
+                b'2' => (6, 64),
+                b'3' => (8, 114),
+                _ => (2, 64),
+            };
+            assert_eq!(
+                (row.code_length(), row.raw()),
+                (length, raw),
+                "{}",
+                row.code
+            );
+            assert_eq!((6 * length + row.pad_bits()) % 8, 0);
+            assert!(row.pad_bits() < 8);
+            assert_eq!(row.header_units() * 4, length.div_ceil(4) * 4);
+            assert_eq!(row.raw() == 114, row.name.contains("Ed448"));
+        }
+        let current = INDEXED.iter().filter(|row| row.is_current_only());
+        let current: Vec<&str> = current.map(|row| row.code).collect();
+        assert_eq!(current, ["B", "D", "0B", "2B", "2D", "3B"]);
+    }
+
+    #[test]
+    fn two_tables_with_starts_in_common() {
+        // A start that both have is read by the table that is asked.
+        for (unit, master, indexed) in [
+            ("AAAA", 44, 88),
+            ("DAAA", 44, 88),
+            ("0AAA", 24, 156),
+            ("0BAA", 88, 156),
+        ] {
+            let unit = unit.as_bytes().try_into().unwrap();
+            let units = |table: Table| table.identify(unit).unwrap().units(0) * 4;
+            assert_eq!(
+                (units(Table::Master), units(Table::Indexed)),
+                (master, indexed)
+            );
+        }
+        for unit in ["2AAA", "2BAA", "2CAA", "2DAA", "3AAA", "3BAA"] {
+            let unit = unit.as_bytes().try_into().unwrap();
+            assert_eq!(Table::Master.identify(unit), None);
+            assert!(Table::Indexed.identify(unit).is_some());
+        }
+        let unknown = [
+            "EAAA", "MAAB", "aAAA", "0CAA", "0DAA", "0aAA", "1AAK", "2EAA", "2aAA", "3CAA", "3DAA",
+            "4BAA", "7AAB", "-AAA", "-KAA", "--KA", "-_AA", "_AAA", "00AA", "20AA",
+        ];
+        for unit in unknown {
+            let unit = unit.as_bytes().try_into().unwrap();
+            assert_eq!(Table::Indexed.identify(unit), None);
         }
     }
 

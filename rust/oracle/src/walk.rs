@@ -1,10 +1,10 @@
 //! The walk: items at all depths, outer before inner, one step at a time.
 
 use crate::form::Form;
-use crate::frame::{frame, require_genus_version, Frame};
-use crate::judge::{judge_group_itself, judge_primitive, MOST_GROUPS};
+use crate::frame::{frame_by, require_genus_version, Frame};
+use crate::judge::{judge_group_itself, judge_indexed, judge_primitive, MOST_GROUPS};
 use crate::refusal::{Refusal, UNFIT_STATE};
-use crate::registry::Code;
+use crate::registry::{Code, Table};
 
 /// The walk's state, a value. All numbers are in the stream's own measure.
 #[derive(Clone, Copy, Debug, PartialEq, Eq)]
@@ -16,6 +16,9 @@ pub struct Walk {
     pub position: usize,
     /// Is the next item first in an overrideable group?
     pub first: bool,
+    /// 02 a: "its state says whether the innermost open group is one" that
+    /// holds indexed items.
+    pub indexed: bool,
 }
 
 /// What a step finds.
@@ -61,6 +64,7 @@ impl Walk {
             open: 0,
             position: 0,
             first: false,
+            indexed: false,
         }
     }
 
@@ -81,14 +85,20 @@ impl Walk {
             return Ok(None);
         }
         let end = self.innermost().unwrap_or(stream.len());
-        let framed = frame(stream, form, self.position, end)?;
+        let table = if self.indexed {
+            Table::Indexed
+        } else {
+            Table::Master
+        };
+        let framed = frame_by(table, stream, form, self.position, end)?;
         if self.open == 0 || self.first {
             require_genus_version(stream, form, &framed)?;
         }
         match framed.code {
             Code::Fixed(_) | Code::Variable { .. } => judge_primitive(stream, form, &framed)?,
-            Code::Group { .. } => judge_group_itself(stream, form, &framed, self.open)?,
+            Code::Group { .. } => judge_group_itself(&framed, self.open)?,
             Code::Genus => {}
+            Code::Indexed(row) => judge_indexed(stream, form, &framed, row)?,
         }
         Ok(Some(framed))
     }
@@ -100,7 +110,7 @@ impl Walk {
     }
 
     /// None of 13's conditions holds. Nothing asks for whole units (D35);
-    /// equal ends are fit (D36).
+    /// equal ends are fit (D36). 02 a: "that mark with none open is 13".
     fn fits(&self, stream: &[u8]) -> bool {
         if self.open > MOST_GROUPS {
             return false;
@@ -111,18 +121,19 @@ impl Walk {
             && self.position <= stream.len()
             && used.windows(2).all(|pair| pair[1] <= pair[0])
             && used.first().is_none_or(|end| *end <= stream.len())
-            && !(self.first && self.open == 0)
+            && !((self.first || self.indexed) && self.open == 0)
     }
 
-    /// The state behind a yielded item: a group that is not opaque is opened,
-    /// anything else is stepped over; then groups whose end is reached close.
+    /// The state behind a yielded item: a group is opened, anything else is
+    /// stepped over; then groups whose end is reached close.
     fn behind(self, framed: &Frame) -> Walk {
-        let opens = matches!(framed.code, Code::Group { .. }) && !framed.code.is_opaque();
+        let opens = matches!(framed.code, Code::Group { .. });
         let mut next = self;
         next.first = opens && framed.code.is_overrideable() && framed.count > 0;
         if opens {
             next.ends[next.open] = framed.end();
             next.open += 1;
+            next.indexed = framed.code.holds_indexed();
             next.position = framed.behind_header();
         } else {
             next.position = framed.end();
@@ -130,11 +141,13 @@ impl Walk {
         next.close_finished()
     }
 
-    /// Closing cascades and writes 0 into each slot (D39).
+    /// Closing cascades and writes 0 into each slot (D39). A group around one
+    /// that closes holds no indexed items, since those are no groups (D155).
     fn close_finished(mut self) -> Walk {
         while self.innermost().is_some_and(|end| end <= self.position) {
             self.open -= 1;
             self.ends[self.open] = 0;
+            self.indexed = false;
         }
         self
     }
@@ -226,15 +239,92 @@ mod tests {
         assert_eq!(behind, state(&[], 8, false));
     }
 
+    /// The state with the mark of a group that holds indexed items.
+    fn indexed(ends: &[usize], position: usize, first: bool) -> Walk {
+        Walk {
+            indexed: true,
+            ..state(ends, position, first)
+        }
+    }
+
     #[test]
-    fn opaque_groups_are_stepped_over_whole() {
-        let (behind, _) = after(Walk::start(), "-KAB_AAAMAAB");
-        assert_eq!(behind, state(&[], 8, false));
-        assert_eq!(refused(Walk::start(), "-KAB_A!A"), (5, 6));
-        assert_eq!(refused(Walk::start(), "-KAB_A+A"), (19, 6));
-        // As first item it clears the mark (D12).
+    fn signature_groups_are_opened() {
+        // Two signatures of 22 units: `-KAs`.
+        let one = format!("A_{}", "A".repeat(86));
+        for letter in ["K", "L"] {
+            let stream = format!("-{letter}As{one}{one}MAAB");
+            let (inside, group) = after(Walk::start(), &stream);
+            assert_eq!(inside, indexed(&[180], 4, false));
+            let whole = matches!(
+                group,
+                Found::Item {
+                    size: 180,
+                    depth: 0,
+                    ..
+                }
+            );
+            assert!(whole, "{group:?}");
+            let (between, item) = after(inside, &stream);
+            assert_eq!(between, indexed(&[180], 92, false));
+            let Found::Item {
+                offset,
+                size,
+                depth,
+                code,
+            } = item
+            else {
+                panic!("{item:?}");
+            };
+            assert_eq!((offset, size, depth), (4, 88, 1));
+            assert_eq!(code.name(), "Ed25519 indexed sig, both same");
+            let (behind, _) = after(between, &stream);
+            assert_eq!(behind, state(&[], 180, false));
+            assert_eq!(after(behind, &stream).0, state(&[], 184, false));
+        }
+    }
+
+    #[test]
+    fn of_a_signature_group_itself() {
+        // Its contents are not judged when the group is yielded.
+        let (inside, _) = after(Walk::start(), "-KAB_A!A");
+        assert_eq!(refused(inside, "-KAB_A!A"), (5, 6));
+        let (inside, _) = after(Walk::start(), "-KAB_A+A");
+        assert_eq!(refused(inside, "-KAB_A+A"), (19, 6));
+        // An empty one is closed at once, and as first item clears the mark
+        // (D12).
+        assert_eq!(after(Walk::start(), "-KAA").0, state(&[], 4, false));
         let (behind, _) = after(state(&[16], 4, true), "-AAD-KAA-_AAABAA");
         assert_eq!(behind, state(&[16], 8, false));
+    }
+
+    #[test]
+    fn the_mark_of_indexed_items_decides() {
+        // D155: the mark alone, whatever the group was. `-J` around two seeds
+        // of 44 characters, which by the other table are one signature.
+        let stream = format!("-JAW{}", "A".repeat(88));
+        let (behind, found) = after(indexed(&[92], 4, false), &stream);
+        assert_eq!(behind, state(&[], 92, false));
+        assert!(matches!(found, Found::Item { size: 88, .. }));
+        let (behind, found) = after(state(&[92], 4, false), &stream);
+        assert_eq!(behind, state(&[92], 48, false));
+        assert!(matches!(found, Found::Item { size: 44, .. }));
+        // Nothing but indexed items: a group is 6 and not 11, a genus 6 and not
+        // 7, with the other mark too.
+        for stream in ["-AAA", "-KAA", "MAAB", "_AAA"] {
+            assert_eq!(refused(indexed(&[4], 0, false), stream), (6, 0));
+            assert_eq!(refused(indexed(&[4; 64], 0, true), stream), (6, 0));
+        }
+        assert_eq!(refused(indexed(&[8], 0, true), "-_AAABAA"), (6, 0));
+        assert_eq!(refused(indexed(&[8], 0, true), "-_AAACAA"), (6, 0));
+        // Both marks set is fit; the step clears the first-item mark and keeps
+        // the other while the group is open.
+        let two = "A".repeat(176);
+        let (behind, _) = after(indexed(&[176], 0, true), &two);
+        assert_eq!(behind, indexed(&[176], 88, false));
+        // Closing clears it, whatever the group around is: given states may
+        // have two open.
+        let (behind, _) = after(indexed(&[176, 88], 0, false), &two);
+        assert_eq!(behind, state(&[176], 88, false));
     }
 
     #[test]
@@ -284,6 +374,9 @@ mod tests {
             state(&[13], 4, false),
             state(&[], 0, true),
             state(&[], 12, true),
+            indexed(&[], 0, false),
+            indexed(&[], 12, false),
+            indexed(&[], 0, true),
         ];
         for walk in unfit {
             assert_eq!(refused(walk, stream), (13, 0), "{walk:?}");

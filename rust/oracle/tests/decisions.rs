@@ -23,7 +23,7 @@ fn d46_room_is_asked_by_items_only() {
 #[test]
 fn d9_every_digit_counts() {
     // The first of five digits stands for 64^4 = 16,777,216 units, the first
-    // of four for 262,144; each passes the end, with an opaque group too.
+    // of four for 262,144; each passes the end, with a signature group too.
     for stream in ["--JBAAAA", "--KBAAAA", "--AB____", "7AABBAAA", "8AABBAAA"] {
         rows(stream, &[], &[], Some((0, 4)));
         rows_of(&binary(stream), Form::Binary, &[], &[], Some((0, 4)));
@@ -117,10 +117,55 @@ fn d19_contents_of_other_groups_are_items() {
 }
 
 #[test]
-fn d19_an_opaque_group_in_binary_is_accepted() {
-    // `-KAB`: 111110 001010 000000 000001 is F8 A0 01.
+fn d150_a_signature_group_holds_nothing_but_indexed_items() {
+    // `-KAB`: 111110 001010 000000 000001 is F8 A0 01. What stands in it is no
+    // indexed code.
     let stream = [0xF8, 0xA0, 0x01, 0xFF, 0x00, 0xFF];
-    rows_of(&stream, Form::Binary, &[(0, 6, 0)], &[], None);
+    rows_of(&stream, Form::Binary, &[(0, 6, 6)], &[(0, 6, 3)], None);
+    for start in ["MAAB", "-AAA", "-KAA", "1AAK"] {
+        rows(&format!("-KAB{start}"), &[(0, 8, 6)], &[(0, 6, 4)], None);
+    }
+    rows("-KAC-_AAACAA", &[(0, 12, 6)], &[(0, 6, 4)], None);
+    rows("-LAA", &[(0, 4, 0)], &[], None);
+}
+
+/// An indexed item of these first characters, filled with `A` to its size.
+fn signature(head: &str, full: usize) -> String {
+    format!("{head}{}", "A".repeat(full - head.len()))
+}
+
+#[test]
+fn d151_value_characters_in_a_header_are_framed() {
+    // `2A####` has two value characters in its second unit: a stranger there
+    // comes before the extent, and before 8 and 15.
+    rows("-KAC2BAAAB!E", &[(0, 12, 5)], &[(0, 5, 10)], None);
+    rows("-KAC2BAAABE+", &[(0, 12, 19)], &[(0, 19, 11)], None);
+    rows("-KAB2BAA", &[(0, 8, 4)], &[(0, 4, 4)], None);
+    rows("-KAB2EAA", &[(0, 8, 6)], &[(0, 6, 4)], None);
+}
+
+#[test]
+fn d152_a_start_of_both_tables_is_read_by_the_group() {
+    // `0A` is a salt of 24 characters by the master table, a signature of 156
+    // by the other.
+    let salt = signature("0AAA", 24);
+    rows(&format!("-JAG{salt}"), &[(0, 28, 0)], &[], None);
+    rows(&format!("-KAG{salt}"), &[(0, 28, 4)], &[(0, 4, 4)], None);
+    let long = signature("0A__", 156);
+    rows(&format!("-KAn{long}"), &[(0, 160, 0)], &[], None);
+}
+
+#[test]
+fn d153_ondex_digits_of_a_current_only_code() {
+    for (head, full, digits) in [("0BA", 156, "An"), ("2BAA", 92, "AX"), ("3BAAA", 160, "Ao")] {
+        let zero = format!("-K{digits}{}", signature(head, full));
+        rows(&zero, &[(0, full + 4, 0)], &[], None);
+        let one = format!("-K{digits}{}", signature(&format!("{head}B"), full));
+        rows(&one, &[(0, full + 4, 15)], &[(0, 15, 4)], None);
+    }
+    // 8 before it.
+    let both = format!("-KAX{}", signature("2BAABAE", 92));
+    rows(&both, &[(0, 96, 8)], &[(0, 8, 4)], None);
 }
 
 #[test]

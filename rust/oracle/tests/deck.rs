@@ -4,7 +4,7 @@
 mod common;
 
 use common::papers::{DIGESTS_OF_001, NUMBER, POST_PADDED_OF_001, SAD_PATHS, SHORTS_OF_002};
-use common::{binary, bytes_of_report, hex, nested, reads, reads_text, rows, rows_of};
+use common::{around, binary, bytes_of_report, hex, nested, reads, reads_text, rows, rows_of};
 use oracle::convert::to_binary;
 use oracle::form::Form;
 use oracle::primitive::{read_text, write, Named, Tag};
@@ -375,7 +375,7 @@ fn deck_the_wrong_base64() {
         for text in ["!*AB", "MA!*", "7AAB!__*"] {
             rows(&with(text), &[], &[], Some((0, 5)));
         }
-        // Behind the header, in a tag, in a group, in an opaque one.
+        // Behind the header, in a tag, in a group, in one of signatures.
         rows(&with("0HEAA*AA"), &[(0, 8, 19)], &[(0, 19, 5)], None);
         rows(&with("0HEA!*AA"), &[(0, 8, 5)], &[(0, 5, 4)], None);
         rows(&with("0LAAA*!A"), &[(0, 8, 19)], &[(0, 19, 5)], None);
@@ -384,7 +384,7 @@ fn deck_the_wrong_base64() {
         rows(&with("-LAB_A!*"), &[(0, 8, 5)], &[(0, 5, 6)], None);
         // 4 before it, in a unit that is not whole.
         rows(&with("MAABMA*"), &[(0, 4, 0)], &[], Some((4, 4)));
-        // 18 before an opaque group's, and behind a variable's.
+        // 18 before what a group holds, and behind a variable's.
         rows(&with("--KAAAAB_A*A"), &[(0, 12, 18)], &[(0, 18, 0)], None);
         rows(&with("8AABAAAB*AAA"), &[(0, 12, 19)], &[(0, 19, 8)], None);
     }
@@ -536,9 +536,15 @@ fn of_003_every_group_code() {
     // "Small = 4 chars -X##, Large = 8 chars --X#####", `-A` to `-Z`, `-a` to `-c`.
     for letter in ('A'..='Z').chain('a'..='c') {
         rows(&format!("-{letter}AA"), &[(0, 4, 0)], &[], None);
-        rows(&format!("-{letter}ABMAAB"), &[(0, 8, 0)], &[], None);
+        let small = format!("-{letter}ABMAAB");
         let large = format!("--{letter}AABAA{}", "MAAB".repeat(4096));
-        rows(&large, &[(0, 16_392, 0)], &[], None);
+        if ['K', 'L'].contains(&letter) {
+            rows(&small, &[(0, 8, 6)], &[(0, 6, 4)], None);
+            rows(&large, &[(0, 16_392, 6)], &[(0, 6, 8)], None);
+        } else {
+            rows(&small, &[(0, 8, 0)], &[], None);
+            rows(&large, &[(0, 16_392, 0)], &[], None);
+        }
         for (short, size) in [("AAAAA", 8), ("AAAABMAAB", 12)] {
             let short = format!("--{letter}{short}");
             rows(&short, &[(0, size, 18)], &[(0, 18, 0)], None);
@@ -575,11 +581,57 @@ fn of_003_reserved_and_left_out() {
 
 #[test]
 fn of_003_indexed_codes_in_the_master_table() {
-    // The indexed table is left out: its codes are read by the master table,
-    // save within `-K` and `-L`. `2A####` and `3A######` are unknown there.
+    // The indexed table is for `-K` and `-L` alone: elsewhere its codes are read
+    // by the master table. `2A####` and `3A######` are unknown there.
     rows("2AAAAAAA", &[], &[], Some((0, 6)));
     rows("3AAAAAAA", &[], &[], Some((0, 6)));
-    rows("-KAC2AAAAAAA", &[(0, 12, 0)], &[], None);
+    rows("-JAC2AAAAAAA", &[(0, 12, 6)], &[(0, 6, 4)], None);
+    // Within, they pass a group of two units.
+    rows("-KAC2AAAAAAA", &[(0, 12, 4)], &[(0, 4, 4)], None);
+}
+
+/// 003's rows: code, digits of index and of ondex, characters.
+const INDEXED_OF_003: [(&str, usize, usize, usize); 12] = [
+    ("A", 1, 0, 88),
+    ("B", 1, 0, 88),
+    ("C", 1, 0, 88),
+    ("D", 1, 0, 88),
+    ("0A", 1, 1, 156),
+    ("0B", 1, 1, 156),
+    ("2A", 2, 2, 92),
+    ("2B", 2, 2, 92),
+    ("2C", 2, 2, 92),
+    ("2D", 2, 2, 92),
+    ("3A", 3, 3, 160),
+    ("3B", 3, 3, 160),
+];
+
+#[test]
+fn of_003_each_indexed_code_in_its_group() {
+    for (code, index, ondex, full) in INDEXED_OF_003 {
+        // Every digit `_` but those that must be zero; the value all zero.
+        let current = ["0B", "2B", "2D", "3B"].contains(&code);
+        let digits = |width: usize, digit: &str| digit.repeat(width);
+        let free = if current { "A" } else { "_" };
+        let head = format!("{code}{}{}", digits(index, "_"), digits(ondex, free));
+        let item = format!("{head}{}", "A".repeat(full - head.len()));
+        for letter in ['K', 'L'] {
+            let stream = around(letter, 1, &item);
+            let size = stream.len();
+            rows(&stream, &[(0, size, 0)], &[], None);
+            let bytes = binary(&stream);
+            rows_of(&bytes, Form::Binary, &[(0, size / 4 * 3, 0)], &[], None);
+            // Two of them, and a stranger in the last character of the second.
+            let two = around(letter, 1, &format!("{item}{item}"));
+            rows(&two, &[(0, size + full, 0)], &[], None);
+            let strange = format!("{}=", &two[..two.len() - 1]);
+            let place = two.len() - 1;
+            let items = [(0, size + full, 19)];
+            rows(&strange, &items, &[(0, 19, place)], None);
+        }
+        let (_, last) = walked(&around('K', 1, &item));
+        assert_eq!(last, Found::End);
+    }
 }
 
 // Examples of 002.
@@ -656,9 +708,20 @@ fn of_001_indexed_signatures_by_the_master_table() {
     rows(SIG_0, &[(0, 44, 0), (44, 44, 0)], &[], None);
     rows(SIG_1, &[(0, 44, 0), (44, 44, 8)], &[(1, 8, 44)], None);
     rows(SIG_2, &[(0, 44, 0), (44, 44, 8)], &[(1, 8, 44)], None);
-    // In 003 they belong into a `-K`, counted in units: 3 x 22 = 66 = `BC`.
+    // In 003 they belong into a `-K`, counted in units: 3 x 22 = 66 = `BC`. They
+    // are from the time of post-padding: `5` is 57 and `T` 19, whose high four
+    // bits are not zero; of the three only `ABBg..` happens to have zero pad bits.
     let group = format!("-KBC{SIG_0}{SIG_1}{SIG_2}");
-    rows(&group, &[(0, 268, 0)], &[], None);
+    rows(&group, &[(0, 268, 8)], &[(0, 8, 4)], None);
+    for (signature, number) in [(SIG_0, 8), (SIG_1, 0), (SIG_2, 8)] {
+        let group = format!("-KAW{signature}");
+        let refusal = (0, number, 4);
+        let refusals = if number == 0 { vec![] } else { vec![refusal] };
+        rows(&group, &[(0, 92, number)], &refusals, None);
+    }
+    let found = oracle::indexed::read_text(SIG_1.as_bytes(), 0, &mut [0; 64]).unwrap();
+    assert_eq!((found.row.code, found.index, found.ondex), ("A", 1, 0));
+    assert_eq!((found.size, found.raw), (88, 64));
 }
 
 const PREFIX: &str = "E_T2_p83_gRSuAYvGhqV3S0JzYEF2dIa-OCPLbIhBO7Y";
@@ -728,15 +791,15 @@ fn of_001_nontransferable_path_signature() {
 
 #[test]
 fn of_001_path_groups() {
-    // "SAD Path Groups": in 003 `-K` is opaque, one unit. Then `AAA-` and
-    // `AA-a` are seeds with 16 (19 with the dots) characters of 44.
+    // "SAD Path Groups": in 003 `-K` holds indexed signatures, here one unit
+    // that is none: 6. Then `AAA-` and `AA-a` are seeds with 16 (19 with the dots) characters of 44.
     for stream in [
         "-KAB6AABAAA--JAB5AABAA-a",
         "-KAB6AABAAA--JAB5AABAA-a...",
         "-KAB5AABAA-a-JAB5AABAA-a",
         "-KAB5AABAA-a-JAB5AABAA-a...",
     ] {
-        rows(stream, &[(0, 8, 0)], &[], Some((8, 4)));
+        rows(stream, &[(0, 8, 6)], &[(0, 6, 4)], Some((8, 4)));
     }
 }
 
@@ -749,9 +812,9 @@ fn of_001_codes_that_003_changed() {
     // 001's `1AAN` is 8 and `1AAO` is 12; 003 has 12 and 4.
     rows("1AANAAAA", &[], &[], Some((0, 4)));
     rows("1AAOMAAB", &[(0, 4, 0), (4, 4, 0)], &[], None);
-    // 001's indexed `-J` and `-K`; 003's `-J` is a list, `-K` opaque.
+    // 001's indexed `-J` and `-K`; 003's `-J` is a list, `-K` of signatures.
     rows("-JAB_AAA", &[(0, 8, 6)], &[(0, 6, 4)], None);
-    rows("-KAB_AAA", &[(0, 8, 0)], &[], None);
+    rows("-KAB_AAA", &[(0, 8, 6)], &[(0, 6, 4)], None);
 }
 
 #[test]
@@ -763,9 +826,14 @@ fn of_001_genus_in_a_list_has_no_override() {
         let stream = format!("-{letter}AC-_AAABAA");
         rows(&stream, &[(0, 12, 7)], &[(0, 7, 4)], None);
     }
-    for letter in ["D", "E", "F", "G", "H", "I", "K", "L", "M", "Z", "a", "c"] {
+    for letter in ["D", "E", "F", "G", "H", "I", "M", "Z", "a", "c"] {
         let stream = format!("-{letter}AC-_AAABAA");
         rows(&stream, &[(0, 12, 0)], &[], None);
+    }
+    // Nothing but indexed items stands in these.
+    for letter in ["K", "L"] {
+        let stream = format!("-{letter}AC-_AAABAA");
+        rows(&stream, &[(0, 12, 6)], &[(0, 6, 4)], None);
     }
 }
 
@@ -825,15 +893,17 @@ fn walked(stream: &str) -> (Vec<(usize, usize, usize, String)>, Found) {
 
 #[test]
 fn walk_over_nested_groups() {
-    let (items, last) = walked("-AAF-KAB_AAA-JABMAABXABC-AAA");
+    let signature = format!("A_{}", "A".repeat(86));
+    let (items, last) = walked(&format!("-AAa-KAW{signature}-JABMAABXABC-AAA"));
     let item = |offset, size, depth, code: &str| (offset, size, depth, code.to_string());
     let expected = [
-        item(0, 24, 0, "-A"),
-        item(4, 8, 1, "-K"),
-        item(12, 8, 1, "-J"),
-        item(16, 4, 2, "M"),
-        item(20, 4, 1, "X"),
-        item(24, 4, 0, "-A"),
+        item(0, 108, 0, "-A"),
+        item(4, 92, 1, "-K"),
+        item(8, 88, 2, "A"),
+        item(96, 8, 1, "-J"),
+        item(100, 4, 2, "M"),
+        item(104, 4, 1, "X"),
+        item(108, 4, 0, "-A"),
     ];
     assert_eq!((&items[..], last), (&expected[..], Found::End));
     // 02 h: a large group is walked into where the small code has no digits

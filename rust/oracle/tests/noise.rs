@@ -8,7 +8,7 @@ use oracle::form::Form;
 use oracle::frame::frame_top_level;
 use oracle::judge::{judge, MOST_GROUPS};
 use oracle::primitive::{read_binary, read_text, write, Named, Primitive, Tag};
-use oracle::registry::{Code, FIXED, VARIABLE};
+use oracle::registry::{Code, FIXED, INDEXED, VARIABLE};
 use oracle::report::{report, write_report, Report};
 use oracle::walk::{step, Found, Walk};
 
@@ -47,12 +47,30 @@ impl Noise {
         (0..length).map(|_| one()).collect()
     }
 
+    /// An indexed item of any code, often with ondex digits or pad bits set.
+    fn indexed(&mut self) -> String {
+        let row = INDEXED[self.below(INDEXED.len())];
+        let zero = self.below(2) == 0;
+        let ondex = match zero {
+            true => "A".repeat(row.ondex),
+            false => self.characters(row.ondex),
+        };
+        let front = ["A", "D", "E", "_"][self.below(4)];
+        let head = format!("{}{}{ondex}{front}", row.code, self.characters(row.index));
+        let rest = self.characters(row.full - head.len());
+        head + &rest
+    }
+
     /// A stream of pieces that are likely to be framed, whole or not.
     fn likely(&mut self, pieces: usize) -> String {
         let mut stream = String::new();
         for _ in 0..pieces {
             if self.below(40) == 0 {
                 stream += &nested('J', 63 + self.below(3));
+            } else if self.below(10) == 0 {
+                let items = 1 + self.below(3);
+                let body: String = (0..items).map(|_| self.indexed()).collect();
+                stream += &around(b"KL"[self.below(2)] as char, 1, &body);
             } else if self.below(3) == 0 {
                 let letter = b"ABCJKLZ"[self.below(7)] as char;
                 let count = (b'A' + self.below(7) as u8) as char;
@@ -86,6 +104,7 @@ fn try_every_call(noise: &mut Noise, stream: &[u8]) {
         state.open = noise.below(5);
         state.position = noise.below(stream.len() + 2);
         state.first = noise.below(2) == 0;
+        state.indexed = noise.below(2) == 0;
         let _ = step(state, stream, form);
     }
     for _ in 0..4 {
@@ -194,7 +213,7 @@ fn nothing_panics_on_likely_streams() {
 
 #[test]
 fn the_noise_meets_every_number() {
-    // D44: a verdict is 4 to 11, 16, 18 or 19, a remainder's number 4 to 7 or
+    // D44: a verdict is 4 to 11, 15, 16, 18 or 19, a remainder's number 4 to 7 or
     // 19.
     let mut noise = Noise(0xDEAD_BEEF_0BAD_F00D);
     let (mut verdicts, mut remainders) = ([0; 256], [0; 256]);
@@ -210,7 +229,7 @@ fn the_noise_meets_every_number() {
         }
     }
     for number in 0..256 {
-        let verdict = matches!(number, 0 | 4..=11 | 16 | 18 | 19);
+        let verdict = matches!(number, 0 | 4..=11 | 15 | 16 | 18 | 19);
         assert_eq!(verdicts[number] > 0, verdict, "verdict {number}");
         let remainder = matches!(number, 4..=7 | 19);
         assert_eq!(remainders[number] > 0, remainder, "remainder {number}");

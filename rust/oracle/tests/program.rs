@@ -128,16 +128,57 @@ fn walks_and_steps() {
     answered(&["walk", "text"], b"-AABMAAB", b"0 8 0 -A\n4 4 1 M\n");
     refused(&["walk", "text"], b"-AAB0AAAMAAB", "0 8 0 -A\n", "4 4");
     let zeros = " 0".repeat(63);
-    let inside = format!("0 8 0 -A\n1 4 1 8{zeros}\n");
+    let inside = format!("0 8 0 -A\n1 4 1 0 8{zeros}\n");
     answered(
-        &["step", "text", "0", "0", "0"],
+        &["step", "text", "0", "0", "0", "0"],
         b"-AABMAAB",
         inside.as_bytes(),
     );
-    let end = format!("end\n0 4 0 0{zeros}\n");
-    answered(&["step", "text", "0", "4", "0"], b"MAAB", end.as_bytes());
-    refused(&["step", "text", "0", "0", "1"], b"MAAB", "", "13 0");
-    refused(&["step", "text", "65", "0", "0"], b"MAAB", "", "13 0");
+    let inside = format!("0 8 0 -K\n1 4 0 1 8{zeros}\n");
+    let start = ["step", "text", "0", "0", "0", "0"];
+    answered(&start, b"-KABMAAB", inside.as_bytes());
+    let within = ["step", "text", "1", "4", "0", "1", "8"];
+    refused(&within, b"-KABMAAB", "", "6 4");
+    let end = format!("end\n0 4 0 0 0{zeros}\n");
+    let at_end = ["step", "text", "0", "4", "0", "0"];
+    answered(&at_end, b"MAAB", end.as_bytes());
+    for unfit in [
+        ["0", "0", "1", "0"],
+        ["0", "0", "0", "1"],
+        ["65", "0", "0", "0"],
+    ] {
+        let words = [&["step", "text"][..], &unfit].concat();
+        refused(&words, b"MAAB", "", "13 0");
+    }
+}
+
+#[test]
+fn indexed_items() {
+    let raw = "00".repeat(64);
+    let write = |more: &[&str]| [&["write-indexed", "text"][..], more].concat().join(" ");
+    let run_words = |line: String, stream: &[u8]| {
+        let words: Vec<&str> = line.split(' ').collect();
+        run(&words, stream)
+    };
+    let item = format!("2ABBAC{}", "A".repeat(86));
+    let line = write(&["2A", "--index", "65", "--ondex", "2", "--raw", &raw]);
+    assert_eq!(
+        run_words(line, b""),
+        (0, item.clone().into(), String::new())
+    );
+    let line = format!("code=2A index=65 ondex=2 raw={raw} size=92\n");
+    answered(
+        &["read-indexed", "text", "0"],
+        item.as_bytes(),
+        line.as_bytes(),
+    );
+    for (code, number) in [("2E", 6), ("B", 12), ("2B", 15)] {
+        let line = write(&[code, "--ondex", "2", "--raw", &raw]);
+        let told = (1, Vec::new(), format!("refused {number} 0\n"));
+        assert_eq!(run_words(line, b""), told, "{code}");
+    }
+    refused(&["read-indexed", "text", "0"], b"-AAA", "", "6 0");
+    refused(&["read-indexed", "binary", "3"], &[0; 3], "", "4 3");
 }
 
 #[test]

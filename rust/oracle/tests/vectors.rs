@@ -9,11 +9,12 @@ use common::papers::{DIGESTS_OF_001, NUMBER, POST_PADDED_OF_001, SAD_PATHS, SHOR
 use common::{around, nested};
 use oracle::compare::compare;
 use oracle::convert;
+use oracle::indexed::{self, IndexedItem};
 use oracle::instalments::{walk_on, Pause};
 use oracle::judge::MOST_GROUPS;
 use oracle::primitive::{self, Named, Primitive, Tag};
 use oracle::refusal::Refusal;
-use oracle::registry::{Code, FIXED, VARIABLE};
+use oracle::registry::{Code, Indexed, FIXED, INDEXED, VARIABLE};
 use oracle::report::write_report;
 use oracle::walk::{step, Found, Walk};
 use oracle::Form;
@@ -33,9 +34,13 @@ const WALK_BINARY: u8 = 10;
 const WALK_ON_TEXT: u8 = 13;
 const WALK_ON_BINARY: u8 = 14;
 const COMPARE: u8 = 20;
+const READ_INDEXED_TEXT: u8 = 21;
+const READ_INDEXED_BINARY: u8 = 22;
+const WRITE_INDEXED_TEXT: u8 = 23;
+const WRITE_INDEXED_BINARY: u8 = 24;
 
-/// A walk's state: the ends, the number open, the position and the mark.
-const STATE: usize = MOST_GROUPS + 3;
+/// A walk's state: the ends, the number open, the position and the two marks.
+const STATE: usize = MOST_GROUPS + 4;
 
 /// A call with its input and the room lent.
 struct Record {
@@ -71,6 +76,9 @@ impl Record {
             REPORT_BINARY => write_report(&self.input, Form::Binary, &mut out),
             READ_TEXT | READ_BINARY => return self.read_line(),
             COMPARE => return self.compare_line(),
+            READ_INDEXED_TEXT | READ_INDEXED_BINARY => return self.read_indexed_line(),
+            WRITE_INDEXED_TEXT => write_indexed(&self.input, Form::Text, &mut out),
+            WRITE_INDEXED_BINARY => write_indexed(&self.input, Form::Binary, &mut out),
             WALK_TEXT => return self.step_lines(Form::Text, 4),
             WALK_BINARY => return self.step_lines(Form::Binary, 3),
             WALK_ON_TEXT => return self.slice_lines(Form::Text, 4),
@@ -85,7 +93,7 @@ impl Record {
     /// as a reader's, and how many items are left and what stops the walk.
     fn step_lines(&self, form: Form, unit: usize) -> String {
         let (before, stream) = self.input.split_at(STATE);
-        if before[STATE - 1] > 1 {
+        if before[STATE - 2..].iter().any(|mark| *mark > 1) {
             return self.no_mark(before);
         }
         let from = state_of(before, unit);
@@ -110,7 +118,7 @@ impl Record {
     fn slice_lines(&self, form: Form, unit: usize) -> String {
         let (before, stream) = self.input.split_at(STATE);
         let mut state: Vec<usize> = before.iter().map(|byte| usize::from(*byte)).collect();
-        if state[STATE - 1] > 1 {
+        if state[STATE - 2..].iter().any(|mark| *mark > 1) {
             return format!("{} 13 0 0{}", self.call, spaced(&state));
         }
         let (next, items, pause) = walk_on(state_of(before, unit), stream, form, self.room);
@@ -147,6 +155,29 @@ impl Record {
             write!(line, " {number}").unwrap();
         }
         line
+    }
+
+    /// The raw value of a text is what the buffer holds, and of a binary the part
+    /// where it lies; then the seven numbers.
+    fn read_indexed_line(&self) -> String {
+        let at = usize::from(u16::from_be_bytes([self.input[0], self.input[1]]));
+        let stream = &self.input[2..];
+        let mut out = vec![0xAA; self.room];
+        let (found, unit) = match self.call {
+            READ_INDEXED_TEXT => (indexed::read_text(stream, at, &mut out), 4),
+            _ => match indexed::read_binary(stream, at) {
+                Ok((item, part)) => {
+                    out = part.to_vec();
+                    (Ok(item), 3)
+                }
+                Err(refusal) => {
+                    out.clear();
+                    (Err(refusal), 3)
+                }
+            },
+        };
+        let told = found.map_or([0xAA; 7], |item| indexed_numbers(&item, unit));
+        line(self.call, found.map(|item| item.raw), &out) + &spaced(&told)
     }
 
     /// A read's line goes on with the tag places and the seven numbers.
@@ -201,7 +232,28 @@ fn numbers(item: &Primitive, unit: usize) -> [usize; 7] {
     [chars.into(), letter.into(), units, start, raw, tags, text]
 }
 
-/// An item's code in the walk: sort, letter, lead bytes.
+/// An indexed item's seven numbers: selector and letter, its units, where its
+/// raw value starts in bytes, the raw value's length, index and ondex.
+fn indexed_numbers(item: &IndexedItem, unit: usize) -> [usize; 7] {
+    let (selector, letter) = indexed_code(item.row);
+    let units = item.size / unit;
+    let start = units * 3 - item.raw;
+    let [index, ondex] = [item.index, item.ondex].map(|number| number as usize);
+    let code = [selector, letter].map(usize::from);
+    [code[0], code[1], units, start, item.raw, index, ondex]
+}
+
+/// Selector, 0 where the letter stands alone, and letter.
+fn indexed_code(row: &Indexed) -> (u8, u8) {
+    match *row.code.as_bytes() {
+        [letter] => (0, letter),
+        [selector, letter] => (selector, letter),
+        _ => unreachable!("no indexed code"),
+    }
+}
+
+/// An item's code in the walk: sort, letter, and lead bytes or the selector of
+/// an indexed item.
 fn code_numbers(code: Code) -> [usize; 3] {
     match code {
         Code::Fixed(row) => [row.code.len(), named(row.code).1.into(), 0],
@@ -211,6 +263,10 @@ fn code_numbers(code: Code) -> [usize; 3] {
         }
         Code::Group { letter, large } => [7 + usize::from(large), letter.into(), 0],
         Code::Genus => [9, 0, 0],
+        Code::Indexed(row) => {
+            let (selector, letter) = indexed_code(row);
+            [10, letter.into(), selector.into()]
+        }
     }
 }
 
@@ -253,6 +309,7 @@ fn state_of(numbers: &[u8], unit: usize) -> Walk {
     walk.open = behind[0].into();
     walk.position = usize::from(behind[1]) * unit;
     walk.first = behind[2] == 1;
+    walk.indexed = behind[3] == 1;
     walk
 }
 
@@ -262,7 +319,8 @@ fn spaced(numbers: &[usize]) -> String {
 
 fn numbers_of(walk: &Walk, unit: usize) -> Vec<usize> {
     let mut numbers: Vec<usize> = walk.ends.iter().map(|end| end / unit).collect();
-    numbers.extend([walk.open, walk.position / unit, usize::from(walk.first)]);
+    numbers.extend([walk.open, walk.position / unit]);
+    numbers.extend([walk.first, walk.indexed].map(usize::from));
     numbers
 }
 
@@ -293,6 +351,17 @@ fn write(input: &[u8], form: Form, out: &mut [u8]) -> Result<usize, Refusal> {
         _ => Named::Fixed(&code),
     };
     primitive::write(named, &tag, &input[14..], form, out)
+}
+
+/// A write of an indexed item as recorded: selector, letter, index and ondex in
+/// eight bytes each, the raw value.
+fn write_indexed(input: &[u8], form: Form, out: &mut [u8]) -> Result<usize, Refusal> {
+    let code = match input[0] {
+        0 => &input[1..2],
+        _ => &input[..2],
+    };
+    let number = |from: usize| u64::from_be_bytes(input[from..from + 8].try_into().unwrap());
+    indexed::write(code, number(2), number(10), &input[18..], form, out)
 }
 
 /// RFC 4648, sections 9 and 10, in the URL-safe alphabet, whole units only;
@@ -433,7 +502,7 @@ fn reports(records: &mut Vec<Record>) {
     noise(records);
 }
 
-/// Partial units, strangers at the top and within groups, opaque groups.
+/// Partial units, strangers at the top and within groups, signature groups.
 fn remainders(records: &mut Vec<Record>) {
     for text in [
         &b"MAAB\n"[..],
@@ -774,12 +843,233 @@ fn walk_both(records: &mut Vec<Record>, from: [u8; STATE], text: &[u8]) {
     }
 }
 
-/// A state: ends, position, mark.
+/// A state: ends, position, first-item mark.
 fn state(ends: &[u8], at: u8, first: u8) -> [u8; STATE] {
+    marked(ends, at, first, 0)
+}
+
+/// The same with the mark of indexed items.
+fn marked(ends: &[u8], at: u8, first: u8, indexed: u8) -> [u8; STATE] {
     let mut numbers = [0; STATE];
     numbers[..ends.len()].copy_from_slice(ends);
-    numbers[MOST_GROUPS..].copy_from_slice(&[ends.len() as u8, at, first]);
+    numbers[MOST_GROUPS..].copy_from_slice(&[ends.len() as u8, at, first, indexed]);
     numbers
+}
+
+/// 02 a: a `-K` of one item of each of 003's indexed codes, right and wrong in
+/// each way, whole and walked; the mark of a given state decides by itself.
+fn signatures(records: &mut Vec<Record>) {
+    for row in INDEXED {
+        let mut heads = vec![format!("{}{}", row.code, "_".repeat(row.index))];
+        if row.ondex > 0 {
+            heads.push(format!("{}{}B", heads[0], "A".repeat(row.ondex - 1)));
+        }
+        let digits = "A".repeat(row.code_length() - row.code.len());
+        heads.extend(["D", "E"].map(|value| format!("{}{digits}{value}", row.code)));
+        for head in heads {
+            let group = around('K', 1, &item(&head, row.full));
+            for (call, stream) in [
+                (REPORT_TEXT, group.clone().into_bytes()),
+                (REPORT_BINARY, in_binary(group.as_bytes()).unwrap()),
+            ] {
+                records.push(Record::new(call, 17 + 18, &stream));
+            }
+        }
+    }
+    signature_walks(records);
+}
+
+/// `head` and as many `A` as make it whole.
+fn item(head: &str, full: usize) -> String {
+    format!("{head}{}", "A".repeat(full - head.len()))
+}
+
+fn signature_walks(records: &mut Vec<Record>) {
+    let two = item("A_", 88) + &item("2BAAAB", 92);
+    walk_both(records, [0; STATE], around('L', 1, &two).as_bytes());
+    let strange = two.replacen("AAAAA", "AAA/A", 1);
+    walk_both(records, [0; STATE], around('K', 1, &strange).as_bytes());
+    for text in [
+        "-KAC-_AAACAA",
+        "-LABMAAB",
+        "-KAB-KAA",
+        "-KAA-LAA",
+        "-AAB-KAAMAAB",
+    ] {
+        walk_both(records, [0; STATE], text.as_bytes());
+    }
+    for from in [
+        marked(&[22], 0, 0, 1),
+        marked(&[22], 0, 1, 1),
+        marked(&[22, 22], 0, 0, 1),
+        marked(&[22], 0, 0, 0),
+        marked(&[], 0, 0, 1),
+        marked(&[], 0, 1, 1),
+    ] {
+        walk_both(records, from, item("A_", 88).as_bytes());
+    }
+    for mark in [2, 255] {
+        let numbers = marked(&[1], 0, 0, mark);
+        for (call, stream) in [(WALK_TEXT, &b"MAAB"[..]), (WALK_BINARY, &[0x30, 0, 1])] {
+            records.push(Record::new(call, 0, &[&numbers, stream].concat()));
+        }
+    }
+}
+
+/// A write to both forms, with room enough and one less; a refused one with room
+/// for no item, since 3 is last.
+fn write_indexed_both(records: &mut Vec<Record>, code: (u8, u8), digits: [u64; 2], raw: &[u8]) {
+    let mut input = vec![code.0, code.1];
+    input.extend(digits.map(u64::to_be_bytes).concat());
+    input.extend(raw);
+    let [text, binary] = match write_indexed(&input, Form::Text, &mut [0; 160]) {
+        Ok(size) => [
+            vec![size + 1, size - 1],
+            vec![size / 4 * 3, size / 4 * 3 - 1],
+        ],
+        Err(_) => [vec![1], vec![0]],
+    };
+    let text = text.into_iter().map(|room| (WRITE_INDEXED_TEXT, room));
+    let binary = binary.into_iter().map(|room| (WRITE_INDEXED_BINARY, room));
+    let calls = text.chain(binary);
+    records.extend(calls.map(|(call, room)| Record::new(call, room, &input)));
+}
+
+/// A text read at an offset in characters, and its binary at the same unit,
+/// where no room is asked.
+fn read_indexed_both(records: &mut Vec<Record>, at: u16, room: usize, text: &[u8]) {
+    let input = [&at.to_be_bytes(), text].concat();
+    records.push(Record::new(READ_INDEXED_TEXT, room, &input));
+    if let Some(binary) = in_binary(text) {
+        let input = [&(at / 4 * 3).to_be_bytes(), &binary[..]].concat();
+        records.push(Record::new(READ_INDEXED_BINARY, 0, &input));
+    }
+}
+
+/// 02 a: each code written with digits that show their order and with its
+/// highest; then what is 12 (an index, an ondex or a raw length that does not
+/// fit) and what is 15, each before the other and before 3.
+fn indexed_written(records: &mut Vec<Record>) {
+    for row in INDEXED {
+        let code = indexed_code(&row);
+        let [most_index, most_ondex] = [row.index, row.ondex].map(|n| (1 << (6 * n)) - 1u64);
+        let some_index = 0x1083 & most_index;
+        let value = raw(row.raw());
+        for digits in [
+            [some_index, 0x2105 & most_ondex],
+            [most_index, 0],
+            [0, most_ondex + 1],
+            [most_index + 1, 1],
+            [1 << 32, 0],
+        ] {
+            write_indexed_both(records, code, digits, &value);
+        }
+        if row.ondex > 0 {
+            write_indexed_both(records, code, [0, 1], &value);
+            write_indexed_both(records, code, [0, most_ondex], &value);
+        }
+        for length in [row.raw() - 1, row.raw() + 1] {
+            write_indexed_both(records, code, [0, 0], &raw(length));
+        }
+    }
+    for digits in [[0, u64::MAX], [u64::MAX, u64::MAX]] {
+        write_indexed_both(records, (b'2', b'A'), digits, &raw(64));
+    }
+    indexed_unknown(records);
+}
+
+/// 6, and before 12.
+fn indexed_unknown(records: &mut Vec<Record>) {
+    for (selector, letter) in [
+        (0, b'E'),
+        (0, b'a'),
+        (0, 0),
+        (b'0', b'C'),
+        (b'1', b'A'),
+        (b'2', b'E'),
+        (b'3', b'C'),
+        (b'A', b'A'),
+        (b'-', b'K'),
+        (0xFF, 0xFF),
+    ] {
+        write_indexed_both(records, (selector, letter), [0, 0], &raw(64));
+    }
+    write_indexed_both(records, (0, b'E'), [64, 1], b"");
+}
+
+/// Each code with its highest index and what ondex it may have: read behind a
+/// primitive, with room enough and one less, cut short by a unit; then with what
+/// is 8, what is 15, and each of them with a stranger behind it.
+fn indexed_read(records: &mut Vec<Record>) {
+    for row in INDEXED {
+        let index = "_".repeat(row.index);
+        let ondex = |digit: &str| digit.repeat(row.ondex);
+        let free = if row.is_current_only() { "A" } else { "-" };
+        for (digits, value) in [
+            (ondex(free), "D"),
+            (ondex("A"), "E"),
+            (ondex("B"), "A"),
+            (ondex("B"), "Q"),
+        ] {
+            let mut text = format!("MAAB{}{index}{digits}{value}", row.code);
+            text += &"z".repeat(4 + row.full - text.len());
+            read_indexed_both(records, 4, row.raw() + 1, text.as_bytes());
+            let input = [&[0, 4], text.as_bytes()].concat();
+            records.push(Record::new(READ_INDEXED_TEXT, row.raw() - 1, &input));
+            text.replace_range(row.full + 2.., "!=");
+            read_indexed_both(records, 4, 0, text.as_bytes());
+        }
+        let item = format!("{}{}", row.code, "A".repeat(row.full - row.code.len()));
+        read_indexed_both(records, 0, row.raw(), item.as_bytes());
+        for left in [row.full - 4, 4 * row.header_units(), 4] {
+            read_indexed_both(records, 0, row.raw(), &item.as_bytes()[..left]);
+        }
+        // Behind the header, the last character but one, and a stranger in it.
+        for (place, stranger) in [(row.code.len(), "+"), (row.full - 2, "!"), (7, "=")] {
+            let mut strange = item.clone();
+            strange.replace_range(place..place + 1, stranger);
+            read_indexed_both(records, 0, row.raw(), strange.as_bytes());
+        }
+    }
+}
+
+/// What is no indexed item, and offsets at, past and beside one.
+fn indexed_not_read(records: &mut Vec<Record>) {
+    for text in [
+        &b""[..],
+        b"-KAA",
+        b"-_AAACAA",
+        b"--KAABAA",
+        b"MAAB",
+        b"EAAA",
+        b"1AAK",
+        b"4BAA",
+        b"0CAA",
+        b"2EAA",
+        b"3CAA",
+        b"_AAA",
+        b"2AAA",
+        b"2AAA!AA",
+        b"3BAA___/",
+        b"E!AA",
+        b"E=AA",
+        b"MA",
+        DIGESTS_OF_001[0].as_bytes(),
+    ] {
+        read_indexed_both(records, 0, 64, text);
+    }
+    // A key of 44 characters is half an item here.
+    let key = format!("D{}", "A".repeat(43));
+    read_indexed_both(records, 0, 64, key.as_bytes());
+    let items = format!("A_{}", "A".repeat(86)).repeat(2);
+    for at in [0, 4, 84, 88, 92, 172, 176, 180, 65_532] {
+        read_indexed_both(records, at, 64, items.as_bytes());
+    }
+    records.push(Record::new(
+        READ_INDEXED_TEXT,
+        64,
+        &[&[0, 1], items.as_bytes()].concat(),
+    ));
 }
 
 fn walks(records: &mut Vec<Record>) {
@@ -934,6 +1224,10 @@ fn records() -> Vec<Record> {
     texts(&mut records);
     reads(&mut records);
     walks(&mut records);
+    signatures(&mut records);
+    indexed_written(&mut records);
+    indexed_read(&mut records);
+    indexed_not_read(&mut records);
     ordinary(&mut records);
     instalments(&mut records);
     examples(&mut records);

@@ -1,9 +1,10 @@
 //! The recorded calls of `crates/vectors_long`: long raw values and texts
-//! written, and read back. What the program there is fed and what it must write come from
+//! written, and read back, and indexed items of long streams. What the program there is fed and what it must write come from
 //! this package, which shares nothing with the program. `VECTORS_WRITE=1 cargo
 //! test -p oracle --test vectors_long` writes the files anew; without it the
 //! files must be what they would be.
 
+use oracle::indexed::{self, IndexedItem};
 use oracle::primitive::{read_binary, read_text, write, Named, Primitive, Tag};
 use oracle::primitive::{MOST_LARGE, MOST_SMALL};
 use oracle::registry::{Code, VARIABLE};
@@ -36,12 +37,7 @@ impl Record {
     }
 
     fn raw(&self) -> Vec<u8> {
-        let number = |i: usize| i % 65_536 * 7 + i / 256 % 256 + usize::from(self.seed);
-        let byte = |i: usize| match self.letter {
-            TEXT_TYPE => b'a' + (number(i) % 26) as u8,
-            _ => number(i) as u8,
-        };
-        (0..self.length).map(byte).collect()
+        filled(self.letter, self.seed, self.length)
     }
 
     fn bytes(&self) -> Vec<u8> {
@@ -95,6 +91,103 @@ impl Record {
         let same = back.iter().zip(raw).take_while(|(a, b)| a == b).count();
         line + &format!(" {} {same}\n", back.len())
     }
+}
+
+/// Bytes that follow from length and seed; of type `A` small letters.
+fn filled(letter: u8, seed: u8, length: usize) -> Vec<u8> {
+    let number = |i: usize| i % 65_536 * 7 + i / 256 % 256 + usize::from(seed);
+    let byte = |i: usize| match letter {
+        TEXT_TYPE => b'a' + (number(i) % 26) as u8,
+        _ => number(i) as u8,
+    };
+    (0..length).map(byte).collect()
+}
+
+/// A read of the indexed item at the start of a stream, which is filled like a
+/// raw value.
+struct Start {
+    form: Form,
+    letter: u8,
+    seed: u8,
+    length: usize,
+}
+
+impl Start {
+    /// Room for the raw value that each of these items has, and a byte.
+    const ROOM: usize = 65;
+
+    fn bytes(&self) -> Vec<u8> {
+        let mut bytes = vec![self.call(), 0, self.letter, self.seed];
+        bytes.extend((self.length as u32).to_be_bytes());
+        bytes.extend((Start::ROOM as u16).to_be_bytes());
+        bytes
+    }
+
+    fn call(&self) -> u8 {
+        match self.form {
+            Form::Text => 21,
+            Form::Binary => 22,
+        }
+    }
+
+    fn line(&self) -> String {
+        let stream = filled(self.letter, self.seed, self.length);
+        let mut out = [0xAA; Start::ROOM];
+        let found = match self.form {
+            Form::Text => indexed::read_text(&stream, 0, &mut out),
+            Form::Binary => indexed::read_binary(&stream, 0).map(|(found, _)| found),
+        };
+        let (number, value) = match found {
+            Ok(item) => (0, item.raw),
+            Err(refusal) => (refusal.number, refusal.place),
+        };
+        let mut line = format!("{} {number} {value}", self.call());
+        let told = found.map_or([0xAA; 7], |item| indexed_numbers(&item, self.form));
+        for number in told {
+            write!(line, " {number}").unwrap();
+        }
+        line + &format!(" {}\n", checksum(&out))
+    }
+}
+
+/// Selector and letter, units, where the raw value starts in bytes, its length,
+/// index and ondex.
+fn indexed_numbers(item: &IndexedItem, form: Form) -> [usize; 7] {
+    let [letter] = *item.row.code.as_bytes() else {
+        unreachable!("no code of one letter");
+    };
+    let units = item.size / form.unit();
+    let (index, ondex) = (item.index as usize, item.ondex as usize);
+    [
+        0,
+        letter.into(),
+        units,
+        3 * units - item.raw,
+        item.raw,
+        index,
+        ondex,
+    ]
+}
+
+/// Accepted, refused 8, 6 and 5 where the stream has its most, and 1 where it
+/// has one more.
+fn starts() -> Vec<Start> {
+    let mut starts = Vec::new();
+    for (form, letter, seed) in [
+        (Form::Text, b'A', 3),
+        (Form::Text, b'B', b'A'),
+        (Form::Binary, b'B', 9),
+        (Form::Binary, b'B', 0),
+        (Form::Binary, b'B', 0x80),
+    ] {
+        starts.extend([0, 1].map(|more| Start {
+            form,
+            letter,
+            seed,
+            length: form.limit() + more,
+        }));
+    }
+    starts
 }
 
 /// The code's two numbers, its units, where its raw value starts in bytes, the
@@ -205,6 +298,28 @@ fn heads_by_hand() {
     }
 }
 
+/// By hand: `C` with index 17 where the bytes begin 09 10, `A` with pad bits set
+/// where they begin 00 07, the unknown start `g` at 80; `dkr..` in text, and a
+/// stranger behind `AHOV`.
+#[test]
+fn starts_by_hand() {
+    let told: Vec<_> = starts().iter().map(Start::line).collect();
+    for (line, begins) in told.iter().zip([
+        "21 6 0 ",
+        "21 1 0 ",
+        "21 5 4 ",
+        "21 1 0 ",
+        "22 0 64 0 67 22 2 64 17 0 ",
+        "22 1 0 ",
+        "22 8 0 ",
+        "22 1 0 ",
+        "22 6 0 ",
+        "22 1 0 ",
+    ]) {
+        assert!(line.starts_with(begins), "{line} {begins}");
+    }
+}
+
 fn headed(letter: u8, large: bool, length: usize, answer: (u8, usize), head: &[u8]) {
     let record = Record {
         form: Form::Text,
@@ -222,8 +337,12 @@ fn headed(letter: u8, large: bool, length: usize, answer: (u8, usize), head: &[u
 #[test]
 fn the_files_say_what_the_oracle_says() {
     let records = records();
-    let input: Vec<u8> = records.iter().flat_map(Record::bytes).collect();
-    let expected: String = records.iter().map(Record::lines).collect();
+    let mut input: Vec<u8> = records.iter().flat_map(Record::bytes).collect();
+    let mut expected: String = records.iter().map(Record::lines).collect();
+    for start in starts() {
+        input.extend(start.bytes());
+        expected += &start.line();
+    }
     if std::env::var_os("VECTORS_WRITE").is_some() {
         std::fs::write(file("stdin"), &input).unwrap();
         std::fs::write(file("stdout"), &expected).unwrap();

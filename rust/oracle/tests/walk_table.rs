@@ -28,7 +28,8 @@ impl Term {
     }
 
     fn number(&self) -> usize {
-        self.word().parse().expect("a number")
+        let word = self.word();
+        word.parse().unwrap_or_else(|_| panic!("no number: {word}"))
     }
 
     fn terms(&self) -> &[Term] {
@@ -38,32 +39,57 @@ impl Term {
         }
     }
 
-    /// `1 ∷ 2 ∷ []`, or `replicate 64 2`
+    /// `1 ∷ 2 ∷ []`, `replicate 64 2`, or so many `A` behind others: `65 ∷ 66 ∷
+    /// (filler 86 ++ (51 ∷ []))`.
     fn list(&self) -> Vec<usize> {
-        if let [Term::Word(name), times, value] = self.terms() {
-            if name == "replicate" {
-                return vec![value.number(); times.number()];
+        let mut list = Vec::new();
+        let mut terms = self.terms().iter();
+        while let Some(term) = terms.next() {
+            let mut next = || terms.next().expect("one more").number();
+            match term {
+                Term::Terms(_) => list.extend(term.list()),
+                Term::Word(word) => match word.as_str() {
+                    "∷" | "[]" | "++" => {}
+                    "filler" => list.extend(vec![usize::from(b'A'); next()]),
+                    "replicate" => {
+                        let (times, value) = (next(), next());
+                        list.extend(vec![value; times]);
+                    }
+                    _ => list.push(term.number()),
+                },
             }
         }
-        let words = self.terms().iter().map(Term::word);
-        words
-            .filter(|w| !matches!(*w, "∷" | "[]"))
-            .map(|w| w.parse().expect("a number"))
-            .collect()
+        list
     }
 
-    /// `start` or `state ENDS DEPTH AT FIRST`, which count units.
+    /// `start`, `state ENDS DEPTH AT FIRST`, or `signatures` and the same within
+    /// a group of indexed items. Ends and position count units.
     fn state(&self, unit: usize) -> Walk {
         let mut walk = Walk::start();
-        if let [_, ends, depth, at, first] = self.terms() {
-            for (slot, end) in walk.ends.iter_mut().zip(ends.list()) {
-                *slot = end * unit;
-            }
-            walk.open = depth.number();
-            walk.position = at.number() * unit;
-            walk.first = first.word() == "true";
+        let [name, ends, depth, at, first] = self.terms() else {
+            assert_eq!(self.word(), "start");
+            return walk;
+        };
+        for (slot, end) in walk.ends.iter_mut().zip(ends.list()) {
+            *slot = end * unit;
         }
+        walk.open = depth.number();
+        walk.position = at.number() * unit;
+        walk.first = first.flag();
+        walk.indexed = match name.word() {
+            "state" => false,
+            "signatures" => true,
+            other => panic!("no state: {other}"),
+        };
         walk
+    }
+
+    fn flag(&self) -> bool {
+        match self.word() {
+            "true" => true,
+            "false" => false,
+            other => panic!("neither true nor false: {other}"),
+        }
     }
 }
 
@@ -79,8 +105,20 @@ fn terms<'a>(words: &mut impl Iterator<Item = &'a str>) -> Vec<Term> {
     all
 }
 
+/// What stands before the letter of an indexed code.
+fn selector_of(sort: &str) -> &str {
+    match sort {
+        "letterIndexed" => "",
+        "zeroIndexed" => "0",
+        "twoIndexed" => "2",
+        "threeIndexed" => "3",
+        other => panic!("no sort of indexed codes: {other}"),
+    }
+}
+
 /// A code as the table tells it: `Group 3`, `Genus`, `Fixed ROW`, `Variable
-/// LETTER LEAD COUNT`, of an item of so many units.
+/// LETTER LEAD COUNT`, `Indexed (twoIndexed LETTER CURRENT)`, of an item of so
+/// many units.
 fn is_told(kind: &Term, head: usize, units: usize, code: Code) -> bool {
     let letter = |l: usize| b'A' + u8::try_from(l).expect("a letter");
     let told = match (kind.terms()[0].word(), code) {
@@ -100,6 +138,14 @@ fn is_told(kind: &Term, head: usize, units: usize, code: Code) -> bool {
             row.code.as_bytes() == [letter(l.number())]
                 && row.full == size.number()
                 && [row.lead, row.tag] == [lead.number(), tag.number()]
+        }
+        ("Indexed", Code::Indexed(row)) => {
+            let [selector, l, current] = kind.terms()[1].terms() else {
+                panic!("{kind:?}")
+            };
+            let letter = char::from(letter(l.number()));
+            row.code == format!("{}{letter}", selector_of(selector.word()))
+                && row.is_current_only() == (current.number() == 1)
         }
         _ => false,
     };
@@ -153,5 +199,5 @@ fn steps_of_the_table() {
         assert!(right, "{row}\n{found:?}\n{next:?}");
         rows += 1;
     }
-    assert!(rows >= 36, "{rows}");
+    assert!(rows >= 70, "{rows}");
 }

@@ -1,6 +1,6 @@
 //! The calls as the archive has them; `include/cesr.h` says what each does.
 
-use crate::{Counts, Info, Item, State, Tag};
+use crate::{Counts, IndexedInfo, Info, Item, State, Tag};
 
 /// Stream, its length, buffer, its length, and where the answer goes: the
 /// length written if 0 is returned, else the place that goes with the number.
@@ -30,6 +30,10 @@ pub type Write = unsafe extern "C" fn(
     usize,
     *mut usize,
 ) -> u8;
+
+/// Selector, letter, index, ondex, raw value, buffer and answer.
+pub type WriteIndexed =
+    unsafe extern "C" fn(u8, u8, usize, usize, *const u8, usize, *mut u8, usize, *mut usize) -> u8;
 
 /// Stream, its length, state, item and answer.
 pub type Walk = unsafe extern "C" fn(*const u8, usize, *mut State, *mut Item, *mut usize) -> u8;
@@ -103,6 +107,44 @@ extern "C" {
         letter: u8,
         tag: *const Tag,
         tags: usize,
+        raw: *const u8,
+        length: usize,
+        out: *mut u8,
+        room: usize,
+        answer: *mut usize,
+    ) -> u8;
+    pub fn cesr_read_indexed_text(
+        stream: *const u8,
+        length: usize,
+        at: usize,
+        out: *mut u8,
+        room: usize,
+        info: *mut IndexedInfo,
+        answer: *mut usize,
+    ) -> u8;
+    pub fn cesr_read_indexed_binary(
+        stream: *const u8,
+        length: usize,
+        at: usize,
+        info: *mut IndexedInfo,
+        answer: *mut usize,
+    ) -> u8;
+    pub fn cesr_write_indexed_text(
+        selector: u8,
+        letter: u8,
+        index: usize,
+        ondex: usize,
+        raw: *const u8,
+        length: usize,
+        out: *mut u8,
+        room: usize,
+        answer: *mut usize,
+    ) -> u8;
+    pub fn cesr_write_indexed_binary(
+        selector: u8,
+        letter: u8,
+        index: usize,
+        ondex: usize,
         raw: *const u8,
         length: usize,
         out: *mut u8,

@@ -9,14 +9,19 @@
 
 mod compare;
 mod declared;
+mod indexed;
 mod passed;
 mod walk;
 
 pub use compare::{compare, Counts};
+pub use indexed::{
+    read_indexed_binary, read_indexed_text, write_indexed_binary, write_indexed_text, Indexed,
+    IndexedInfo, INDEXED, INDEXED_RAW, INDEXED_START,
+};
 pub use passed::passed;
 pub use walk::{
     walk_binary, walk_on_binary, walk_on_text, walk_text, Instalment, Item, Pause, State,
-    MAX_DEPTH, STATE, STATE_FIRST, STATE_OPEN, STATE_POSITION,
+    MAX_DEPTH, STATE, STATE_FIRST, STATE_INDEXED, STATE_OPEN, STATE_POSITION,
 };
 
 /// A refused call: 01's number, and the place in the stream's own measure.

@@ -5,21 +5,23 @@ use crate::{declared, Refusal};
 /// At most so many groups are open.
 pub const MAX_DEPTH: usize = 64;
 
-/// Where a state has the number open, the position and the first-item mark, and
-/// how many numbers it has.
+/// Where a state has the number open, the position, the first-item mark and the
+/// mark of indexed items, and how many numbers it has.
 pub const STATE_OPEN: usize = MAX_DEPTH;
 pub const STATE_POSITION: usize = MAX_DEPTH + 1;
 pub const STATE_FIRST: usize = MAX_DEPTH + 2;
-pub const STATE: usize = MAX_DEPTH + 3;
+pub const STATE_INDEXED: usize = MAX_DEPTH + 3;
+pub const STATE: usize = MAX_DEPTH + 4;
 
-/// The ends of open groups, the number open, the position, and the first-item
-/// mark, 0 or 1; ends and position in units. Zeros alone are the start of every
-/// stream.
+/// The ends of open groups, the number open, the position, the first-item mark
+/// and whether the innermost open group holds indexed items, each 0 or 1; ends
+/// and position in units. Zeros alone are the start of every stream.
 pub type State = [usize; STATE];
 
 /// Offset and size in the stream's own measure, depth, and the code: chars as
-/// in `Info` or 7 for a small group, 8 for a large one, 9 for a genus/version;
-/// the letter (0 for a genus/version); a variable's lead bytes.
+/// in `Info` or 7 for a small group, 8 for a large one, 9 for a genus/version, 10
+/// for an indexed item; the letter (0 for a genus/version); a variable's lead
+/// bytes, or an indexed item's selector as in `IndexedInfo`.
 pub type Item = [usize; 6];
 
 /// The number that stands for the stream's end.

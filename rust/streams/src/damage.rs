@@ -4,7 +4,7 @@
 #![allow(clippy::ptr_arg)]
 
 use crate::form::{characters, Form};
-use crate::generate::{any_fill, front_unit, MOST_GROUPS};
+use crate::generate::{any_fill, any_indexed, any_signatures, front_unit, MOST_GROUPS};
 use crate::item::{group_header, stream_in};
 use crate::random::Random;
 use crate::table::{GROUPS, HEADS, MOST_SMALL};
@@ -13,7 +13,7 @@ use crate::table::{GROUPS, HEADS, MOST_SMALL};
 pub type Operator = fn(&mut Random, Form, &mut Vec<u8>);
 
 /// All of them, with a name for messages.
-pub const OPERATORS: [(&str, Operator); 17] = [
+pub const OPERATORS: [(&str, Operator); 18] = [
     ("flip a bit", flip_bit),
     ("any byte", any_byte),
     ("wrong alphabet", wrong_alphabet),
@@ -29,6 +29,7 @@ pub const OPERATORS: [(&str, Operator); 17] = [
     ("large code", large_code),
     ("genus code", genus_code),
     ("another fill", another_fill),
+    ("another signature", another_signature),
     ("wrap", wrap),
     ("flip a header's bit", flip_header_bit),
 ];
@@ -259,6 +260,28 @@ fn another_fill(random: &mut Random, form: Form, stream: &mut Vec<u8>) {
     let first = form.of_text(&front_unit(random));
     let bits = form.bits(&first, 0);
     form.put(stream, *random.pick(&values), bits);
+}
+
+/// Another header for the first item of a group of signatures: of any indexed
+/// item, so of another code, ondex or pad bits; where there is no such group,
+/// one before any unit.
+fn another_signature(random: &mut Random, form: Form, stream: &mut Vec<u8>) {
+    let unit = form.unit();
+    let mut groups = group_headers(form, stream);
+    // `K` is 10, `L` 11.
+    groups.retain(|offset| matches!(form.bits(stream, *offset) >> 12 & 63, 10 | 11));
+    if groups.is_empty() || random.once_in(4) {
+        let group = stream_in(&[any_signatures(random)], form);
+        let offset = unit_offset(random, form, stream);
+        insert(stream, offset, &group);
+        return;
+    }
+    let first = *random.pick(&groups) + unit;
+    let item = stream_in(&[any_indexed(random)], form);
+    for place in 0..1 + random.below(2) {
+        let bits = form.bits(&item, place * unit);
+        form.put(stream, first + place * unit, bits);
+    }
 }
 
 /// The genus/version that is read, and others that differ from it.

@@ -2,10 +2,10 @@
 //! top-level items go.
 
 use crate::form::{characters, ALPHABET};
-use crate::generate::{any_item, fixed, nested, TOP};
+use crate::generate::{any_item, fixed, indexed, nested, TOP};
 use crate::item::{stream, Item};
 use crate::random::Random;
-use crate::table::{FIXED, TEXT};
+use crate::table::{FIXED, INDEXED, TEXT};
 
 /// 44-character digests `E` with any value.
 pub fn digests(random: &mut Random, size: usize) -> Vec<u8> {
@@ -42,6 +42,29 @@ pub fn small_bytes(random: &mut Random, size: usize) -> Vec<u8> {
     fill(size, || label(random, b'B'))
 }
 
+/// Groups `-K` of one to four indexed signatures of Ed25519, 88 characters each,
+/// their indexes in turn.
+pub fn signatures(random: &mut Random, size: usize) -> Vec<u8> {
+    let row = INDEXED[0];
+    assert_eq!((row.code, row.full), ("A", 88));
+    fill(size, || {
+        let signed = |place: u8| match indexed(random, row) {
+            Item::Primitive(mut text) => {
+                text[1] = b'A' + place;
+                Item::Primitive(text)
+            }
+            other => other,
+        };
+        let mut body: Vec<Item> = (0..4).map(signed).collect();
+        body.truncate(1 + random.below(4));
+        Item::Group {
+            letter: b'K',
+            large: false,
+            body,
+        }
+    })
+}
+
 fn label(random: &mut Random, letter: u8) -> Item {
     let length = 1 + random.below(22);
     let mut text = random.characters(length);
@@ -76,6 +99,26 @@ mod tests {
         assert_eq!(deck.len(), 968);
         assert!(deck.starts_with(b"-JAK-AAJ-CAI-DAH-IAG-JAF-AAE-CAD-DAC-IABM"));
         assert!(mixed(&mut random, 100_000).len() > 90_000);
+    }
+
+    #[test]
+    fn signatures_come_in_groups_of_one_to_four() {
+        let deck = signatures(&mut Random::new(3), 20_000);
+        let (mut at, mut sizes) = (0, Vec::new());
+        while at < deck.len() {
+            assert_eq!(&deck[at..at + 2], b"-K");
+            let digits = &deck[at + 2..at + 4];
+            let units = [(b"AW", 22), (b"As", 44), (b"BC", 66), (b"BY", 88)];
+            let known = units.iter().find(|(known, _)| *known == digits);
+            let (_, units) = known.expect("one to four signatures");
+            assert_eq!(&deck[at + 4..at + 6], b"AA");
+            sizes.push(*units);
+            at += 4 + 4 * units;
+        }
+        assert_eq!(at, deck.len());
+        sizes.sort();
+        sizes.dedup();
+        assert_eq!(sizes, [22, 44, 66, 88]);
     }
 
     #[test]

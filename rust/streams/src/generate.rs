@@ -4,8 +4,8 @@ use crate::form::{characters, ALPHABET};
 use crate::item::{stream, Item};
 use crate::random::Random;
 use crate::table::{
-    is_opaque, is_overrideable, Fixed, Kind, FIXED, GENUS_VERSION, GROUPS, LARGE, MOST_SMALL,
-    SMALL, TEXT, TYPES,
+    holds_indexed, is_overrideable, Fixed, Indexed, Kind, FIXED, GENUS_VERSION, GROUPS, HEADS,
+    INDEXED, LARGE, MOST_SMALL, SIGNED, SMALL, TEXT, TYPES,
 };
 
 /// Groups that may stand within each other.
@@ -102,32 +102,127 @@ pub fn any_fill_deck(random: &mut Random) -> Vec<Item> {
     placed(random, item)
 }
 
-/// A group of any letter: opaque ones with any units for `body`'s items.
-pub fn group(random: &mut Random, letter: u8, body: Vec<Item>) -> Item {
-    let large = false;
-    if is_opaque(letter) {
-        let body = random.characters(4 * body.len());
-        return Item::Opaque {
-            letter,
-            large,
-            body,
+/// An accepted item of an indexed code with any index and value, and any ondex
+/// that the code may have.
+pub fn indexed(random: &mut Random, row: Indexed) -> Item {
+    let mut text = row.code.as_bytes().to_vec();
+    text.extend(random.characters(row.index));
+    if row.current {
+        text.extend(vec![b'A'; row.ondex]);
+    } else {
+        text.extend(random.characters(row.ondex));
+    }
+    if row.padded() {
+        text.push(b'A' + random.below(4) as u8);
+    }
+    text.extend(random.characters(row.full - text.len()));
+    Item::Primitive(text)
+}
+
+/// An accepted item of any indexed code; often of the one that most signatures
+/// have.
+pub fn some_indexed(random: &mut Random) -> Item {
+    let row = match random.below(3) {
+        0 => INDEXED[0],
+        _ => *random.pick(&INDEXED),
+    };
+    indexed(random, row)
+}
+
+/// An indexed item that may be wrong: any digits for an ondex, few of them
+/// zero, and any pad bits, few of them set.
+pub fn any_indexed(random: &mut Random) -> Item {
+    let row = *random.pick(&INDEXED);
+    let mut text = stream(&[indexed(random, row)]);
+    let ondex = row.code.len() + row.index;
+    if random.once_in(2) {
+        for digit in &mut text[ondex..ondex + row.ondex] {
+            *digit = *random.pick(b"AAABg_");
+        }
+    }
+    if random.once_in(2) {
+        text[ondex + row.ondex] = *random.pick(b"ADEIQg");
+    }
+    Item::Primitive(text)
+}
+
+/// A group of indexed items that may be wrong, and of which one may be another
+/// item: a start of the master table, a group, a genus/version.
+pub fn any_signatures(random: &mut Random) -> Item {
+    let letter = *random.pick(SIGNED);
+    let items = random.below(4);
+    let mut body: Vec<Item> = (0..items)
+        .map(|_| match random.below(3) {
+            0 => any_indexed(random),
+            _ => some_indexed(random),
+        })
+        .collect();
+    if random.once_in(3) {
+        let other = match random.below(4) {
+            0 => any_primitive(random),
+            1 => Item::Genus(GENUS_VERSION),
+            2 => Item::Group {
+                letter: *random.pick(b"AJKL"),
+                large: false,
+                body: Vec::new(),
+            },
+            _ => Item::Primitive(random.pick(&HEADS).as_bytes().to_vec()),
         };
+        body.insert(random.below(body.len() + 1), other);
     }
     Item::Group {
         letter,
-        large,
+        large: random.once_in(12),
+        body,
+    }
+}
+
+/// The same at some place in a deck, at top level or within groups.
+pub fn any_signatures_deck(random: &mut Random) -> Vec<Item> {
+    let item = any_signatures(random);
+    placed(random, item)
+}
+
+/// Indexed items of so many units in all. Where no such items add up to it, it
+/// is anything.
+fn filled_indexed(random: &mut Random, units: usize) -> Vec<Item> {
+    // 22 and 23 units: so many of them, and of these as many as are left.
+    let adds_up = |units: usize| units % 22 <= units / 22;
+    if !adds_up(units) {
+        return vec![Item::Primitive(random.characters(4 * units))];
+    }
+    let (mut items, mut left) = (Vec::new(), units);
+    while left > 0 {
+        let row = *random.pick(&INDEXED);
+        if left >= row.full / 4 && adds_up(left - row.full / 4) {
+            left -= row.full / 4;
+            items.push(indexed(random, row));
+        }
+    }
+    items
+}
+
+/// A group of any letter: `-K` and `-L` with indexed items for `body`'s.
+pub fn group(random: &mut Random, letter: u8, mut body: Vec<Item>) -> Item {
+    if holds_indexed(letter) {
+        body.iter_mut()
+            .for_each(|item| *item = some_indexed(random));
+    }
+    Item::Group {
+        letter,
+        large: false,
         body,
     }
 }
 
 /// How many items `one_code` tells apart.
-pub const CODES: usize = FIXED.len() + VARIABLES + 2 * GROUPS.len() + 1;
+pub const CODES: usize = FIXED.len() + VARIABLES + 2 * GROUPS.len() + 2 * INDEXED.len() + 1;
 
 const VARIABLES: usize = TYPES.len() * SMALL.len();
 
 /// An item of the code with this index below `CODES`: every fixed code, every
 /// variable type under every small selector, every group letter, empty and
-/// not, and the genus/version.
+/// not, every indexed code in both groups that hold it, and the genus/version.
 pub fn one_code(random: &mut Random, index: usize) -> Item {
     if let Some(row) = FIXED.get(index) {
         return fixed(random, *row);
@@ -140,7 +235,15 @@ pub fn one_code(random: &mut Random, index: usize) -> Item {
     }
     let index = index - VARIABLES;
     let Some(letter) = GROUPS.get(index / 2) else {
-        return Item::Genus(GENUS_VERSION);
+        let index = index - 2 * GROUPS.len();
+        return match INDEXED.get(index / 2) {
+            Some(row) => Item::Group {
+                letter: SIGNED[index % 2],
+                large: false,
+                body: vec![indexed(random, *row)],
+            },
+            None => Item::Genus(GENUS_VERSION),
+        };
     };
     let mut body = Vec::new();
     if index % 2 == 1 {
@@ -160,19 +263,13 @@ pub fn large_code(random: &mut Random, index: usize, units: usize) -> Item {
         return variable(random, LARGE[index % LARGE.len()], *letter, units);
     }
     let letter = GROUPS[index - TYPES.len() * LARGE.len()];
-    let large = true;
-    if is_opaque(letter) {
-        let body = random.characters(4 * units);
-        return Item::Opaque {
-            letter,
-            large,
-            body,
-        };
-    }
-    let body = filled(random, units);
+    let body = match holds_indexed(letter) {
+        true => filled_indexed(random, units),
+        false => filled(random, units),
+    };
     Item::Group {
         letter,
-        large,
+        large: true,
         body,
     }
 }
@@ -300,9 +397,13 @@ fn any_genus(random: &mut Random, stand: Stand) -> [u8; 6] {
 fn any_group(random: &mut Random, stand: Stand, deepest: usize) -> Item {
     let letter = *random.pick(GROUPS);
     let items = random.below(5);
-    if is_opaque(letter) {
-        let body = (0..items).map(|_| any_primitive(random)).collect();
-        return group(random, letter, body);
+    if holds_indexed(letter) {
+        let body = (0..items).map(|_| some_indexed(random)).collect();
+        return Item::Group {
+            letter,
+            large: false,
+            body,
+        };
     }
     let inner = |first| Stand {
         within: stand.within + 1,
@@ -353,7 +454,11 @@ pub fn deep(random: &mut Random) -> Item {
     let depth = MOST_GROUPS - 4 + random.below(11);
     let mut body = match random.below(4) {
         0 => Vec::new(),
-        1 => vec![group(random, b'K', Vec::new())],
+        1 => vec![Item::Group {
+            letter: b'K',
+            large: false,
+            body: Vec::new(),
+        }],
         _ => vec![any_primitive(random)],
     };
     // Counted from the innermost; a number past the outermost is none.
@@ -480,6 +585,54 @@ mod tests {
     }
 
     #[test]
+    fn indexed_items_have_their_size_and_digits() {
+        let mut random = Random::new(11);
+        for row in INDEXED {
+            let text = stream(&[indexed(&mut random, row)]);
+            assert_eq!(text.len(), row.full);
+            assert!(text.starts_with(row.code.as_bytes()));
+            assert!([64, 114].contains(&row.raw()));
+            let digits = row.code.len() + row.index;
+            let ondex = &text[digits..digits + row.ondex];
+            assert!(!row.current || ondex.iter().all(|digit| *digit == b'A'));
+            let front = text[digits + row.ondex];
+            assert!(!row.padded() || (b'A'..=b'D').contains(&front));
+        }
+    }
+
+    #[test]
+    fn indexed_items_add_up() {
+        let mut random = Random::new(12);
+        for units in [0, 22, 23, 44, 45, 46, 66, 462, 463, 4094, 4095, 4096, 4101] {
+            let items = filled_indexed(&mut random, units);
+            assert_eq!(stream(&items).len(), 4 * units);
+            assert!(items.iter().all(|item| units_of(item) <= 40));
+        }
+        assert_eq!(filled_indexed(&mut random, 3).len(), 1);
+    }
+
+    #[test]
+    fn any_indexed_stands_on_both_sides() {
+        let mut random = Random::new(13);
+        for row in INDEXED {
+            let (mut ondex, mut pads) = ([0; 2], [0; 2]);
+            for _ in 0..4000 {
+                let text = stream(&[any_indexed(&mut random)]);
+                if text.len() != row.full || !text.starts_with(row.code.as_bytes()) {
+                    continue;
+                }
+                let digits = row.code.len() + row.index;
+                let zero = text[digits..digits + row.ondex].iter().all(|d| *d == b'A');
+                ondex[usize::from(zero)] += 1;
+                let front = text[digits + row.ondex];
+                pads[usize::from((b'A'..=b'D').contains(&front))] += 1;
+            }
+            assert!(row.ondex == 0 || ondex.iter().all(|times| *times > 0));
+            assert!(pads.iter().all(|times| *times > 0), "{}", row.code);
+        }
+    }
+
+    #[test]
     fn fixed_items_have_their_size() {
         let mut random = Random::new(2);
         for row in FIXED {
@@ -501,7 +654,8 @@ mod tests {
         let mut seen: Vec<_> = (0..1000).map(|_| depth(&deep(&mut random))).collect();
         seen.sort();
         seen.dedup();
-        assert!(seen.iter().copied().eq(60..=70), "{seen:?}");
+        // With an empty group as the innermost item it is one more.
+        assert!(seen.iter().copied().eq(60..=71), "{seen:?}");
     }
 
     #[test]

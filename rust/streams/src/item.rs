@@ -5,7 +5,7 @@ use crate::table::MOST_SMALL;
 
 #[derive(Clone, Debug, PartialEq, Eq)]
 pub enum Item {
-    /// A primitive as it stands in text.
+    /// A primitive or an indexed item as it stands in text.
     Primitive(Vec<u8>),
     /// A genus/version: the six characters behind `-_`.
     Genus([u8; 6]),
@@ -15,12 +15,6 @@ pub enum Item {
         letter: u8,
         large: bool,
         body: Vec<Item>,
-    },
-    /// A group of any units, as they stand in text.
-    Opaque {
-        letter: u8,
-        large: bool,
-        body: Vec<u8>,
     },
 }
 
@@ -38,11 +32,6 @@ impl Item {
                 large,
                 body,
             } => write_group(*letter, *large, &stream(body), text),
-            Item::Opaque {
-                letter,
-                large,
-                body,
-            } => write_group(*letter, *large, body, text),
         }
     }
 }

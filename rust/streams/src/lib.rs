@@ -1,8 +1,8 @@
 //! Seeded CESR streams for tests and benchmarks.
 //!
 //! `generate` makes items that are accepted, of every code, selector and
-//! nesting, and such that only their spelling or the fill of a text may be
-//! refused; `decks` the long streams that are timed; `damage` changes a stream in
+//! nesting, and such that only their spelling, the fill of a text or the indexed
+//! items of a signature group may be refused; `decks` the long streams that are timed; `damage` changes a stream in
 //! the ways that streams go wrong; `noise` makes streams that were never right;
 //! `expectation` makes expected verdicts and reports to compare them with;
 //! `papers` are the papers' own; `shrink` makes a failing stream small.

@@ -19,6 +19,12 @@ enum-told-2 c = search needs
 enum-told-3 : tie.Need-enum-told-3
 enum-told-3 c = search needs
 
+enum-known-kind-2 : tie.Need-enum-known-kind-2
+enum-known-kind-2 c = search needs
+
+selector-of-requires : tie.Need-selector-of-requires
+selector-of-requires c κs = search needs
+
 returns : tie.Need-returns
 unfolding leadOf
 returns c = search needs
@@ -35,6 +41,10 @@ returns-4 : tie.Need-returns-4
 unfolding leadOf
 returns-4 c = search needs
 
+returns-5 : tie.Need-returns-5
+unfolding leadOf
+returns-5 c = rw (c .before .before .kind2 .given .1) (c .selector-of .ensures)
+
 pub lead-of-spec : {M : Type 1} → statement M
 lead-of-spec =
     tie.close
@@ -44,7 +54,10 @@ lead-of-spec =
     wide-requires
     enum-told-2
     enum-told-3
+    enum-known-kind-2
+    selector-of-requires
     returns
     returns-2
     returns-3
-    returns-4)
+    returns-4
+    returns-5)

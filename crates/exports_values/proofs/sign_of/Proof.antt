@@ -1,4 +1,5 @@
 -- `sign_of` meets its contract. Assumes nothing.
+use Rattle.format.specs.Indexed.{codeOfRow}
 use Rattle.exports_values.specs.Lent.{signOf}
 use borrow.Author.Needs.{needs}
 use Rattle.exports_values.proofs.sign_of.Statement.{statement}
@@ -25,6 +26,12 @@ character-of-requires-3 c κs = search needs
 enum-told : tie.Need-enum-told
 enum-told c = search needs
 
+enum-known-kind-4 : tie.Need-enum-known-kind-4
+enum-known-kind-4 c = search needs
+
+character-of-requires-4 : tie.Need-character-of-requires-4
+character-of-requires-4 c κs = search needs
+
 returns : tie.Need-returns
 unfolding signOf
 returns c = rw (c .before .before .kind .given .1) (c .character-of .ensures)
@@ -41,6 +48,10 @@ returns-4 : tie.Need-returns-4
 unfolding signOf
 returns-4 c = search needs
 
+returns-5 : tie.Need-returns-5
+unfolding signOf codeOfRow
+returns-5 c = rw (c .before .before .kind4 .given .1) (c .character-of4 .ensures)
+
 pub sign-of-spec : {M : Type 1} → statement M
 sign-of-spec =
     tie.close
@@ -52,7 +63,10 @@ sign-of-spec =
     enum-known-kind-3
     character-of-requires-3
     enum-told
+    enum-known-kind-4
+    character-of-requires-4
     returns
     returns-2
     returns-3
-    returns-4)
+    returns-4
+    returns-5)

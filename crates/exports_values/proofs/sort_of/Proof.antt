@@ -25,6 +25,9 @@ sized-requires-2 c κs = search needs
 enum-told-3 : tie.Need-enum-told-3
 enum-told-3 c = search needs
 
+enum-told-4 : tie.Need-enum-told-4
+enum-told-4 c = search needs
+
 returns : tie.Need-returns
 unfolding sortOf
 returns c = search needs
@@ -41,6 +44,10 @@ returns-4 : tie.Need-returns-4
 unfolding sortOf
 returns-4 c = search needs
 
+returns-5 : tie.Need-returns-5
+unfolding sortOf
+returns-5 c = search needs
+
 pub sort-of-spec : {M : Type 1} → statement M
 sort-of-spec =
     tie.close
@@ -52,7 +59,9 @@ sort-of-spec =
     enum-told-2
     sized-requires-2
     enum-told-3
+    enum-told-4
     returns
     returns-2
     returns-3
-    returns-4)
+    returns-4
+    returns-5)

@@ -1,15 +1,9 @@
+-- `judging::own_binary` meets its contract. Assumes nothing.
 use Rattle.format.specs.Judging.{andThen}
 use Rattle.judging.specs.Own.{ownBy}
-use Rattle.judging.proofs.Laws.{group-plain, all-pass}
 use borrow.Author.Needs.{needs}
 use Rattle.judging.proofs.own_binary.Statement.{statement}
 use Rattle.judging.proofs.own_binary.Tie as tie
-use Rattle.judging.proofs.own_binary.Reads as reads
-use Rattle.judging.proofs.own_binary.Lts as lts
-use Rattle.judging_header.proofs.fixed_checks.Reads as fixed-checks-reads
-use Rattle.judging_header.proofs.group_checks.Reads as group-checks-reads
-use Rattle.judging_header.proofs.units_behind.Reads as units-behind-reads
-use Rattle.judging_header.proofs.variable_checks.Reads as variable-checks-reads
 
 enum-known-kind : tie.Need-enum-known-kind
 enum-known-kind c = search needs
@@ -35,6 +29,12 @@ group-checks-requires c κs = search needs
 enum-told-2 : tie.Need-enum-told-2
 enum-told-2 c = search needs
 
+enum-known-kind-3 : tie.Need-enum-known-kind-3
+enum-known-kind-3 c = search needs
+
+indexed-checks-requires : tie.Need-indexed-checks-requires
+indexed-checks-requires c κs = search needs
+
 returns : tie.Need-returns
 unfolding ownBy andThen
 returns c = rw (c .before .before .kind .given .1) (c .fixed-checks .ensures)
@@ -45,13 +45,15 @@ returns-2 c = rw (c .before .before .kind2 .given .1) (c .variable-checks .ensur
 
 returns-3 : tie.Need-returns-3
 unfolding ownBy
-returns-3 c =
-    rw (c .before .before .enum-told .given .1)
-    (group-plain _ _ _ _ _ (rw (c .before .units-behind .ensures) at (c .group-checks .ensures)) _ (all-pass _))
+returns-3 c = rw (c .before .before .enum-told .given .1) (rw (c .before .units-behind .ensures) at (c .group-checks .ensures))
 
 returns-4 : tie.Need-returns-4
 unfolding ownBy
 returns-4 c = rw (c .enum-told2 .given .1)
+
+returns-5 : tie.Need-returns-5
+unfolding ownBy andThen
+returns-5 c = rw (c .before .before .kind3 .given .1) (c .indexed-checks .ensures)
 
 pub own-binary-spec : {M : Type 1} → statement M
 own-binary-spec =
@@ -65,7 +67,10 @@ own-binary-spec =
     units-behind-requires
     group-checks-requires
     enum-told-2
+    enum-known-kind-3
+    indexed-checks-requires
     returns
     returns-2
     returns-3
-    returns-4)
+    returns-4
+    returns-5)

@@ -1,18 +1,8 @@
-use mathlib.Core.Path.{sym, _∙_}
+-- `judging::own_text` meets its contract. Assumes nothing.
 use Rattle.judging.specs.Own.{ownBy}
-use Rattle.judging.proofs.Laws.{group-opaque, group-plain}
 use borrow.Author.Needs.{needs}
 use Rattle.judging.proofs.own_text.Statement.{statement}
 use Rattle.judging.proofs.own_text.Tie as tie
-use Rattle.judging.proofs.own_text.Reads as reads
-use Rattle.judging.proofs.own_text.Lts as lts
-use Rattle.judging.proofs.after.Reads as after-reads
-use Rattle.judging.proofs.behind_text.Reads as behind-text-reads
-use Rattle.judging_header.proofs.fixed_checks.Reads as fixed-checks-reads
-use Rattle.judging_header.proofs.group_checks.Reads as group-checks-reads
-use Rattle.judging_header.proofs.units_behind.Reads as units-behind-reads
-use Rattle.judging_header.proofs.variable_checks.Reads as variable-checks-reads
-use Rattle.registry.proofs.is_opaque.Reads as is-opaque-reads
 
 enum-known-kind : tie.Need-enum-known-kind
 enum-known-kind c = search needs
@@ -38,8 +28,8 @@ variable-checks-requires c κs = search needs
 after-requires-2 : tie.Need-after-requires-2
 after-requires-2 c κs = search needs
 
-enum-known-kind-3 : tie.Need-enum-known-kind-3
-enum-known-kind-3 c = search needs
+enum-told : tie.Need-enum-told
+enum-told c = search needs
 
 units-behind-requires : tie.Need-units-behind-requires
 units-behind-requires c κs = search needs
@@ -47,17 +37,20 @@ units-behind-requires c κs = search needs
 group-checks-requires : tie.Need-group-checks-requires
 group-checks-requires c κs = search needs
 
-is-opaque-requires : tie.Need-is-opaque-requires
-is-opaque-requires c κs = search needs
+enum-told-2 : tie.Need-enum-told-2
+enum-told-2 c = search needs
+
+enum-known-kind-3 : tie.Need-enum-known-kind-3
+enum-known-kind-3 c = search needs
 
 behind-text-requires-3 : tie.Need-behind-text-requires-3
 behind-text-requires-3 c κs = search needs
 
+indexed-checks-requires : tie.Need-indexed-checks-requires
+indexed-checks-requires c κs = search needs
+
 after-requires-3 : tie.Need-after-requires-3
 after-requires-3 c κs = search needs
-
-enum-told : tie.Need-enum-told
-enum-told c = search needs
 
 returns : tie.Need-returns
 unfolding ownBy
@@ -69,22 +62,15 @@ returns-2 c = rw (c .before .before .before .before .kind2 .given .1) (rw (c .be
 
 returns-3 : tie.Need-returns-3
 unfolding ownBy
-returns-3 c =
-    let g = c .before .before .before .before in
-    rw (g .before .before .before .kind3 .given .1)
-    (group-opaque _ _ _ _ _ (rw (g .before .units-behind .ensures) at (g .group-checks .ensures)) _ _ (rw (c .before .behind-text3 .ensures) at (c .after3 .ensures))
-    (sym (c .before .before .before .is-opaque .ensures) ∙ c .before .before .if1 .taken))
+returns-3 c = rw (c .before .before .enum-told .given .1) (rw (c .before .units-behind .ensures) at (c .group-checks .ensures))
 
 returns-4 : tie.Need-returns-4
 unfolding ownBy
-returns-4 c =
-    let g = c .before .before in
-    rw (g .before .before .before .kind3 .given .1)
-    (group-plain _ _ _ _ _ (rw (g .before .units-behind .ensures) at (g .group-checks .ensures)) _ (rw (sym (c .before .is-opaque .ensures) ∙ c .if1 .left)))
+returns-4 c = rw (c .enum-told2 .given .1)
 
 returns-5 : tie.Need-returns-5
 unfolding ownBy
-returns-5 c = rw (c .enum-told .given .1)
+returns-5 c = rw (c .before .before .before .before .kind3 .given .1) (rw (c .before .before .behind-text3 .ensures, c .before .indexed-checks .ensures) at (c .after3 .ensures))
 
 pub own-text-spec : {M : Type 1} → statement M
 own-text-spec =
@@ -98,13 +84,14 @@ own-text-spec =
     behind-text-requires-2
     variable-checks-requires
     after-requires-2
-    enum-known-kind-3
+    enum-told
     units-behind-requires
     group-checks-requires
-    is-opaque-requires
+    enum-told-2
+    enum-known-kind-3
     behind-text-requires-3
+    indexed-checks-requires
     after-requires-3
-    enum-told
     returns
     returns-2
     returns-3

@@ -1,11 +1,9 @@
+-- `reading_item::code_of` meets its contract. Assumes nothing.
 use borrow.Author.Tests.{eq-eqb, ne-eqb}
 use Rattle.format.specs.Reading.{codeOf}
 use borrow.Author.Needs.{needs}
 use Rattle.reading_item.proofs.code_of.Statement.{statement}
 use Rattle.reading_item.proofs.code_of.Tie as tie
-use Rattle.reading_item.proofs.code_of.Reads as reads
-use Rattle.reading_item.proofs.code_of.Lts as lts
-use Rattle.alphabet.proofs.character.Reads as character-reads
 
 enum-known-kind : tie.Need-enum-known-kind
 enum-known-kind c = search needs
@@ -24,6 +22,9 @@ enum-told c = search needs
 
 enum-told-2 : tie.Need-enum-told-2
 enum-told-2 c = search needs
+
+enum-told-3 : tie.Need-enum-told-3
+enum-told-3 c = search needs
 
 returns : tie.Need-returns
 unfolding codeOf
@@ -45,6 +46,10 @@ returns-5 : tie.Need-returns-5
 unfolding codeOf
 returns-5 c = rw (c .enum-told2 .given .1)
 
+returns-6 : tie.Need-returns-6
+unfolding codeOf
+returns-6 c = rw (c .enum-told3 .given .1)
+
 pub code-of-spec : {M : Type 1} → statement M
 code-of-spec =
     tie.close
@@ -55,8 +60,10 @@ code-of-spec =
     character-requires-2
     enum-told
     enum-told-2
+    enum-told-3
     returns
     returns-2
     returns-3
     returns-4
-    returns-5)
+    returns-5
+    returns-6)

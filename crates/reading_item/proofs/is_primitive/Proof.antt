@@ -1,9 +1,8 @@
+-- `reading_item::is_primitive` meets its contract. Assumes nothing.
 use Rattle.format.specs.Reading.{isPrimitive}
 use borrow.Author.Needs.{needs}
 use Rattle.reading_item.proofs.is_primitive.Statement.{statement}
 use Rattle.reading_item.proofs.is_primitive.Tie as tie
-use Rattle.reading_item.proofs.is_primitive.Reads as reads
-use Rattle.reading_item.proofs.is_primitive.Lts as lts
 
 enum-told : tie.Need-enum-told
 enum-told c = search needs
@@ -16,6 +15,9 @@ enum-told-3 c = search needs
 
 enum-told-4 : tie.Need-enum-told-4
 enum-told-4 c = search needs
+
+enum-told-5 : tie.Need-enum-told-5
+enum-told-5 c = search needs
 
 returns : tie.Need-returns
 unfolding isPrimitive
@@ -33,7 +35,11 @@ returns-4 : tie.Need-returns-4
 unfolding isPrimitive
 returns-4 c = rw (c .enum-told4 .given .1)
 
+returns-5 : tie.Need-returns-5
+unfolding isPrimitive
+returns-5 c = rw (c .enum-told5 .given .1)
+
 pub is-primitive-spec : {M : Type 1} → statement M
 is-primitive-spec =
     tie.close
-    (tie.spec enum-told enum-told-2 enum-told-3 enum-told-4 returns returns-2 returns-3 returns-4)
+    (tie.spec enum-told enum-told-2 enum-told-3 enum-told-4 enum-told-5 returns returns-2 returns-3 returns-4 returns-5)

@@ -1,6 +1,5 @@
 -- `reading_item::raw_start` meets its contract: of a text it is the item's end, since its units are all that is behind the header.
 -- Assumes nothing.
-use Prim.Native.Nat.{_+_, _*_}
 use native.Mathlib.Omega.{arith}
 use borrow.Author.Tests.{eq-eqb, ne-eqb}
 use Rattle.format.specs.Registry.{isText}
@@ -8,10 +7,6 @@ use Rattle.format.specs.Values.{rawStart}
 use borrow.Author.Needs.{needs}
 use Rattle.reading_item.proofs.raw_start.Statement.{statement}
 use Rattle.reading_item.proofs.raw_start.Tie as tie
-use Rattle.reading_item.proofs.raw_start.Reads as reads
-use Rattle.reading_item.proofs.raw_start.Lts as lts
-use Rattle.reading_item.proofs.fixed_start.Reads as fixed-start-reads
-use Rattle.reading_item.proofs.wide.Reads as wide-reads
 
 enum-known-kind : tie.Need-enum-known-kind
 enum-known-kind c = search needs
@@ -22,33 +17,39 @@ fixed-start-requires c κs = search needs
 enum-known-kind-2 : tie.Need-enum-known-kind-2
 enum-known-kind-2 c = search needs
 
-mul-t9 : tie.Need-mul-t9
-mul-t9 c = search needs
+mul-t10 : tie.Need-mul-t10
+mul-t10 c = search needs
 
 returns : tie.Need-returns
 unfolding rawStart isText
 returns c = λ shape. let k = c .before .before .kind2 .given .1 in let z = rw k at shape in rw (k, eq-eqb _ _ (c .if1 .taken)) (omega (arith, z .1))
 
-mul-t10 : tie.Need-mul-t10
-mul-t10 c = search needs
+mul-t11 : tie.Need-mul-t11
+mul-t11 c = search needs
 
 wide-requires : tie.Need-wide-requires
 wide-requires c κs = search needs
 
-add-t12 : tie.Need-add-t12
-add-t12 c = search needs
+add-t13 : tie.Need-add-t13
+add-t13 c = search needs
 
 enum-told : tie.Need-enum-told
 enum-told c = search needs
 
-mul-t13 : tie.Need-mul-t13
-mul-t13 c = search needs
+mul-t14 : tie.Need-mul-t14
+mul-t14 c = search needs
 
 enum-told-2 : tie.Need-enum-told-2
 enum-told-2 c = search needs
 
-mul-t14 : tie.Need-mul-t14
-mul-t14 c = search needs
+mul-t15 : tie.Need-mul-t15
+mul-t15 c = search needs
+
+enum-known-kind-3 : tie.Need-enum-known-kind-3
+enum-known-kind-3 c = search needs
+
+indexed-start-requires : tie.Need-indexed-start-requires
+indexed-start-requires c κs = search needs
 
 returns-2 : tie.Need-returns-2
 unfolding rawStart isText
@@ -66,6 +67,10 @@ returns-5 : tie.Need-returns-5
 unfolding rawStart isText
 returns-5 c = λ _. rw (c .enum-told2 .given .1)
 
+returns-6 : tie.Need-returns-6
+unfolding rawStart isText
+returns-6 c = λ _. rw (c .before .before .kind3 .given .1) (c .indexed-start .ensures .0)
+
 pub raw-start-spec : {M : Type 1} → statement M
 raw-start-spec =
     tie.close
@@ -73,16 +78,19 @@ raw-start-spec =
     enum-known-kind
     fixed-start-requires
     enum-known-kind-2
-    mul-t9
-    returns
     mul-t10
+    returns
+    mul-t11
     wide-requires
-    add-t12
+    add-t13
     enum-told
-    mul-t13
-    enum-told-2
     mul-t14
+    enum-told-2
+    mul-t15
+    enum-known-kind-3
+    indexed-start-requires
     returns-2
     returns-3
     returns-4
-    returns-5)
+    returns-5
+    returns-6)

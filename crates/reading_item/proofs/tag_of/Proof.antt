@@ -5,9 +5,6 @@ use Rattle.format.specs.Reading.{padded}
 use borrow.Author.Needs.{needs}
 use Rattle.reading_item.proofs.tag_of.Statement.{statement}
 use Rattle.reading_item.proofs.tag_of.Tie as tie
-use Rattle.reading_item.proofs.tag_of.Reads as reads
-use Rattle.reading_item.proofs.tag_of.Lts as lts
-use Rattle.reading_item.proofs.row_tag.Reads as row-tag-reads
 
 enum-known-kind : tie.Need-enum-known-kind
 enum-known-kind c = search needs
@@ -24,6 +21,9 @@ enum-told-2 c = search needs
 enum-told-3 : tie.Need-enum-told-3
 enum-told-3 c = search needs
 
+enum-told-4 : tie.Need-enum-told-4
+enum-told-4 c = search needs
+
 returns : tie.Need-returns
 returns c = rw (c .before .before .kind .given .1) (c .row-tag .ensures)
 
@@ -39,6 +39,10 @@ returns-4 : tie.Need-returns-4
 unfolding tagOf padded
 returns-4 c = rw (c .enum-told3 .given .1) (λ _. refl)
 
+returns-5 : tie.Need-returns-5
+unfolding tagOf padded
+returns-5 c = rw (c .enum-told4 .given .1) (λ _. refl)
+
 pub tag-of-spec : {M : Type 1} → statement M
 tag-of-spec =
     tie.close
@@ -48,7 +52,9 @@ tag-of-spec =
     enum-told
     enum-told-2
     enum-told-3
+    enum-told-4
     returns
     returns-2
     returns-3
-    returns-4)
+    returns-4
+    returns-5)

@@ -1,10 +1,8 @@
+-- `reading_item::tags_of` meets its contract. Assumes nothing.
 use Rattle.format.specs.Reading.{tagsOf}
 use borrow.Author.Needs.{needs}
 use Rattle.reading_item.proofs.tags_of.Statement.{statement}
 use Rattle.reading_item.proofs.tags_of.Tie as tie
-use Rattle.reading_item.proofs.tags_of.Reads as reads
-use Rattle.reading_item.proofs.tags_of.Lts as lts
-use Rattle.reading_item.proofs.wide.Reads as wide-reads
 
 enum-known-kind : tie.Need-enum-known-kind
 enum-known-kind c = search needs
@@ -20,6 +18,9 @@ enum-told-2 c = search needs
 
 enum-told-3 : tie.Need-enum-told-3
 enum-told-3 c = search needs
+
+enum-told-4 : tie.Need-enum-told-4
+enum-told-4 c = search needs
 
 returns : tie.Need-returns
 unfolding tagsOf
@@ -37,6 +38,10 @@ returns-4 : tie.Need-returns-4
 unfolding tagsOf
 returns-4 c = rw (c .enum-told3 .given .1)
 
+returns-5 : tie.Need-returns-5
+unfolding tagsOf
+returns-5 c = rw (c .enum-told4 .given .1)
+
 pub tags-of-spec : {M : Type 1} → statement M
 tags-of-spec =
     tie.close
@@ -46,7 +51,9 @@ tags-of-spec =
     enum-told
     enum-told-2
     enum-told-3
+    enum-told-4
     returns
     returns-2
     returns-3
-    returns-4)
+    returns-4
+    returns-5)

@@ -7,10 +7,6 @@ use Rattle.reading_item.specs.Texts.{textStart}
 use borrow.Author.Needs.{needs}
 use Rattle.reading_item.proofs.text_start.Statement.{statement}
 use Rattle.reading_item.proofs.text_start.Tie as tie
-use Rattle.reading_item.proofs.text_start.Reads as reads
-use Rattle.reading_item.proofs.text_start.Lts as lts
-use Rattle.reading_item.proofs.at_most.Reads as at-most-reads
-use Rattle.reading_item.proofs.fill_of.Reads as fill-of-reads
 
 at-most-requires : tie.Need-at-most-requires
 at-most-requires c κs = search needs
@@ -54,6 +50,9 @@ enum-told-2 c = search needs
 enum-told-3 : tie.Need-enum-told-3
 enum-told-3 c = search needs
 
+enum-told-4 : tie.Need-enum-told-4
+enum-told-4 c = search needs
+
 returns-2 : tie.Need-returns-2
 unfolding textStart isText
 returns-2 c = λ few small. rw (c .enum-told .given .1) (omega (arith, c .before .before .at-most .ensures))
@@ -69,6 +68,10 @@ returns-4 c = λ few small. rw (c .enum-told2 .given .1) (omega (arith, c .befor
 returns-5 : tie.Need-returns-5
 unfolding textStart isText
 returns-5 c = λ few small. rw (c .enum-told3 .given .1) (omega (arith, c .before .before .at-most .ensures))
+
+returns-6 : tie.Need-returns-6
+unfolding textStart isText
+returns-6 c = λ few small. rw (c .enum-told4 .given .1) (omega (arith, c .before .before .at-most .ensures))
 
 pub text-start-spec : {M : Type 1} → statement M
 text-start-spec =
@@ -86,7 +89,9 @@ text-start-spec =
     returns
     enum-told-2
     enum-told-3
+    enum-told-4
     returns-2
     returns-3
     returns-4
-    returns-5)
+    returns-5
+    returns-6)

@@ -1,15 +1,8 @@
+-- `reading_part::of_binary` meets its contract. Assumes nothing.
 use Rattle.reading_part.proofs.Laws.{binary-unframed, binary-other, binary-judged}
 use borrow.Author.Needs.{needs}
 use Rattle.reading_part.proofs.of_binary.Statement.{statement}
 use Rattle.reading_part.proofs.of_binary.Tie as tie
-use Rattle.reading_part.proofs.of_binary.Reads as reads
-use Rattle.reading_part.proofs.of_binary.Lts as lts
-use Rattle.framing_head.proofs.binary_head.Reads as binary-head-reads
-use Rattle.framing.proofs.frame_head.Reads as frame-head-reads
-use Rattle.judging.proofs.own_binary.Reads as own-binary-reads
-use Rattle.framing_head.proofs.within.Reads as within-reads
-use Rattle.reading_item.proofs.is_primitive.Reads as is-primitive-reads
-use Rattle.judging.proofs.told.Reads as told-reads
 
 binary-head-requires : tie.Need-binary-head-requires
 binary-head-requires c κs = search needs

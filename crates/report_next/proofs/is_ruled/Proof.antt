@@ -1,9 +1,8 @@
+-- `report_next::is_ruled` meets its contract. Assumes nothing.
 use Rattle.report_next.specs.Next.{isRuled}
 use borrow.Author.Needs.{needs}
 use Rattle.report_next.proofs.is_ruled.Statement.{statement}
 use Rattle.report_next.proofs.is_ruled.Tie as tie
-use Rattle.report_next.proofs.is_ruled.Reads as reads
-use Rattle.report_next.proofs.is_ruled.Lts as lts
 
 enum-told : tie.Need-enum-told
 enum-told c = search needs
@@ -19,6 +18,9 @@ is-overrideable-requires c κs = search needs
 
 enum-told-3 : tie.Need-enum-told-3
 enum-told-3 c = search needs
+
+enum-told-4 : tie.Need-enum-told-4
+enum-told-4 c = search needs
 
 returns : tie.Need-returns
 unfolding isRuled
@@ -36,6 +38,10 @@ returns-4 : tie.Need-returns-4
 unfolding isRuled
 returns-4 c = rw (c .enum-told3 .given .1)
 
+returns-5 : tie.Need-returns-5
+unfolding isRuled
+returns-5 c = rw (c .enum-told4 .given .1)
+
 pub is-ruled-spec : {M : Type 1} → statement M
 is-ruled-spec =
     tie.close
@@ -45,7 +51,9 @@ is-ruled-spec =
     enum-known-kind
     is-overrideable-requires
     enum-told-3
+    enum-told-4
     returns
     returns-2
     returns-3
-    returns-4)
+    returns-4
+    returns-5)

@@ -1,3 +1,4 @@
+-- `report_next::next_binary` meets its contract. Assumes nothing.
 use Rattle.format.specs.Units.{binarySextets}
 use Rattle.framing.proofs.Laws.{next-binary, binary-units}
 use Rattle.judging.proofs.Laws.{own-binary-judged}
@@ -6,53 +7,37 @@ use native.Mathlib.Omega.{arith}
 use borrow.Author.Needs.{needs}
 use Rattle.report_next.proofs.next_binary.Statement.{statement}
 use Rattle.report_next.proofs.next_binary.Tie as tie
-use Rattle.report_next.proofs.next_binary.Reads as reads
-use Rattle.report_next.proofs.next_binary.Lts as lts
-use Rattle.framing_head.proofs.binary_head.Reads as binary-head-reads
-use Rattle.framing.proofs.frame_next_head.Reads as frame-next-head-reads
-use Rattle.judging.proofs.own_binary.Reads as own-binary-reads
-use Rattle.judging.proofs.told.Reads as told-reads
-use Rattle.framing_head.proofs.within.Reads as within-reads
 
--- src/lib.rt:38:9
 binary-head-requires : tie.Need-binary-head-requires
 binary-head-requires c κs = search needs
 
--- src/lib.rt:39:9
 frame-next-head-requires : tie.Need-frame-next-head-requires
 frame-next-head-requires c κs = search needs
 
--- src/lib.rt:44:14
 enum-told : tie.Need-enum-told
 enum-told c = search needs
 
--- src/lib.rt:45:24
 enum-known-framed : tie.Need-enum-known-framed
 enum-known-framed c = search needs
 
--- src/lib.rt:46:17
 within-requires : tie.Need-within-requires
 within-requires c κs = search needs
 
--- src/lib.rt:47:17
 own-binary-requires : tie.Need-own-binary-requires
 own-binary-requires c κs = search needs
 
--- src/lib.rt:48:13
 told-requires : tie.Need-told-requires
 told-requires c κs = search needs
 
--- src/lib.rt:35:1
 returns : tie.Need-returns
-returns c = next-unframed (c .before .before .before .before .before .args .first) (binarySextets (c .before .before .before .before .before .args .part .now)) _ _ (next-binary _ _ _ _ (c .before .before .before .binary-head .ensures) (c .before .before .frame-next-head .ensures)) _ _ (c .enum-told .given .1)
+returns c = next-unframed (c .before .before .before .before .before .args .indexed) (c .before .before .before .before .before .args .first) (binarySextets (c .before .before .before .before .before .args .part .now)) _ _ (next-binary _ _ _ _ _ (c .before .before .before .binary-head .ensures) (c .before .before .frame-next-head .ensures)) _ _ (c .enum-told .given .1)
 
--- src/lib.rt:35:1
 returns-2 : tie.Need-returns-2
 returns-2 c =
     let f = c .before .before .before .before in
-    let e = next-binary _ _ _ _ (f .before .before .before .binary-head .ensures) (f .before .before .frame-next-head .ensures) in
-    let g = next-lawful (f .before .before .before .before .before .args .first) (binarySextets (f .before .before .before .before .before .args .part .now)) _ _ _ _ e (f .framed .given .1) in
-    next-told (f .before .before .before .before .before .args .first) _ _ _ e _ _ _ (f .framed .given .1) _
+    let e = next-binary _ _ _ _ _ (f .before .before .before .binary-head .ensures) (f .before .before .frame-next-head .ensures) in
+    let g = next-lawful (f .before .before .before .before .before .args .indexed) (f .before .before .before .before .before .args .first) (binarySextets (f .before .before .before .before .before .args .part .now)) _ _ _ _ e (f .framed .given .1) in
+    next-told (f .before .before .before .before .before .args .indexed) (f .before .before .before .before .before .args .first) _ _ _ e _ _ _ (f .framed .given .1) _
     (own-binary-judged _ _ _ _ _ _ _ _ (f .before .before .before .binary-head .ensures) (c .before .before .within .ensures) (c .before .own-binary .ensures) (g .few) (g .shape) (omega (arith, g .room, binary-units (f .before .before .before .before .before .args .part .now)))) _ (c .told .ensures)
 
 pub next-binary-spec : {M : Type 1} → statement M

@@ -1,3 +1,4 @@
+-- `report_next::next_text` meets its contract. Assumes nothing.
 use Rattle.format.specs.Units.{textSextets}
 use Rattle.framing.proofs.Laws.{next-text, text-units}
 use Rattle.judging.proofs.Laws.{own-text-judged}
@@ -8,67 +9,49 @@ use lib.Seq.{length-take-le}
 use borrow.Author.Needs.{needs}
 use Rattle.report_next.proofs.next_text.Statement.{statement}
 use Rattle.report_next.proofs.next_text.Tie as tie
-use Rattle.report_next.proofs.next_text.Reads as reads
-use Rattle.report_next.proofs.next_text.Lts as lts
-use Rattle.framing.proofs.frame_next_head.Reads as frame-next-head-reads
-use Rattle.framing_head.proofs.text_head.Reads as text-head-reads
-use Rattle.judging.proofs.own_text.Reads as own-text-reads
-use Rattle.judging.proofs.told.Reads as told-reads
-use Rattle.framing_head.proofs.within.Reads as within-reads
 
--- src/lib.rt:19:9
 text-head-requires : tie.Need-text-head-requires
 text-head-requires c κs = search needs
 
--- src/lib.rt:20:9
 frame-next-head-requires : tie.Need-frame-next-head-requires
 frame-next-head-requires c κs = search needs
 
--- src/lib.rt:25:14
 enum-told : tie.Need-enum-told
 enum-told c = search needs
 
--- src/lib.rt:26:24
 enum-known-framed : tie.Need-enum-known-framed
 enum-known-framed c = search needs
 
--- src/lib.rt:27:17
 within-requires : tie.Need-within-requires
 within-requires c κs = search needs
 
--- src/lib.rt:28:23
 mul-end : tie.Need-mul-end
 mul-end c =
     let f = c .before .before in
-    let g = next-lawful (f .before .before .before .before .before .args .first) (textSextets (f .before .before .before .before .before .args .part .now)) _ _ _ _ (next-text _ _ _ _ (f .before .before .before .text-head .ensures) (f .before .before .frame-next-head .ensures)) (f .framed .given .1) in
+    let g = next-lawful (f .before .before .before .before .before .args .indexed) (f .before .before .before .before .before .args .first) (textSextets (f .before .before .before .before .before .args .part .now)) _ _ _ _ (next-text _ _ _ _ _ (f .before .before .before .text-head .ensures) (f .before .before .frame-next-head .ensures)) (f .framed .given .1) in
     omega (arith, g .room, text-units (f .before .before .before .before .before .args .part .now))
 
--- src/lib.rt:29:56
 slice-aggregate-own-text : tie.Need-slice-aggregate-own-text
 slice-aggregate-own-text c =
     let f = c .before .before .before in
-    let g = next-lawful (f .before .before .before .before .before .args .first) (textSextets (f .before .before .before .before .before .args .part .now)) _ _ _ _ (next-text _ _ _ _ (f .before .before .before .text-head .ensures) (f .before .before .frame-next-head .ensures)) (f .framed .given .1) in
+    let g = next-lawful (f .before .before .before .before .before .args .indexed) (f .before .before .before .before .before .args .first) (textSextets (f .before .before .before .before .before .args .part .now)) _ _ _ _ (next-text _ _ _ _ _ (f .before .before .before .text-head .ensures) (f .before .before .frame-next-head .ensures)) (f .framed .given .1) in
     sym (length-take-le _ (f .before .before .before .before .before .args .part .now) (omega (arith, g .room, text-units (f .before .before .before .before .before .args .part .now))))
 
--- src/lib.rt:29:17
 own-text-requires : tie.Need-own-text-requires
 own-text-requires c κs = search needs
 
--- src/lib.rt:30:13
 told-requires : tie.Need-told-requires
 told-requires c κs = search needs
 
--- src/lib.rt:16:1
 returns : tie.Need-returns
-returns c = next-unframed (c .before .before .before .before .before .args .first) (textSextets (c .before .before .before .before .before .args .part .now)) _ _ (next-text _ _ _ _ (c .before .before .before .text-head .ensures) (c .before .before .frame-next-head .ensures)) _ _ (c .enum-told .given .1)
+returns c = next-unframed (c .before .before .before .before .before .args .indexed) (c .before .before .before .before .before .args .first) (textSextets (c .before .before .before .before .before .args .part .now)) _ _ (next-text _ _ _ _ _ (c .before .before .before .text-head .ensures) (c .before .before .frame-next-head .ensures)) _ _ (c .enum-told .given .1)
 
--- src/lib.rt:16:1
 returns-2 : tie.Need-returns-2
 returns-2 c =
     let f = c .before .before .before .before .before in
-    let e = next-text _ _ _ _ (f .before .before .before .text-head .ensures) (f .before .before .frame-next-head .ensures) in
-    let g = next-lawful (f .before .before .before .before .before .args .first) (textSextets (f .before .before .before .before .before .args .part .now)) _ _ _ _ e (f .framed .given .1) in
-    next-told (f .before .before .before .before .before .args .first) _ _ _ e _ _ _ (f .framed .given .1) _
+    let e = next-text _ _ _ _ _ (f .before .before .before .text-head .ensures) (f .before .before .frame-next-head .ensures) in
+    let g = next-lawful (f .before .before .before .before .before .args .indexed) (f .before .before .before .before .before .args .first) (textSextets (f .before .before .before .before .before .args .part .now)) _ _ _ _ e (f .framed .given .1) in
+    next-told (f .before .before .before .before .before .args .indexed) (f .before .before .before .before .before .args .first) _ _ _ e _ _ _ (f .framed .given .1) _
     (own-text-judged _ _ _ _ _ _ _ _ (f .before .before .before .text-head .ensures) (c .before .before .before .within .ensures) (c .before .own-text .ensures) (g .few) (g .shape) (omega (arith, g .room, text-units (f .before .before .before .before .before .args .part .now)))) _ (c .told .ensures)
 
 pub next-text-spec : {M : Type 1} → statement M

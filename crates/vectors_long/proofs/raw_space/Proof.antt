@@ -8,7 +8,7 @@ use Rattle.vectors_long.proofs.raw_space.Lts as lts
 
 -- src/main.rt:181:1
 returns : tie.Need-returns
-returns c = sym (length-replicate {A = ℕ} 4194297 0)
+returns c = sym (length-replicate {A = ℕ} 4194305 0)
 
 pub raw-space-spec : {M : Type 1} → statement M
 raw-space-spec = tie.close (tie.spec returns)

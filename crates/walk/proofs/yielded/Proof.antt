@@ -8,11 +8,11 @@ use Rattle.walk.proofs.yielded.Tie as tie
 enum-known-item : tie.Need-enum-known-item
 enum-known-item c = search needs
 
-mul-t15 : tie.Need-mul-t15
-mul-t15 c = search needs
+mul-t16 : tie.Need-mul-t16
+mul-t16 c = search needs
 
-add-t16 : tie.Need-add-t16
-add-t16 c = let r = rw (c .before .item .given .1) at (c .before .before .before .before .pre .3) in omega (arith, c .before .before .before .before .pre .2)
+add-t17 : tie.Need-add-t17
+add-t17 c = let r = rw (c .before .item .given .1) at (c .before .before .before .before .pre .3) in omega (arith, c .before .before .before .before .pre .2)
 
 enum-known-item-2 : tie.Need-enum-known-item-2
 enum-known-item-2 c = search needs
@@ -23,11 +23,14 @@ is-entered-requires c κs = search needs
 is-ruled-requires : tie.Need-is-ruled-requires
 is-ruled-requires c κs = search needs
 
+holds-indexed-requires : tie.Need-holds-indexed-requires
+holds-indexed-requires c κs = search needs
+
 add-advance : tie.Need-add-advance
-add-advance c = let p = c .before .before .before .before .before .before .before .pre in let r = rw (c .before .before .before .before .item2 .given .1) at (p .3) in omega (arith, p .2)
+add-advance c = let p = c .before .before .before .before .before .before .before .before .pre in let r = rw (c .before .before .before .before .before .item2 .given .1) at (p .3) in omega (arith, p .2)
 
 add-advance-2 : tie.Need-add-advance-2
-add-advance-2 c = let p = c .before .before .before .before .before .before .before .pre in let r = rw (c .before .before .before .before .item2 .given .1) at (p .3) in omega (arith, p .2)
+add-advance-2 c = let p = c .before .before .before .before .before .before .before .before .pre in let r = rw (c .before .before .before .before .before .item2 .given .1) at (p .3) in omega (arith, p .2)
 
 advance-requires : tie.Need-advance-requires
 advance-requires c κs = search needs
@@ -40,21 +43,25 @@ same-length c = search needs
 
 returns-2 : tie.Need-returns-2
 returns-2 c =
-    let m = c .before .before .before .before .before .before .before in
+    let e = c .before .before .before .before .before .before in
+    let m = e .before .before in
     let p = m .before .before .before .pre in
     let r = rw (m .item2 .given .1) at (p .3) in
-    rw (m .item2 .given .1) (told-item _ _ _ _ _ (p .1) (r .2) (c .before .before .before .before .before .is-entered .ensures) (c .before .before .before .before .is-ruled .ensures) (c .before .before .advance .ensures (p .0)))
+    rw (m .item2 .given .1)
+    (told-item _ _ _ _ _ (p .1) (r .2) (e .is-entered .ensures) (c .before .before .before .before .before .is-ruled .ensures)
+    (c .before .before .before .before .holds-indexed .ensures) (c .before .before .advance .ensures (p .0)))
 
 pub yielded-spec : {M : Type 1} → statement M
 yielded-spec =
     tie.close
     (tie.spec
     enum-known-item
-    mul-t15
-    add-t16
+    mul-t16
+    add-t17
     enum-known-item-2
     is-entered-requires
     is-ruled-requires
+    holds-indexed-requires
     add-advance
     add-advance-2
     advance-requires

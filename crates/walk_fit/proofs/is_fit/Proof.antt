@@ -1,7 +1,7 @@
 -- `walk_fit::is_fit` meets its contract. The tests of 13 in the order of isFit. Assumes nothing.
 use native.Mathlib.Omega.{arith}
 use borrow.Author.Tests.{not-true, not-false}
-use Rattle.walk_fit.proofs.Laws.{fit-many, fit-past, fit-slots, fit-top, fit-inner}
+use Rattle.walk_fit.proofs.Laws.{fit-many, fit-past, fit-slots, fit-indexed, fit-top, fit-inner}
 use borrow.Author.Needs.{needs}
 use Rattle.walk_fit.proofs.is_fit.Statement.{statement}
 use Rattle.walk_fit.proofs.is_fit.Tie as tie
@@ -22,7 +22,16 @@ returns-4 : tie.Need-returns-4
 returns-4 c = let a = c .before .before .before .before .before .before .before .args in λ l. fit-slots (a .slots .now) (a .p) (a .n) (search needs) (search needs) (c .before .slots-fit .ensures) (not-true _ (c .if4 .taken))
 
 returns-5 : tie.Need-returns-5
-returns-5 c = let a = c .before .before .before .before .before .before .before .before .before .args in λ l. fit-top (a .slots .now) (a .p) (a .n) (search needs) (search needs) (c .before .before .before .slots-fit .ensures) (not-false _ (c .before .before .if4 .left)) (c .before .if5 .taken)
+returns-5 c =
+    let t = c .before .before .before in
+    let a = t .before .before .before .before .before .before .args in
+    λ l. fit-indexed (a .slots .now) (a .p) (a .n) (search needs) (search needs) (t .slots-fit .ensures) (not-false _ (c .before .before .if4 .left)) (c .before .if5 .taken) (c .if6 .taken)
+
+returns-6 : tie.Need-returns-6
+returns-6 c =
+    let t = c .before .before .before .before in
+    let a = t .before .before .before .before .before .before .args in
+    λ l. fit-top (a .slots .now) (a .p) (a .n) (search needs) (search needs) (t .slots-fit .ensures) (not-false _ (c .before .before .before .if4 .left)) (c .before .before .if5 .taken) (c .before .if6 .left)
 
 sub-inner : tie.Need-sub-inner
 sub-inner c = search needs
@@ -33,8 +42,8 @@ mul-inner c = search needs
 shared-slice-read-inner : tie.Need-shared-slice-read-inner
 shared-slice-read-inner c = search needs
 
-returns-6 : tie.Need-returns-6
-returns-6 c = let a = c .before .before .before .before .before .before .before .before .before .before .args in λ l. fit-inner (a .slots .now) (a .p) (a .n) (search needs) (search needs) (c .before .before .before .before .slots-fit .ensures) (not-false _ (c .before .before .before .if4 .left)) (c .before .before .if5 .left)
+returns-7 : tie.Need-returns-7
+returns-7 c = let a = c .before .before .before .before .before .before .before .before .before .before .args in λ l. fit-inner (a .slots .now) (a .p) (a .n) (search needs) (search needs) (c .before .before .before .before .slots-fit .ensures) (not-false _ (c .before .before .before .if4 .left)) (c .before .before .if5 .left)
 
 pub is-fit-spec : {M : Type 1} → statement M
 is-fit-spec =
@@ -46,7 +55,8 @@ is-fit-spec =
     slots-fit-requires
     returns-4
     returns-5
+    returns-6
     sub-inner
     mul-inner
     shared-slice-read-inner
-    returns-6)
+    returns-7)

@@ -21,7 +21,7 @@ returns-2 : tie.Need-returns-2
 returns-2 c = λ l.
     let e = c .before .before .before .before .before .before in
     let a = e .before .before .before .before .before .args in
-    rw (e .before .before .if2 .taken) (advance-into (a .slots .now) (a .p) (a .at) (a .end) (a .mark) (e .enter .ensures) (c .before .before .finish .ensures))
+    rw (e .before .before .if2 .taken) (advance-into (a .slots .now) (a .p) (a .at) (a .end) (a .mark) (a .indexed) (e .enter .ensures) (c .before .before .finish .ensures))
 
 finish-requires-2 : tie.Need-finish-requires-2
 finish-requires-2 c κs = search needs
@@ -33,7 +33,7 @@ returns-3 : tie.Need-returns-3
 returns-3 c = λ l.
     let f = c .before .before in
     let a = f .before .before .before .before .before .args in
-    rw (f .before .before .if2 .left) (advance-past (a .slots .now) (a .p) (a .at) (a .end) (a .mark) (f .finish2 .ensures))
+    rw (f .before .before .if2 .left) (advance-past (a .slots .now) (a .p) (a .at) (a .end) (a .mark) (a .indexed) (f .finish2 .ensures))
 
 pub advance-spec : {M : Type 1} → statement M
 advance-spec =

@@ -6,7 +6,7 @@ use Rattle.writing.proofs.write_binary.Statement.{statement}
 use Rattle.writing.proofs.write_binary.Tie as tie
 use Rattle.writing.proofs.write_binary.Reads as reads
 use Rattle.writing.proofs.write_binary.Lts as lts
-use Rattle.writing.proofs.binary_item.Reads as binary-item-reads
+use Rattle.writing_raw.proofs.binary_item.Reads as binary-item-reads
 use Rattle.writing_plan.proofs.plan_item.Reads as plan-item-reads
 use Rattle.writing_text.proofs.text_in_binary.Reads as text-in-binary-reads
 
@@ -20,11 +20,7 @@ enum-known-planned-2 : tie.Need-enum-known-planned-2
 enum-known-planned-2 c = search needs
 
 binary-item-requires : tie.Need-binary-item-requires
-binary-item-requires c κs =
-    let q = c .before .before .before .before .before in
-    let a = q .before .before .before .args in
-    let t = rw (c .before .before .before .planned2 .given .1) at (told (a .code) (a .tag) (a .tags) (a .raw .now) (search needs) _ (q .plan-item .ensures)) in
-    t .item .size
+binary-item-requires c κs = search needs
 
 enum-known-planned-3 : tie.Need-enum-known-planned-3
 enum-known-planned-3 c = search needs

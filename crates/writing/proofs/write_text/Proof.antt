@@ -6,7 +6,7 @@ use Rattle.writing.proofs.write_text.Statement.{statement}
 use Rattle.writing.proofs.write_text.Tie as tie
 use Rattle.writing.proofs.write_text.Reads as reads
 use Rattle.writing.proofs.write_text.Lts as lts
-use Rattle.writing.proofs.text_item.Reads as text-item-reads
+use Rattle.writing_raw.proofs.text_item.Reads as text-item-reads
 use Rattle.writing_plan.proofs.plan_item.Reads as plan-item-reads
 use Rattle.writing_text.proofs.text_in_text.Reads as text-in-text-reads
 
@@ -20,11 +20,7 @@ enum-known-planned-2 : tie.Need-enum-known-planned-2
 enum-known-planned-2 c = search needs
 
 text-item-requires : tie.Need-text-item-requires
-text-item-requires c κs =
-    let q = c .before .before .before .before .before in
-    let a = q .before .before .before .args in
-    let t = rw (c .before .before .before .planned2 .given .1) at (told (a .code) (a .tag) (a .tags) (a .raw .now) (search needs) _ (q .plan-item .ensures)) in
-    t .item .size
+text-item-requires c κs = search needs
 
 enum-known-planned-3 : tie.Need-enum-known-planned-3
 enum-known-planned-3 c = search needs

@@ -33,6 +33,12 @@ enum-told-6 c = search needs
 enum-told-7 : tie.Need-enum-told-7
 enum-told-7 c = search needs
 
+enum-told-8 : tie.Need-enum-told-8
+enum-told-8 c = search needs
+
+enum-told-9 : tie.Need-enum-told-9
+enum-told-9 c = search needs
+
 returns : tie.Need-returns
 unfolding namedFixed asNamed
 returns c = rw (c .enum-told .given .1)
@@ -55,7 +61,7 @@ returns-5 c = rw (c .before .before .before .op .given .1, c .enum-told4 .given 
 
 returns-6 : tie.Need-returns-6
 unfolding namedFixed asNamed
-returns-6 c = rw (c .enum-told5 .given .1)
+returns-6 c = rw (c .before .before .before .op .given .1, c .enum-told5 .given .1)
 
 returns-7 : tie.Need-returns-7
 unfolding namedFixed asNamed
@@ -64,6 +70,14 @@ returns-7 c = rw (c .enum-told6 .given .1)
 returns-8 : tie.Need-returns-8
 unfolding namedFixed asNamed
 returns-8 c = rw (c .enum-told7 .given .1)
+
+returns-9 : tie.Need-returns-9
+unfolding namedFixed asNamed
+returns-9 c = rw (c .enum-told8 .given .1)
+
+returns-10 : tie.Need-returns-10
+unfolding namedFixed asNamed
+returns-10 c = rw (c .enum-told9 .given .1)
 
 pub row-of-spec : {M : Type 1} → statement M
 row-of-spec =
@@ -78,6 +92,8 @@ row-of-spec =
     enum-told-5
     enum-told-6
     enum-told-7
+    enum-told-8
+    enum-told-9
     returns
     returns-2
     returns-3
@@ -85,4 +101,6 @@ row-of-spec =
     returns-5
     returns-6
     returns-7
-    returns-8)
+    returns-8
+    returns-9
+    returns-10)

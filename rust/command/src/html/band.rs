@@ -12,7 +12,7 @@ use crate::memory::Gathered;
 use crate::outcome::code_and_name;
 use crate::readable;
 use crate::words::{counted, measured};
-use cesr::{Code, Form, Head, Item, Report, Step, Verdict, Walk};
+use cesr::{Form, Head, Item, Report, Step, Verdict, Walk};
 use row::{Kind, Piece, Row, WHOLE};
 use std::io::{self, Write};
 use std::ops::Range;
@@ -134,9 +134,8 @@ impl Band<'_> {
         let (form, base) = (self.input.form, group.offset);
         let part = group.of(&self.input.bytes);
         let mut walk = Walk::new(form, part);
-        let (mut last, mut open): (Option<Step>, Vec<Step>) = (None, Vec::new());
+        let mut open: Vec<Step> = Vec::new();
         while let Some(Ok(step)) = walk.next() {
-            self.unopened(base, last, Some(step.depth));
             open.retain(|group| end_of(group) > step.offset);
             if step.head.code().is_group() {
                 open.push(step);
@@ -144,10 +143,8 @@ impl Band<'_> {
             if step.depth > 0 {
                 self.step(base, &step);
             }
-            last = Some(step);
         }
         let at = position(form, &walk);
-        self.unopened(base, last.filter(|group| end_of(group) <= at), None);
         open.retain(|group| end_of(group) > at);
         // None is open at the end, nor where the group itself is refused.
         let Some(end) = open.last().map(end_of) else {
@@ -170,26 +167,6 @@ impl Band<'_> {
         let name = step.head.name().unwrap_or_default();
         let said = || unlabelled(format!("{} {name}, {size} from {from}", step.head));
         self.piece(step.depth, Kind::Accepted, part, said);
-    }
-
-    /// A group that the walk stepped over: nobody looked at what it holds.
-    fn unopened(&mut self, base: usize, last: Option<Step>, next: Option<usize>) {
-        let Some(group) = last.filter(|step| step.head.code().is_group()) else {
-            return;
-        };
-        let header: usize = match group.head.code() {
-            Code::LargeGroup { .. } => 2,
-            _ => 1,
-        };
-        let header = header.saturating_mul(self.input.form.unit());
-        let from = group.offset.saturating_add(header);
-        let opened = next.is_some_and(|depth| depth > group.depth);
-        if opened || end_of(&group) <= from {
-            return;
-        }
-        let part = base.saturating_add(from)..base.saturating_add(end_of(&group));
-        let said = || unlabelled("not looked into".to_string());
-        self.piece(group.depth.saturating_add(1), Kind::Opaque, part, said);
     }
 
     fn whole(mut self, report: &Report) -> io::Result<Vec<u8>> {
@@ -220,7 +197,6 @@ impl Band<'_> {
         for (kind, class, words) in [
             (Kind::Refused, "refused", "refused, with \u{25BC} above"),
             (Kind::Remainder, "remainder", "remainder, not judged"),
-            (Kind::Opaque, "opaque", "not looked into"),
         ] {
             said.extend(is_there(kind).then(|| key(class, words)));
         }

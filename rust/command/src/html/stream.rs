@@ -135,8 +135,8 @@ fn facts(out: &mut Gathered, input: &Input, report: &Report) -> io::Result<()> {
         out,
         "<div class=\"wide\"><dt>SHA-256</dt><dd>{digest}</dd></div>"
     )?;
-    for said in readable::unseen(input, report) {
-        let said = escaped(&said);
+    if let Some(said) = readable::beware(input) {
+        let said = escaped(said);
         writeln!(
             out,
             "<div class=\"wide\"><dt>Beware</dt><dd>{said}</dd></div>"

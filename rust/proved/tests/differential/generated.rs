@@ -6,7 +6,7 @@ use std::sync::atomic::{AtomicU64, Ordering};
 use streams::damage::{cross, damage};
 use streams::form::FORMS;
 use streams::generate::{
-    any_deck, any_fill_deck, deep, every_code, not_short_deck, one_code, CODES,
+    any_deck, any_fill_deck, any_signatures_deck, deep, every_code, not_short_deck, one_code, CODES,
 };
 use streams::item::stream;
 use streams::noise::noise;
@@ -45,10 +45,11 @@ fn generated(random: &mut Random, form: Form, kind: u64) -> (Vec<u8>, bool) {
         11 => noise(random, form, 200),
         12 => form.of_text(&stream(&[deep(random)])),
         14 => form.of_text(&stream(&any_fill_deck(random))),
+        15 => form.of_text(&stream(&any_signatures_deck(random))),
         _ => neighbours(random, form),
     };
     let whole = matches!(kind, 0..=2 | 13);
-    let left = whole || matches!(kind, 11 | 12) || matches!(kind, 9 | 14) && random.once_in(2);
+    let left = whole || matches!(kind, 11 | 12) || matches!(kind, 9 | 14 | 15) && random.once_in(2);
     if !left {
         damage(random, form, &mut made);
     }
@@ -127,6 +128,16 @@ fn generated_writes() {
 }
 
 #[test]
+fn generated_indexed_writes() {
+    let first = (setting("SEED", 1) << 40) + 0x1D3D;
+    each("indexed items written", |case| {
+        if let Err(why) = writes::any_indexed(&mut Random::new(first + case)) {
+            panic!("{why}");
+        }
+    });
+}
+
+#[test]
 fn generated_compares() {
     let first = (setting("SEED", 1) << 40) + 0x6E20;
     each("expectations compared", |case| {
@@ -152,7 +163,7 @@ fn every_number_is_met() {
             .for_each(|row| remainders[row[1]] += 1);
     }
     for number in 0..20 {
-        let is_verdict = matches!(number, 0 | 4..=11 | 16 | 18 | 19);
+        let is_verdict = matches!(number, 0 | 4..=11 | 15 | 16 | 18 | 19);
         assert_eq!(
             verdicts[number] > 20,
             is_verdict,
@@ -191,6 +202,24 @@ fn every_name_of_a_code() {
                 raw: &[],
             };
             writes::alike(&item).unwrap();
+        }
+    }
+}
+
+#[test]
+fn every_name_of_an_indexed_code() {
+    for selector in 0..=255 {
+        for letter in 0..=255 {
+            for length in [64, 114] {
+                let item = proved::Indexed {
+                    selector,
+                    letter,
+                    index: 63,
+                    ondex: 0,
+                    raw: &[0x5A; 114][..length],
+                };
+                writes::alike_indexed(&item).unwrap();
+            }
         }
     }
 }

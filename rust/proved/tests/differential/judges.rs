@@ -89,7 +89,10 @@ fn past(stream: &[u8]) -> [usize; 3] {
 }
 
 fn reads(stream: &[u8], form: Form, mut offsets: impl Iterator<Item = usize>) -> Check {
-    offsets.try_for_each(|at| read(stream, form, at))
+    offsets.try_for_each(|at| {
+        read(stream, form, at)?;
+        read_indexed(stream, form, at)
+    })
 }
 
 pub fn report(stream: &[u8], form: Form) -> Check {
@@ -155,6 +158,33 @@ pub fn read(stream: &[u8], form: Form, at: usize) -> Check {
             "read",
             (by_proved(answer), tag, info, ours),
             (by_proved(told), told_tag, told_info, theirs),
+        )
+        .map_err(|why| format!("at {at}, room {room}, {why}"))?;
+    }
+    Ok(())
+}
+
+/// The same of an indexed item: 114 bytes are the most that one holds.
+pub fn read_indexed(stream: &[u8], form: Form, at: usize) -> Check {
+    const INFO: proved::IndexedInfo = [0xAA; proved::INDEXED];
+    let (mut info, mut told_info) = (INFO, INFO);
+    if form == Form::Binary {
+        let answer = proved::read_indexed_binary(stream, at, &mut info);
+        let told = beside::read_indexed_binary(stream, at, &mut told_info);
+        let (ours, theirs) = (by_proved(answer), by_proved(told));
+        return same("read indexed", (ours, info), (theirs, told_info))
+            .map_err(|why| format!("at {at}, {why}"));
+    }
+    let asked = beside::read_indexed_text(stream, at, &mut [0; 114], &mut told_info);
+    for room in rooms(asked.unwrap_or(0)) {
+        (info, told_info) = (INFO, INFO);
+        let (mut ours, mut theirs) = (vec![0xAA; room], vec![0xAA; room]);
+        let answer = proved::read_indexed_text(stream, at, &mut ours, &mut info);
+        let told = beside::read_indexed_text(stream, at, &mut theirs, &mut told_info);
+        same(
+            "read indexed",
+            (by_proved(answer), info, ours),
+            (by_proved(told), told_info, theirs),
         )
         .map_err(|why| format!("at {at}, room {room}, {why}"))?;
     }

@@ -4,7 +4,7 @@
 //!
 //! Seeded and repeatable. `CASES=1000000 cargo test --release --test
 //! differential generated -- --nocapture` judges so many generated streams,
-//! writes so many primitives and compares so many expectations; `SEED=7` others; `THREADS=2` on two cores.
+//! writes so many primitives and indexed items and compares so many expectations; `SEED=7` others; `THREADS=2` on two cores.
 
 mod compares;
 mod deck;

@@ -2,7 +2,10 @@
 //! states.
 
 use crate::judges::{by_proved, same, Check};
-use proved::{Instalment, Pause, State, MAX_DEPTH, STATE, STATE_FIRST, STATE_OPEN, STATE_POSITION};
+use proved::{
+    Instalment, Pause, State, MAX_DEPTH, STATE, STATE_FIRST, STATE_INDEXED, STATE_OPEN,
+    STATE_POSITION,
+};
 use streams::{Form, Random};
 
 /// One step of both; whether an item was found. State and item must be the
@@ -149,7 +152,10 @@ fn violate(random: &mut Random, units: usize, state: &mut State) {
         4 => state[STATE_POSITION] = *random.pick(&[units, units + 1, usize::MAX, usize::MAX / 3]),
         5 if open > 1 => state[open - 1] = near(random, state[open - 2]),
         6 if open > 0 => state[0] = *random.pick(&[units, units + 1, usize::MAX]),
-        7 => state[STATE_FIRST] = *random.pick(&[0, 1, 1, 2, usize::MAX]),
+        7 => {
+            let mark = *random.pick(&[STATE_FIRST, STATE_INDEXED]);
+            state[mark] = *random.pick(&[0, 1, 1, 2, usize::MAX]);
+        }
         8 => state[STATE_POSITION] = random.below(units + 1),
         9 => state[STATE_OPEN] = near(random, state[STATE_OPEN]),
         10 => deepen(random, units, state),
@@ -168,4 +174,5 @@ fn deepen(random: &mut Random, units: usize, state: &mut State) {
     }
     state[STATE_POSITION] = random.below(end + 1);
     state[STATE_FIRST] = random.below(2);
+    state[STATE_INDEXED] = random.below(2);
 }

@@ -2,9 +2,9 @@
 
 use crate::judges::{by_oracle, by_proved, lent, Check};
 use oracle::primitive::{write, Named};
-use proved::{Primitive, Tag};
+use proved::{Indexed, Primitive, Tag};
 use streams::damage::{ORDINARY, STRANGERS};
-use streams::table::{FIXED, TEXT, TYPES};
+use streams::table::{FIXED, INDEXED, TEXT, TYPES};
 use streams::Random;
 
 /// The code's characters; none where the numbers name no fixed code.
@@ -47,6 +47,67 @@ pub fn alike(item: &Primitive) -> Check {
         .map_err(|why| format!("{item:02X?} as {form:?}, {why}"))?;
     }
     Ok(())
+}
+
+/// One indexed item by both, into every room.
+pub fn alike_indexed(item: &Indexed) -> Check {
+    type Call = fn(&Indexed, &mut [u8]) -> Result<usize, proved::Refusal>;
+    let forms: [[Call; 2]; 2] = [
+        [proved::write_indexed_text, beside::write_indexed_text],
+        [proved::write_indexed_binary, beside::write_indexed_binary],
+    ];
+    for [proved, oracle] in forms {
+        let size = oracle(item, &mut [0; 160]).unwrap_or(0);
+        lent(
+            "write indexed",
+            size,
+            |out| by_proved(proved(item, out)),
+            |out| by_proved(oracle(item, out)),
+        )
+        .map_err(|why| format!("{item:02X?}, {why}"))?;
+    }
+    Ok(())
+}
+
+/// Known indexed codes and others; index, ondex and length that fit, one more
+/// or less, and others.
+pub fn any_indexed(random: &mut Random) -> Check {
+    let row = *random.pick(&INDEXED);
+    let (mut selector, mut letter) = match *row.code.as_bytes() {
+        [selector, letter] => (selector, letter),
+        _ => (0, row.code.as_bytes()[0]),
+    };
+    if random.once_in(8) {
+        selector = *random.pick(&[0, b'0', b'1', b'2', b'3', b'4', b'A', 255]);
+    }
+    if random.once_in(8) {
+        letter = *random.pick(b"ABCDEaz0-");
+    }
+    let mut number = |digits: usize| {
+        let limit = 1usize << (6 * digits);
+        match random.below(8) {
+            0 => limit,
+            1 => limit - 1,
+            2 => limit + random.below(limit),
+            3 => *random.pick(&[usize::MAX, 1 << 32, (1 << 32) + 1, 64, 4096, 262_144]),
+            4 | 5 => 0,
+            _ => random.below(limit),
+        }
+    };
+    let (index, ondex) = (number(row.index), number(row.ondex));
+    let length = match random.below(8) {
+        0 => random.below(170),
+        1 => row.raw() - 1 + 2 * random.below(2),
+        _ => row.raw(),
+    };
+    let raw = random.bytes(length);
+    alike_indexed(&Indexed {
+        selector,
+        letter,
+        index,
+        ondex,
+        raw: &raw,
+    })
 }
 
 /// Known codes and others, with lengths that fit and others.

@@ -22,7 +22,7 @@ enter-requires c κs = let l : length (c .before .before .before .args .self .en
 returns : tie.Need-returns
 returns c =
     let a = c .before .before .before .before .before .args in
-    own-moved (search needs) (c .before .enter .ensures) ∙ ap (λ (w : Walk). entered w (a .at) (a .end) (a .mark)) (c .before .before .place .ensures)
+    own-moved (search needs) (c .before .enter .ensures) ∙ ap (λ (w : Walk). entered w (a .at) (a .end) (a .mark) (a .indexed)) (c .before .before .place .ensures)
 
 pub open-group-spec : {M : Type 1} → statement M
 open-group-spec = tie.close (tie.spec slice-aggregate-enter place-requires enter-requires returns)

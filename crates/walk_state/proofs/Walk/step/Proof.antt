@@ -23,7 +23,7 @@ returns : tie.Need-returns
 returns c =
     let a = c .before .before .before .before .before .args in
     let l : length (a .self .ends) ≡ maxDepth = search needs in
-    own-moved (search needs) (c .before .advance .ensures (omega arith)) ∙ ap (λ (w : Walk). stepOver w (a .at) (a .end) (a .opens) (a .mark)) (c .before .before .place .ensures)
+    own-moved (search needs) (c .before .advance .ensures (omega arith)) ∙ ap (λ (w : Walk). stepOver w (a .at) (a .end) (a .opens) (a .mark) (a .indexed)) (c .before .before .place .ensures)
 
 pub step-spec : {M : Type 1} → statement M
 step-spec = tie.close (tie.spec slice-aggregate-advance place-requires advance-requires returns)

@@ -21,7 +21,6 @@ const GAP: usize = 120;
 #[derive(Clone, Copy, Debug, PartialEq, Eq, PartialOrd, Ord)]
 pub enum Kind {
     Accepted,
-    Opaque,
     Remainder,
     Refused,
 }
@@ -30,7 +29,6 @@ impl Kind {
     fn class(self) -> &'static str {
         match self {
             Kind::Accepted => "accepted",
-            Kind::Opaque => "opaque",
             Kind::Remainder => "remainder",
             Kind::Refused => "refused",
         }
@@ -140,7 +138,7 @@ impl Row {
             escaped(said)
         );
         match kind {
-            Kind::Accepted | Kind::Opaque => self.under.push_str(&rect),
+            Kind::Accepted => self.under.push_str(&rect),
             Kind::Refused | Kind::Remainder => self.over.push_str(&rect),
         }
         if kind == Kind::Refused {

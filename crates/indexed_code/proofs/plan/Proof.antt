@@ -1,0 +1,37 @@
+-- `indexed_code::plan` meets its contract: 6, or by the row. Assumes nothing.
+use Rattle.indexed_code.proofs.Names.{unknown-plan, few}
+use Rattle.indexed_code.specs.Names.{asNamed}
+use borrow.Author.Needs.{needs}
+use Rattle.indexed_code.proofs.plan.Statement.{statement}
+use Rattle.indexed_code.proofs.plan.Tie as tie
+use Rattle.indexed_code.proofs.plan.Reads as reads
+use Rattle.indexed_code.proofs.plan.Lts as lts
+use Rattle.indexed_code.proofs.name_of.Reads as name-of-reads
+use Rattle.indexed_code.proofs.plan_row.Reads as plan-row-reads
+
+name-of-requires : tie.Need-name-of-requires
+name-of-requires c κs = search needs
+
+enum-told : tie.Need-enum-told
+enum-told c = search needs
+
+enum-known-named : tie.Need-enum-known-named
+enum-known-named c = search needs
+
+plan-row-requires : tie.Need-plan-row-requires
+plan-row-requires c κs = search needs
+
+returns : tie.Need-returns
+unfolding asNamed
+returns c = unknown-plan _ _ _ _ (rw (c .enum-told .given .1) at (c .before .before .name-of .ensures))
+
+returns-2 : tie.Need-returns-2
+unfolding asNamed
+returns-2 c =
+    let name = rw (c .before .before .named .given .1) at (c .before .before .before .before .name-of .ensures) in
+    rw (← name) (c .plan-row .ensures (few _ _ name))
+
+pub plan-spec : {M : Type 1} → statement M
+plan-spec =
+    tie.close
+    (tie.spec name-of-requires enum-told enum-known-named plan-row-requires returns returns-2)

@@ -1,0 +1,64 @@
+-- `indexed_head::second_unit` meets its contract, shape by shape. Assumes nothing.
+use borrow.Author.Tests.{ne-eqb}
+use Rattle.indexed_head.specs.Heads.{secondUnit}
+use borrow.Author.Needs.{needs}
+use Rattle.indexed_head.proofs.second_unit.Statement.{statement}
+use Rattle.indexed_head.proofs.second_unit.Tie as tie
+use Rattle.indexed_head.proofs.second_unit.Reads as reads
+use Rattle.indexed_head.proofs.second_unit.Lts as lts
+use Rattle.indexed_head.proofs.digit.Reads as digit-reads
+
+returns : tie.Need-returns
+unfolding secondUnit
+returns c = rw (c .if1 .taken)
+
+digit-requires : tie.Need-digit-requires
+digit-requires c κs = search needs
+
+digit-requires-2 : tie.Need-digit-requires-2
+digit-requires-2 c κs = search needs
+
+returns-2 : tie.Need-returns-2
+unfolding secondUnit
+returns-2 c =
+    let two = c .before .before in
+    rw (ne-eqb _ _ (two .before .before .if1 .left), two .if2 .taken, c .before .digit .ensures .0, c .digit2 .ensures .0)
+
+digit-requires-3 : tie.Need-digit-requires-3
+digit-requires-3 c κs = search needs
+
+digit-requires-4 : tie.Need-digit-requires-4
+digit-requires-4 c κs = search needs
+
+digit-requires-5 : tie.Need-digit-requires-5
+digit-requires-5 c κs = search needs
+
+digit-requires-6 : tie.Need-digit-requires-6
+digit-requires-6 c κs = search needs
+
+returns-3 : tie.Need-returns-3
+unfolding secondUnit
+returns-3 c =
+    let two = c .before .before .before .before in
+    rw (
+      ne-eqb _ _ (two .before .before .if1 .left),
+      ne-eqb _ _ (two .if2 .left),
+      c .before .before .before .digit3 .ensures .0,
+      c .before .before .digit4 .ensures .0,
+      c .before .digit5 .ensures .0,
+      c .digit6 .ensures .0,
+    )
+
+pub second-unit-spec : {M : Type 1} → statement M
+second-unit-spec =
+    tie.close
+    (tie.spec
+    returns
+    digit-requires
+    digit-requires-2
+    returns-2
+    digit-requires-3
+    digit-requires-4
+    digit-requires-5
+    digit-requires-6
+    returns-3)

@@ -1,0 +1,30 @@
+-- `report_first::indexed` meets its contract. Assumes nothing.
+use mathlib.Core.Path.{sym}
+use native.Mathlib.Omega.{arith}
+use Rattle.report_first.proofs.Laws.{text-indexed}
+use borrow.Author.Needs.{needs}
+use Rattle.report_first.proofs.indexed.Statement.{statement}
+use Rattle.report_first.proofs.indexed.Tie as tie
+
+enum-told : tie.Need-enum-told
+enum-told c = search needs
+
+indexed-text-requires : tie.Need-indexed-text-requires
+indexed-text-requires c κs = search needs
+
+enum-told-2 : tie.Need-enum-told-2
+enum-told-2 c = search needs
+
+indexed-binary-requires : tie.Need-indexed-binary-requires
+indexed-binary-requires c κs = search needs
+
+returns : tie.Need-returns
+returns c = rw (c .before .enum-told .given .1) (λ l. text-indexed (c .before .before .before .before .args .values .now) (c .before .before .before .before .args .classes .now) (c .before .before .before .before .args .rows .now) (c .before .before .before .before .args .s .now) l (λ i. omega (arith, c .before .before .before .shared-slice-known .given i)) (c .before .before .before .before .args .at) _ (c .indexed-text .ensures))
+
+returns-2 : tie.Need-returns-2
+returns-2 c = rw (c .before .enum-told2 .given .1) (λ l. sym (c .indexed-binary .ensures))
+
+pub indexed-spec : {M : Type 1} → statement M
+indexed-spec =
+    tie.close
+    (tie.spec enum-told indexed-text-requires enum-told-2 indexed-binary-requires returns returns-2)

@@ -1,0 +1,59 @@
+-- `report_next::holds_indexed` meets its contract. Assumes nothing.
+use Rattle.report_next.specs.Next.{holdsIndexed}
+use borrow.Author.Needs.{needs}
+use Rattle.report_next.proofs.holds_indexed.Statement.{statement}
+use Rattle.report_next.proofs.holds_indexed.Tie as tie
+
+enum-told : tie.Need-enum-told
+enum-told c = search needs
+
+enum-told-2 : tie.Need-enum-told-2
+enum-told-2 c = search needs
+
+enum-known-kind : tie.Need-enum-known-kind
+enum-known-kind c = search needs
+
+is-indexed-requires : tie.Need-is-indexed-requires
+is-indexed-requires c κs = search needs
+
+enum-told-3 : tie.Need-enum-told-3
+enum-told-3 c = search needs
+
+enum-told-4 : tie.Need-enum-told-4
+enum-told-4 c = search needs
+
+returns : tie.Need-returns
+unfolding holdsIndexed
+returns c = rw (c .enum-told .given .1)
+
+returns-2 : tie.Need-returns-2
+unfolding holdsIndexed
+returns-2 c = rw (c .enum-told2 .given .1)
+
+returns-3 : tie.Need-returns-3
+unfolding holdsIndexed
+returns-3 c = rw (c .before .before .kind .given .1, c .is-indexed .ensures)
+
+returns-4 : tie.Need-returns-4
+unfolding holdsIndexed
+returns-4 c = rw (c .enum-told3 .given .1)
+
+returns-5 : tie.Need-returns-5
+unfolding holdsIndexed
+returns-5 c = rw (c .enum-told4 .given .1)
+
+pub holds-indexed-spec : {M : Type 1} → statement M
+holds-indexed-spec =
+    tie.close
+    (tie.spec
+    enum-told
+    enum-told-2
+    enum-known-kind
+    is-indexed-requires
+    enum-told-3
+    enum-told-4
+    returns
+    returns-2
+    returns-3
+    returns-4
+    returns-5)
