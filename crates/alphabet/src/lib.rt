@@ -1,10 +1,7 @@
-// The URL-safe Base64 alphabet: characters to sextets and back, the search for a character outside it, and such a character's number.
+// The URL-safe Base64 alphabet: characters to sextets and back.
 ghost use mathlib.Core.Path.{_≡_};
-ghost use Prim.Native.Nat.{_+_, _-_, _≤_, min};
-ghost use lib.Dec.{eqb, leb, ltb};
-ghost use lib.ListN.{length, getD, drop};
-ghost use Rattle.format.specs.Alphabet.{sextetOf, strangerNumber, charOf, sextetTable, characterTable};
-ghost use Rattle.format.specs.Conversion.{firstStranger};
+ghost use lib.ListN.{getD};
+ghost use Rattle.format.specs.Alphabet.{sextetOf, charOf, sextetTable, characterTable};
 
 // A character is named where a run of the alphabet begins or ends, and where ordinary Base64 has one that is a stranger here: 65.
 const SEXTETS: [u8; 256] = [
@@ -373,92 +370,4 @@ pub fn character(v: u8) -> u8
     } else {
         0
     }
-}
-
-// How far a number is beyond the most of a range, 0 within it.
-fn beyond(x: u8, most: u8) -> u8
-    ensures { λ r. ⌜ r ≡ x - most ⌝ }
-{
-    if x < most { 0 } else { x - most }
-}
-
-fn least(x: u8, y: u8) -> u8
-    ensures { λ r. ⌜ r ≡ min x y ⌝ }
-{
-    if x < y { x } else { y }
-}
-
-// 0 exactly for a character of the alphabet: how far it is from the letters, the digits, `-` or `_`, whichever is nearest. Without
-// the bit of 32 a small letter is a capital. Saturated differences and least values are vector operations on bytes.
-fn stranger(c: u8) -> u8
-    ensures { λ r. ⌜ eqb r 0 ≡ ltb (sextetOf c) 64 ⌝ }
-{
-    let letter = beyond(std::num::wrapping_sub_u8(c & 223, 65), 25);
-    let digit = beyond(std::num::wrapping_sub_u8(c, 48), 9);
-    least(least(letter, digit), least(c ^ 45, c ^ 95))
-}
-
-// 0 exactly if the 64 characters from a place on are all of the alphabet. There is no early way out, so that it is vectorised.
-fn strangers(s: &[u8], at: usize) -> u8
-    requires { ⌜ at + 64 ≤ length (now s) ⌝ }
-    ensures { λ r. ⌜ eqb r 0 ≡ leb 64 (firstStranger (drop at (now (s .entry)))) ⌝ }
-{
-    let mut bad: u8 = 0;
-    let mut j: usize = 0;
-    while j < 64 {
-        let x = stranger(s[at + j]);
-        bad = bad | x;
-        j = j + 1;
-    }
-    bad
-}
-
-// The place of the first character outside the alphabet from a place on, or the length, character by character.
-fn stranger_from(s: &[u8], from: usize) -> usize
-    requires { ⌜ from ≤ length (now s) ⌝ }
-    ensures { λ r. ⌜ r ≡ from + firstStranger (drop from (now (s .entry))) ⌝ }
-{
-    let values = sextets();
-    let mut i = from;
-    while i < s.len() {
-        if 63 < value(&values, s[i]) {
-            return i;
-        }
-        i = i + 1;
-    }
-    i
-}
-
-// The same from the start: whole blocks while they are clean, then character by character.
-pub fn first_stranger(s: &[u8]) -> usize
-    ensures { λ r. ⌜ r ≡ firstStranger (now (s .entry)) ⌝ }
-{
-    let mut i = 0;
-    while i < s.len() {
-        if s.len() - i < 64 {
-            break;
-        }
-        if strangers(s, i) != 0 {
-            break;
-        }
-        i = i + 64;
-    }
-    stranger_from(s, i)
-}
-
-// The number of a character outside the alphabet by its mark: 19 for one of the ordinary alphabet, 5 for any other.
-pub fn stranger_number(v: u8) -> u8
-    ensures { λ r. ⌜ r ≡ strangerNumber v ⌝ }
-{
-    if v == 65 { 19 } else { 5 }
-}
-
-// The same of the character at a place, whose entry is read once its place is known.
-pub fn number_at(s: &[u8], i: usize) -> u8
-    ensures { λ r. ⌜ r ≡ strangerNumber (sextetOf (getD (now (s .entry)) i 0)) ⌝ }
-{
-    if i < s.len() {
-        return stranger_number(sextet(s[i]));
-    }
-    5
 }

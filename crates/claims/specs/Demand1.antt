@@ -53,17 +53,18 @@ use Rattle.format.specs.Writing as W
 use Rattle.laws.specs.Alphabet.{char-sextet}
 use Rattle.laws.specs.Conversion.{binary-below}
 use Rattle.laws.specs.Domains.{Reader, text-reader, binary-reader}
-use Rattle.claims.specs.Order.{Rule, _when_, First, None}
-use Rattle.claims.specs.Rules.{Told, By, Allowed, skip, behind, in-front, ask, ask-lt, by-none, by-first, refusal}
-use Rattle.claims.specs.Rules.Told.{accepted, told}
-use Rattle.claims.specs.Rules.By.{none, first}
-use Rattle.claims.specs.Rules.Allowed.{end, _&_}
+use Rattle.claims_rules.specs.Order.{Rule, _when_, First, None}
+use Rattle.claims_rules.specs.Rules.{Told, By, Allowed, skip, behind, in-front, ask, ask-lt, by-none, by-first, refusal}
+use Rattle.claims_rules.specs.Rules.Told.{accepted, told}
+use Rattle.claims_rules.specs.Rules.By.{none, first}
+use Rattle.claims_rules.specs.Rules.Allowed.{end, _&_}
 use Rattle.claims.specs.Conditions as C
-use Rattle.claims.specs.Strangers.{Clean, strange, clean-other, clean-ordinary, ask-strange}
+use Rattle.claims_rules.specs.Conditions as K
+use Rattle.claims_rules.specs.Strangers.{Clean, strange, clean-other, clean-ordinary, ask-strange}
 use Rattle.claims.specs.Claims.{Demand1}
-use Rattle.claims.specs.Framed.{framed-found, unframed-first}
-use Rattle.claims.specs.Judged.{Judged, true-false, long-form, short-form, own-judged}
-use Rattle.claims.specs.Judged.Judged.{passes, refuses}
+use Rattle.claims_rules.specs.Framed.{framed-found, unframed-first}
+use Rattle.claims_rules.specs.Judged.{Judged, true-false, long-form, short-form, own-judged}
+use Rattle.claims_rules.specs.Judged.Judged.{passes, refuses}
 
 -- ---- strangers among characters
 
@@ -319,9 +320,9 @@ pub data Reads (rs : List Rule) (k : Kind) (h n : ℕ) : Reading → Type 0 wher
 
 -- 14, judging
 abbrev fromKind : Kind → ℕ → ℕ → List ℕ → List Rule
-fromKind k h n s = 14 when (isPrimitive k ≡ false) ∷ C.judging k h (take (4 * n) s)
+fromKind k h n s = 14 when (isPrimitive k ≡ false) ∷ K.judging k h (take (4 * n) s)
 
-skip-kind : (k : Kind) (h n : ℕ) (s : List ℕ) (v : Verdict) → isPrimitive k ≡ true → Judged (C.judging k h (take (4 * n) s)) v
+skip-kind : (k : Kind) (h n : ℕ) (s : List ℕ) (v : Verdict) → isPrimitive k ≡ true → Judged (K.judging k h (take (4 * n) s)) v
     → Reads (fromKind k h n s) k h n (judged k h n v)
 unfolding judged
 skip-kind k h n s v i (passes q) = there (λ e. let z : _≡_ {A = ℕ} 0 1 = cc in omega arith, q)
@@ -341,17 +342,17 @@ behind-framing rs qs k h n r no-rs (not-there {m = m} f) = not-there (by-first (
 
 module _ (s : List ℕ) where
   abbrev fromFraming : List Rule
-  fromFraming = C.framing false s ++ fromKind (C.itemKind false s) (C.itemHead false s) (C.itemSize false s) s
+  fromFraming = K.framing false s ++ fromKind (K.itemKind false s) (K.itemHead false s) (K.itemSize false s) s
 
-  reads : Reads fromFraming (C.itemKind false s) (C.itemHead false s) (C.itemSize false s) (reading s)
+  reads : Reads fromFraming (K.itemKind false s) (K.itemHead false s) (K.itemSize false s) (reading s)
   unfolding reading readFramed
   reads = go (frame s) refl
     where
-      go : (r : Framed) → frame s ≡ r → Reads fromFraming (C.itemKind false s) (C.itemHead false s) (C.itemSize false s) (readFramed r s)
-      go (Unframed m p) e = not-there (in-front (C.framing false s) (fromKind (C.itemKind false s) (C.itemHead false s) (C.itemSize false s) s) m (unframed-first false s m p e))
+      go : (r : Framed) → frame s ≡ r → Reads fromFraming (K.itemKind false s) (K.itemHead false s) (K.itemSize false s) (readFramed r s)
+      go (Unframed m p) e = not-there (in-front (K.framing false s) (fromKind (K.itemKind false s) (K.itemHead false s) (K.itemSize false s) s) m (unframed-first false s m p e))
       go (Item k h n) e =
           let f = framed-found false s k h n e in
-          rw (f .kind, f .head, f .size) (behind-framing (C.framing false s) (fromKind (C.itemKind false s) (C.itemHead false s) (C.itemSize false s) s) _ _ _ _ (f .none) (kind-reads (C.itemKind false s) (C.itemHead false s) (C.itemSize false s) s))
+          rw (f .kind, f .head, f .size) (behind-framing (K.framing false s) (fromKind (K.itemKind false s) (K.itemHead false s) (K.itemSize false s) s) _ _ _ _ (f .none) (kind-reads (K.itemKind false s) (K.itemHead false s) (K.itemSize false s) s))
 
 -- at or past the end there is no unit, which is 4
 no-unit : (s : List ℕ) → length s / 4 ≡ 0 → reading s ≡ refused 4 0
@@ -418,8 +419,8 @@ module _ (xs : List ℕ) (at room : ℕ) where
   all-known : (start stop : ℕ) → Clean (sextet fromOffset) start stop
   all-known = clean fromOffset (binary-below (drop at xs))
 
-  own-known : (start stop : ℕ) → Clean (sextet (take (4 * C.itemSize false fromOffset) fromOffset)) start stop
-  own-known = clean _ (below-take 64 (4 * C.itemSize false fromOffset) fromOffset (binary-below (drop at xs)))
+  own-known : (start stop : ℕ) → Clean (sextet (take (4 * K.itemSize false fromOffset) fromOffset)) start stop
+  own-known = clean _ (below-take 64 (4 * K.itemSize false fromOffset) fromOffset (binary-below (drop at xs)))
 
   -- in the first unit, in the header, behind it
   no-five : Allowed (1 ∷ 4 ∷ 6 ∷ 14 ∷ 18 ∷ 9 ∷ 8 ∷ 16 ∷ 10 ∷ 3 ∷ []) (C.readBinaryRules xs at room)

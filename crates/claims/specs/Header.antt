@@ -24,11 +24,11 @@ use Rattle.damage.specs.Words.{headOf}
 use Rattle.laws.specs.Framing.{unscale}
 use Rattle.laws.specs.Levels.{any-item}
 use Rattle.claims.specs.Words.{headerOf}
-use Rattle.claims.specs.Order.{None}
-use Rattle.claims.specs.Rules.{refusal}
-use Rattle.claims.specs.Rules.Allowed.{end, _&_}
-use Rattle.claims.specs.Conditions.{framing, openingOf}
-use Rattle.claims.specs.Framed.{framed-found, unframed-first}
+use Rattle.claims_rules.specs.Order.{None}
+use Rattle.claims_rules.specs.Rules.{refusal}
+use Rattle.claims_rules.specs.Rules.Allowed.{end, _&_}
+use Rattle.claims_rules.specs.Conditions.{framing, openingOf}
+use Rattle.claims_rules.specs.Framed.{framed-found, unframed-first}
 use Rattle.claims.specs.Claims.{FramingClaims}
 
 -- one unit: neither `7` `8` `9` nor `-` with `-` or `_` behind it

@@ -1,14 +1,7 @@
 pub mod Words
-pub mod Order
-pub mod Rules
 pub mod Conditions
-pub mod Strangers
-pub mod Framed
-pub mod TextRules
-pub mod Judged
 pub mod Claims
 pub mod Header
-pub mod Lookup
 pub mod Demand1
 pub mod Numbers
 pub mod Demand3
@@ -16,11 +9,5 @@ pub mod Aligned
 pub mod Ratio
 pub mod Parts
 pub mod Demand2
-pub mod Deeper
-pub mod Short
-pub mod Text
-pub mod IndexedCalls
-pub mod Opened
-pub mod Signatures
 pub mod Proved
 pub mod Room

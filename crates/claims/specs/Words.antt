@@ -1,20 +1,16 @@
--- What demands 2 and 3, 02 g and 02 a speak of. No proofs. Assumes nothing.
-use Prim.Native.Nat.{ℕ, _*_, _%_, _≤_, _<_}
+-- What demands 2 and 3 speak of. No proofs. Assumes nothing.
+use Prim.Native.Nat.{ℕ, _*_, _%_, _≤_}
 use mathlib.Core.Path.{_≡_}
-use mathlib.Core.List.{List, [], _∷_, _++_}
-use mathlib.Core.Logic.{_⊎_}
+use mathlib.Core.List.{List, [], _∷_}
 use lib.ListN.{length, drop}
 use lib.Dec.{leb, eqb}
 use Rattle.base.specs.Pick.{pick}
 use Rattle.base.specs.Digits.{Below}
-use Rattle.format.specs.declared.IndexRow.{IndexRow}
 use Rattle.format.specs.declared.Verdict.{Verdict}
 use Rattle.format.specs.declared.Verdict.the-variants.{Accepted, Refused}
 use Rattle.format.specs.Alphabet.{within}
-use Rattle.format.specs.Units.{Domain, text, binary, textSextets}
-use Rattle.format.specs.Judging.{judge}
-use Rattle.format.specs.Report.{ItemRow, RefusalRow, RemainderRow, rows, refusals, remainder, rowsIn, refusalsIn, remainderIn}
-use Rattle.format.specs.Report.{placed, frameIn, rowBytes, refusalBytes, remainderBytes, section}
+use Rattle.format.specs.Units.{text, binary, textSextets}
+use Rattle.format.specs.Report.{ItemRow, RefusalRow, RemainderRow, rowsIn, refusalsIn, remainderIn}
 
 -- ---- the premise
 
@@ -78,35 +74,3 @@ headerOf a b = pick (within 59 61 a) 2 (pick (eqb a 62) (pick (leb 62 b) 2 1) 1)
 unfoldable pub remainderAt : List RemainderRow → List ℕ → List ℕ
 remainderAt [] xs = []
 remainderAt (r ∷ rs) xs = drop (r .offset) xs
-
--- ---- a limit of nesting
-
--- the verdict on an item's own bytes, where l groups may be entered
-unfoldable pub judgeTo : ℕ → Domain → List ℕ → Verdict
-judgeTo l d xs = placed (d .unit) (judge l (d .sextets xs))
-
-abbrev pub refusalsTo : ℕ → Domain → List ℕ → List RefusalRow
-refusalsTo l d xs = refusals (frameIn d) (judgeTo l d) xs
-
--- the report, where l groups may be entered
-unfoldable pub reportTo : ℕ → Domain → List ℕ → List ℕ
-reportTo l d xs =
-    section rowBytes (rows (frameIn d) (judgeTo l d) xs)
-    ++ (section refusalBytes (refusalsTo l d xs)
-    ++ section remainderBytes (remainder (frameIn d) (judgeTo l d) xs))
-
--- "held no 11": no refusal row has it
-abbrev pub NoEleven : List RefusalRow → Type 0
-NoEleven [] = Unit {0}
-NoEleven (r ∷ rs) = (r .number ≡ 11 → ⊥) × NoEleven rs
-
--- ---- the indexed table
-
--- one of these rows
-abbrev pub OneOf : IndexRow → List IndexRow → Type 0
-OneOf c [] = ⊥
-OneOf c (r ∷ rs) = (c ≡ r) ⊎ OneOf c rs
-
--- how an item of the twelve codes starts, by its first two sextets: `A` to `D`; `0A`, `0B`; `2A` to `2D`; `3A`, `3B`
-abbrev pub IndexedStart : ℕ → ℕ → Type 0
-IndexedStart a b = (a < 4) ⊎ (((a ≡ 52) × (b < 2)) ⊎ (((a ≡ 54) × (b < 4)) ⊎ ((a ≡ 55) × (b < 2))))

@@ -22,7 +22,7 @@ pub fn text_to_binary(src: &[u8], dst: &mut [u8]) -> ToBinary
     }
     let bad = convert_pack::to_binary(src, dst);
     if bad < n {
-        let number = alphabet::number_at(src, bad);
+        let number = alphabet_numbers::number_at(src, bad);
         return ToBinary::Refused(number, TextOffset(bad));
     }
     let size = offsets::in_binary(TextOffset(n));

@@ -155,7 +155,7 @@ pub fn to_binary(src: &[u8], dst: &mut [u8]) -> usize
     ensures { λ r. ⌜ r ≡ firstStranger (now (src .entry)) ⌝ }
     ensures { λ r. ⌜ now (dst .exit) ≡ packedLeft (now (src .entry)) (now (dst .entry)) ⌝ }
 {
-    let known = alphabet::first_stranger(src);
+    let known = alphabet_search::first_stranger(src);
     if known < src.len() {
         return known;
     }

@@ -14,6 +14,13 @@ fn wide(x: u8) -> u16
 
 // ---- two characters to twelve bits
 
+fn twelve(high: u8, low: u16) -> u16
+    requires { ⌜ low < 256 ⌝ }
+    ensures { λ r. ⌜ r ≡ high * 64 + low ⌝ }
+{
+    wide(high) * 64 + low
+}
+
 // The pairs whose second character has the value `low`; the first is one of the 78 characters from `-`, 45, to `z`.
 fn put_row(table: &mut [u16; 19790], values: &[u8; 256], at: usize, low: u16)
     requires { ⌜ (length (now table) ≡ 19790) × (at + 78 ≤ 19790) × (low < 256) ⌝ }
@@ -21,7 +28,7 @@ fn put_row(table: &mut [u16; 19790], values: &[u8; 256], at: usize, low: u16)
 {
     let mut i = 0;
     while i < 78 {
-        table[at + i] = wide(values[i + 45]) * 64 + low;
+        table[at + i] = twelve(values[i + 45], low);
         i += 1;
     }
 }
@@ -43,6 +50,14 @@ pub fn sextet_pairs() -> [u16; 19790]
 
 // ---- twelve bits to two characters
 
+// The first is the low byte.
+fn pair(first: u16, second: u8) -> u16
+    requires { ⌜ first < 256 ⌝ }
+    ensures { λ r. ⌜ r ≡ first + second * 256 ⌝ }
+{
+    first + wide(second) * 256
+}
+
 // The pairs whose first character is `first`.
 fn put_characters(table: &mut [u16; 4096], characters: &[u8; 64], at: usize, first: u16)
     requires { ⌜ (length (now table) ≡ 4096) × (at + 64 ≤ 4096) × (first < 256) ⌝ }
@@ -50,7 +65,7 @@ fn put_characters(table: &mut [u16; 4096], characters: &[u8; 64], at: usize, fir
 {
     let mut j = 0;
     while j < 64 {
-        table[at + j] = first + wide(characters[j]) * 256;
+        table[at + j] = pair(first, characters[j]);
         j += 1;
     }
 }

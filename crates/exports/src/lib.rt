@@ -33,7 +33,7 @@ ghost use Rattle.exports_values.specs.Lent.{textStepNumber, textStepValue, text
 ghost use Rattle.exports_values.specs.Lent.{binaryStepNumber, binaryStepValue, binaryYieldLeft, binaryStateLeft};
 ghost use Rattle.instalments.specs.Instalments.{walkOn};
 ghost use Rattle.instalments.specs.Numbers.{pauseNumber, pausePlace};
-ghost use Rattle.exports_instalments.specs.Answers.{stateBehind};
+ghost use Rattle.exports_lent.specs.Answers.{stateBehind};
 
 // answer: the length written, or the place in the text.
 #[no_mangle]
@@ -102,10 +102,10 @@ pub extern "C" fn cesr_read_text(
     let characters = read.tag;
     match found {
         TextFound::Found(p) => {
-            let numbers = exports_values::info_of(p);
+            let numbers = exports_codes::info_of(p);
             *tag = characters;
             *info = numbers;
-            *answer = exports_values::value_size(p);
+            *answer = exports_codes::value_size(p);
             0
         }
         TextFound::Refused(number, place) => {
@@ -136,10 +136,10 @@ pub extern "C" fn cesr_read_binary(
     let characters = read.tag;
     match found {
         BinaryFound::Found(p) => {
-            let numbers = exports_values::info_of(p);
+            let numbers = exports_codes::info_of(p);
             *tag = characters;
             *info = numbers;
-            *answer = exports_values::value_size(p);
+            *answer = exports_codes::value_size(p);
             0
         }
         BinaryFound::Refused(number, place) => {
@@ -164,10 +164,10 @@ pub extern "C" fn cesr_write_text(
     ensures { λ r. ⌜ now (answer .exit) ≡ textWrittenValue (writeText (codeFrom chars letter) (now (tag .entry)) tags (now (raw .entry)) (length (now (out .entry)))) ⌝ }
     ensures { λ r. ⌜ now (out .exit) ≡ textItemLeft (writeText (codeFrom chars letter) (now (tag .entry)) tags (now (raw .entry)) (length (now (out .entry)))) (codeFrom chars letter) (now (tag .entry)) tags (now (raw .entry)) (now (out .entry)) ⌝ }
 {
-    let code = exports_values::code_from(chars, letter);
+    let code = exports_codes::code_from(chars, letter);
     let characters = *tag;
     let outcome = writing::write_text(code, characters, tags, raw, out);
-    exports_answers::text_written(outcome, answer)
+    exports_written::text_written(outcome, answer)
 }
 
 // answer: the length written, or the place: for 5 and 19 the index among the tag characters, or in a text.
@@ -185,10 +185,10 @@ pub extern "C" fn cesr_write_binary(
     ensures { λ r. ⌜ now (answer .exit) ≡ binaryWrittenValue (writeBinary (codeFrom chars letter) (now (tag .entry)) tags (now (raw .entry)) (length (now (out .entry)))) ⌝ }
     ensures { λ r. ⌜ now (out .exit) ≡ binaryItemLeft (writeBinary (codeFrom chars letter) (now (tag .entry)) tags (now (raw .entry)) (length (now (out .entry)))) (codeFrom chars letter) (now (tag .entry)) tags (now (raw .entry)) (now (out .entry)) ⌝ }
 {
-    let code = exports_values::code_from(chars, letter);
+    let code = exports_codes::code_from(chars, letter);
     let characters = *tag;
     let outcome = writing::write_binary(code, characters, tags, raw, out);
-    exports_answers::binary_written(outcome, answer)
+    exports_written::binary_written(outcome, answer)
 }
 
 // ---- reading and writing an indexed item
@@ -207,7 +207,7 @@ pub extern "C" fn cesr_read_indexed_text(
     ensures { λ r. ⌜ now (out .exit) ≡ indexedLeft (readIndexedText (now (stream .entry)) at (length (now (out .entry)))) (now (stream .entry)) at (now (out .entry)) ⌝ }
     ensures { λ r. ⌜ now (info .exit) ≡ textInfo (readIndexedText (now (stream .entry)) at (length (now (out .entry)))) (now (info .entry)) ⌝ }
 {
-    exports_indexed::read_indexed_text(stream, at, out, info, answer)
+    exports_indexed_text::read_indexed_text(stream, at, out, info, answer)
 }
 
 // The raw value lies in the stream, where info says. answer: its length, or the place in the binary.
@@ -222,7 +222,7 @@ pub extern "C" fn cesr_read_indexed_binary(
     ensures { λ r. ⌜ now (answer .exit) ≡ binaryValue (readIndexedBinary (now (stream .entry)) at) ⌝ }
     ensures { λ r. ⌜ now (info .exit) ≡ binaryInfo (readIndexedBinary (now (stream .entry)) at) (now (info .entry)) ⌝ }
 {
-    exports_indexed::read_indexed_binary(stream, at, info, answer)
+    exports_indexed_binary::read_indexed_binary(stream, at, info, answer)
 }
 
 // answer: the length written, or 0, the place of every refusal.
@@ -240,7 +240,7 @@ pub extern "C" fn cesr_write_indexed_text(
     ensures { λ r. ⌜ now (answer .exit) ≡ textWrittenValue (writeIndexedText (indexCodeFrom selector letter) index ondex (now (raw .entry)) (length (now (out .entry)))) ⌝ }
     ensures { λ r. ⌜ now (out .exit) ≡ textIndexedLeft (writeIndexedText (indexCodeFrom selector letter) index ondex (now (raw .entry)) (length (now (out .entry)))) (indexCodeFrom selector letter) index ondex (now (raw .entry)) (now (out .entry)) ⌝ }
 {
-    exports_indexed::write_indexed_text(selector, letter, index, ondex, raw, out, answer)
+    exports_indexed_writing::write_indexed_text(selector, letter, index, ondex, raw, out, answer)
 }
 
 // answer: the length written, or 0, the place of every refusal.
@@ -258,7 +258,7 @@ pub extern "C" fn cesr_write_indexed_binary(
     ensures { λ r. ⌜ now (answer .exit) ≡ binaryWrittenValue (writeIndexedBinary (indexCodeFrom selector letter) index ondex (now (raw .entry)) (length (now (out .entry)))) ⌝ }
     ensures { λ r. ⌜ now (out .exit) ≡ binaryIndexedLeft (writeIndexedBinary (indexCodeFrom selector letter) index ondex (now (raw .entry)) (length (now (out .entry)))) (indexCodeFrom selector letter) index ondex (now (raw .entry)) (now (out .entry)) ⌝ }
 {
-    exports_indexed::write_indexed_binary(selector, letter, index, ondex, raw, out, answer)
+    exports_indexed_writing::write_indexed_binary(selector, letter, index, ondex, raw, out, answer)
 }
 
 // ---- the walk over a lent state
@@ -276,7 +276,7 @@ pub extern "C" fn cesr_walk_text(
     ensures { λ r. ⌜ now (item .exit) ≡ textYieldLeft (textStep (now (stream .entry)) (walkOf (now (state .entry))) .found) (now (item .entry)) ⌝ }
     ensures { λ r. ⌜ now (state .exit) ≡ textStateLeft (textStep (now (stream .entry)) (walkOf (now (state .entry))) .found) (textStep (now (stream .entry)) (walkOf (now (state .entry))) .next) (now (state .entry)) ⌝ }
 {
-    let p = exports_values::place_of(state);
+    let p = exports_place::place_of(state);
     let step = walk::move_in(state, p, Form::Text, stream);
     let next = step.place;
     let found = step.found;
@@ -288,8 +288,8 @@ pub extern "C" fn cesr_walk_text(
             kind,
             head,
         } => {
-            let row = exports_values::item_of(offset, size, depth, kind, head);
-            exports_values::put_place(state, next);
+            let row = exports_item::item_of(offset, size, depth, kind, head);
+            exports_place::put_place(state, next);
             *item = row;
             *answer = 0;
             0
@@ -318,7 +318,7 @@ pub extern "C" fn cesr_walk_binary(
     ensures { λ r. ⌜ now (item .exit) ≡ binaryYieldLeft (binaryStep (now (stream .entry)) (walkOf (now (state .entry))) .found) (now (item .entry)) ⌝ }
     ensures { λ r. ⌜ now (state .exit) ≡ binaryStateLeft (binaryStep (now (stream .entry)) (walkOf (now (state .entry))) .found) (binaryStep (now (stream .entry)) (walkOf (now (state .entry))) .next) (now (state .entry)) ⌝ }
 {
-    let p = exports_values::place_of(state);
+    let p = exports_place::place_of(state);
     let step = walk::move_in(state, p, Form::Binary, stream);
     let next = step.place;
     let found = step.found;
@@ -330,8 +330,8 @@ pub extern "C" fn cesr_walk_binary(
             kind,
             head,
         } => {
-            let row = exports_values::item_of(offset, size, depth, kind, head);
-            exports_values::put_place(state, next);
+            let row = exports_item::item_of(offset, size, depth, kind, head);
+            exports_place::put_place(state, next);
             *item = row;
             *answer = 0;
             0
@@ -362,7 +362,7 @@ pub extern "C" fn cesr_walk_on_text(
     ensures { λ r. ⌜ now (items .exit) ≡ walkOn text (now (stream .entry)) budget (walkOf (now (state .entry))) .items ⌝ }
     ensures { λ r. ⌜ now (state .exit) ≡ stateBehind (walkOn text (now (stream .entry)) budget (walkOf (now (state .entry)))) (now (state .entry)) ⌝ }
 {
-    exports_instalments::walk_on(Form::Text, stream, state, budget, items, answer)
+    exports_instalments::walk_on_text(stream, state, budget, items, answer)
 }
 
 // At most so many items of a binary from the state on; items: how many were taken; answer: the place of a refusal, else 0. With no item the state
@@ -380,7 +380,7 @@ pub extern "C" fn cesr_walk_on_binary(
     ensures { λ r. ⌜ now (items .exit) ≡ walkOn binary (now (stream .entry)) budget (walkOf (now (state .entry))) .items ⌝ }
     ensures { λ r. ⌜ now (state .exit) ≡ stateBehind (walkOn binary (now (stream .entry)) budget (walkOf (now (state .entry)))) (now (state .entry)) ⌝ }
 {
-    exports_instalments::walk_on(Form::Binary, stream, state, budget, items, answer)
+    exports_instalments::walk_on_binary(stream, state, budget, items, answer)
 }
 
 // ---- expected verdicts and a report
@@ -392,9 +392,7 @@ pub extern "C" fn cesr_compare(expected: &[u8], report: &[u8], answer: &mut [usi
     ensures { λ r. ⌜ now (answer .exit) ≡ countsOf (compared (now (expected .entry)) (now (report .entry))) ⌝ }
 {
     let found = comparison::compare(expected, report);
-    let counts = exports_values::counts_of(found);
-    *answer = counts;
-    found.number
+    exports_counts::compared(found, answer)
 }
 
 // passed: 1 where the report is of a stream whose every byte lies in an accepted item, else 0; for 20 it is 0.
@@ -404,6 +402,5 @@ pub extern "C" fn cesr_passed(report: &[u8], passed: &mut usize) -> u8
     ensures { λ r. ⌜ now (passed .exit) ≡ pick (passedIn (now (report .entry)) .passed) 1 0 ⌝ }
 {
     let outcome = passing::passed(report);
-    *passed = exports_values::mark_of(outcome.passed);
-    outcome.number
+    exports_counts::passed(outcome, passed)
 }

@@ -1,14 +1,11 @@
-// What a call answered, as C and Rust are told it: a number, 0 for accepted, and behind `answer` the length written or the place. Nothing is
-// decided here.
-use format::BinaryWritten;
+// What a conversion or a report answered, as C and Rust are told it: a number, 0 for accepted, and behind `answer` the length written or the
+// place. Nothing is decided here.
 use format::Reported;
-use format::TextWritten;
 use format::ToBinary;
 use format::ToText;
 ghost use mathlib.Core.Path.{_≡_};
 ghost use Rattle.format.specs.Conversion.{toBinaryNumber, toBinaryValue, toTextNumber, toTextValue};
 ghost use Rattle.format.specs.Report.{reportNumber, reportValue};
-ghost use Rattle.exports_values.specs.Answers.{textWrittenNumber, textWrittenValue, binaryWrittenNumber, binaryWrittenValue};
 
 // answer: the length of the binary, or the place in the text.
 pub fn to_binary(outcome: ToBinary, answer: &mut usize) -> u8
@@ -55,40 +52,6 @@ pub fn reported(outcome: Reported, answer: &mut usize) -> u8
             0
         }
         Reported::Refused(number, place) => {
-            *answer = place;
-            number
-        }
-    }
-}
-
-// answer: the length written, or the place.
-pub fn text_written(outcome: TextWritten, answer: &mut usize) -> u8
-    ensures { λ r. ⌜ r ≡ textWrittenNumber outcome ⌝ }
-    ensures { λ r. ⌜ now (answer .exit) ≡ textWrittenValue outcome ⌝ }
-{
-    match outcome {
-        TextWritten::Written(n) => {
-            *answer = n.0;
-            0
-        }
-        TextWritten::Refused(number, place) => {
-            *answer = place;
-            number
-        }
-    }
-}
-
-// answer: the length written, or the place.
-pub fn binary_written(outcome: BinaryWritten, answer: &mut usize) -> u8
-    ensures { λ r. ⌜ r ≡ binaryWrittenNumber outcome ⌝ }
-    ensures { λ r. ⌜ now (answer .exit) ≡ binaryWrittenValue outcome ⌝ }
-{
-    match outcome {
-        BinaryWritten::Written(bytes) => {
-            *answer = bytes.0;
-            0
-        }
-        BinaryWritten::Refused(number, place) => {
             *answer = place;
             number
         }

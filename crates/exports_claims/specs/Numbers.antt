@@ -37,9 +37,10 @@ use Rattle.format.specs.Reading.{readText, valueLeft, readBinary, charsLeft}
 use Rattle.format.specs.Writing.{writeText, textItemLeft, writeBinary, binaryItemLeft}
 use Rattle.format.specs.Indexed.{readIndexedText, indexedLeft, readIndexedBinary}
 use Rattle.format.specs.Indexed.{writeIndexedText, textIndexedLeft, writeIndexedBinary, binaryIndexedLeft}
-use Rattle.claims.specs.Claims.{Demand1, IndexedCalls}
+use Rattle.claims.specs.Claims.{Demand1}
+use Rattle.claims_indexed.specs.Claims.{IndexedCalls}
 use Rattle.claims.specs.Demand1.{demand1}
-use Rattle.claims.specs.IndexedCalls.{indexed-calls}
+use Rattle.claims_indexed.specs.IndexedCalls.{indexed-calls}
 use Rattle.walk_state.specs.declared.Walk.{Walk}
 use Rattle.walk_state.specs.declared.Found.{Found}
 use Rattle.walk_state.specs.declared.Found.the-variants as F

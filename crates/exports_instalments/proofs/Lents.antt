@@ -2,9 +2,13 @@
 use mathlib.Core.Path.{_≡_, refl, sym, ap, _∙_}
 use mathlib.Core.List.{List, _++_}
 use Prim.Native.Nat.{ℕ}
+use mathlib.Core.Logic.{⊎-elim}
 use native.Mathlib.Omega.{arith}
+use lib.Dec.{eqb}
 use lib.Seq.{take-take}
-use borrow.Author.Tests.{eq-eqb, ne-eqb}
+use borrow.Author.Tests.{eq-eqb, ne-eqb, eqb-true, eqb-false}
+use Rattle.base.specs.Pick.{pick}
+use Rattle.base.specs.Cases.{whether}
 use Rattle.format.specs.Units.{Domain}
 use Rattle.format.specs.Judging.{maxDepth}
 use Rattle.walk_state.specs.declared.Place.{Place}
@@ -14,7 +18,7 @@ use Rattle.instalments.specs.Instalments.{walkOn}
 use Rattle.instalments.specs.Numbers.{pauseNumber, pausePlace}
 use Rattle.instalments.specs.Lent.{Goes}
 use Rattle.exports_values.specs.Lent.{placeIn, placeNumbers, walkOf, stateOf}
-use Rattle.exports_instalments.specs.Answers.{stateBehind}
+use Rattle.exports_lent.specs.Answers.{stateBehind}
 
 -- what the call answers: number, place, items and state
 abbrev pub Gives : Domain → List ℕ → ℕ → List ℕ → ℕ → ℕ → ℕ → List ℕ → Type 0
@@ -28,13 +32,23 @@ module _ (d : Domain) (xs : List ℕ) (budget : ℕ) (before : List ℕ) {after 
   unfolding walkOf
   told s = (rw (← e) (en ∙ ap pauseNumber (g .pause)), (rw (← e) (ep ∙ ap pausePlace (g .pause)), (rw (← e) (g .items), s)))
 
-  pub no-item : r .items ≡ 0 → Gives d xs budget before number place (r .items) after
+  no-item : r .items ≡ 0 → Gives d xs budget before number place (r .items) after
   unfolding stateBehind walkOf
   no-item z = told (rw (← e, ← (g .items), eq-eqb _ _ z) (g .kept z))
 
-  pub some-items : ¬ (r .items ≡ 0) → {state : List ℕ} → state ≡ slotsIn after ++ placeNumbers (r .place .depth) (r .place .at) (r .place .first) (r .place .indexed)
+  some-items : ¬ (r .items ≡ 0) → {state : List ℕ} → state ≡ slotsIn after ++ placeNumbers (r .place .depth) (r .place .at) (r .place .first) (r .place .indexed)
       → Gives d xs budget before number place (r .items) state
   unfolding stateBehind walkOf stateOf
   some-items z s =
       told (rw (← e, ← (g .items), ne-eqb _ _ z, ← (g .moves .state))
       (s ∙ ap (λ (x : List ℕ). x ++ placeNumbers (r .place .depth) (r .place .at) (r .place .first) (r .place .indexed)) (sym (take-take maxDepth maxDepth after (omega arith)))))
+
+  -- by whether an item was taken
+  pub behind : {state : List ℕ}
+      → state ≡ pick (eqb (r .items) 0) after (slotsIn after ++ placeNumbers (r .place .depth) (r .place .at) (r .place .first) (r .place .indexed))
+      → Gives d xs budget before number place (r .items) state
+  behind s =
+      ⊎-elim
+      (λ h. let t = rw h at s in rw t (no-item (eqb-true _ _ h)))
+      (λ h. let t = rw h at s in some-items (eqb-false _ _ h) t)
+      (whether (eqb (r .items) 0))

@@ -27,6 +27,8 @@ signatures =
     example (45 ∷ 76 ∷ 65 ∷ 111 ∷ 51 ∷ 65 ∷ 95 ∷ 95 ∷ 95 ∷ 95 ∷ 95 ∷ 95 ∷ filler 152) accepted ∷  -- `-LAo3A______A..`
     example (45 ∷ 76 ∷ 65 ∷ 111 ∷ 51 ∷ 66 ∷ 95 ∷ 95 ∷ 95 ∷ filler 155) accepted ∷  -- `-LAo3B___A..`
     -- "Four zero pad bits stand before the raw bytes of `A` to `D` and `2A` to `2D`": the last value that leaves them zero, and the next
+    example (45 ∷ 75 ∷ 65 ∷ 87 ∷ 65 ∷ 66 ∷ 68 ∷ filler 85) accepted ∷  -- `-KAWABDA..`
+    example (45 ∷ 75 ∷ 65 ∷ 87 ∷ 65 ∷ 66 ∷ 69 ∷ filler 85) (refused 8 4) ∷  -- `-KAWABEA..`
     example (45 ∷ 75 ∷ 65 ∷ 87 ∷ 66 ∷ 66 ∷ 68 ∷ filler 85) accepted ∷  -- `-KAWBBDA..`
     example (45 ∷ 75 ∷ 65 ∷ 87 ∷ 66 ∷ 66 ∷ 69 ∷ filler 85) (refused 8 4) ∷  -- `-KAWBBEA..`
     example (45 ∷ 75 ∷ 65 ∷ 87 ∷ 67 ∷ 66 ∷ 68 ∷ filler 85) accepted ∷  -- `-KAWCBDA..`
@@ -47,6 +49,7 @@ signatures =
     example (45 ∷ 75 ∷ 65 ∷ 111 ∷ 51 ∷ 65 ∷ 65 ∷ 65 ∷ 65 ∷ 65 ∷ 65 ∷ 65 ∷ 95 ∷ filler 151) accepted ∷  -- `-KAo3AAAAAAA_A..`
     example (45 ∷ 75 ∷ 65 ∷ 111 ∷ 51 ∷ 66 ∷ 65 ∷ 65 ∷ 65 ∷ 65 ∷ 65 ∷ 65 ∷ 95 ∷ filler 151) accepted ∷  -- `-KAo3BAAAAAA_A..`
     -- "The four "current only" codes that carry ondex digits must have them zero, else a new number 15, judged after 8"
+    example (45 ∷ 75 ∷ 65 ∷ 88 ∷ 50 ∷ 66 ∷ 65 ∷ 65 ∷ 65 ∷ 66 ∷ filler 86) (refused 15 4) ∷  -- `-KAX2BAAABA..`
     example (45 ∷ 75 ∷ 65 ∷ 110 ∷ 48 ∷ 66 ∷ 65 ∷ 66 ∷ filler 152) (refused 15 4) ∷  -- `-KAn0BABA..`
     example (45 ∷ 75 ∷ 65 ∷ 88 ∷ 50 ∷ 66 ∷ 65 ∷ 65 ∷ 66 ∷ filler 87) (refused 15 4) ∷  -- `-KAX2BAABA..`: each of its digits counts
     example (45 ∷ 75 ∷ 65 ∷ 88 ∷ 50 ∷ 68 ∷ 65 ∷ 65 ∷ 65 ∷ 66 ∷ filler 86) (refused 15 4) ∷  -- `-KAX2DAAABA..`
@@ -87,6 +90,8 @@ signatures =
     example (45 ∷ 65 ∷ 65 ∷ 88 ∷ 45 ∷ 75 ∷ 65 ∷ 87 ∷ 65 ∷ 66 ∷ filler 86) accepted ∷  -- `-AAX-KAWABA..`
     example (45 ∷ 65 ∷ 65 ∷ 88 ∷ 45 ∷ 75 ∷ 65 ∷ 87 ∷ 65 ∷ 66 ∷ 69 ∷ filler 85) (refused 8 8) ∷  -- `-AAX-KAWABEA..`
     example (45 ∷ 65 ∷ 65 ∷ 68 ∷ 45 ∷ 75 ∷ 65 ∷ 65 ∷ 45 ∷ 95 ∷ 65 ∷ 65 ∷ 65 ∷ 66 ∷ 65 ∷ 65 ∷ []) accepted ∷  -- `-AAD-KAA-_AAABAA`: an indexed group is a first item and sets no mark
+    example (45 ∷ 75 ∷ 65 ∷ 76 ∷ 68 ∷ filler 43) (refused 4 4) ∷  -- `-KALDA..`
+    example (45 ∷ 65 ∷ 65 ∷ 89 ∷ 45 ∷ 75 ∷ 65 ∷ 87 ∷ 65 ∷ 66 ∷ (filler 86 ++ (77 ∷ 65 ∷ 65 ∷ 66 ∷ []))) accepted ∷  -- `-AAY-KAWABA..MAAB`: behind it the master table again
     example (45 ∷ 88 ∷ 65 ∷ 76 ∷ 68 ∷ filler 43) accepted ∷  -- `-XALDA..`: `-X` is no indexed group
     -- 001's three indexed signatures, of which the second alone has zero pad bits
     example (45 ∷ 75 ∷ 65 ∷ 87 ∷ 65 ∷ 65 ∷ 53 ∷ 50 ∷ 54 ∷ 55 ∷ 85 ∷ 108 ∷ 70 ∷ 103 ∷ 49 ∷ 106 ∷ 72 ∷ 101 ∷ 101 ∷ 52 ∷ 68 ∷ 97 ∷ 117 ∷ 104 ∷ 116 ∷ 55 ∷ 55 ∷ 83 ∷ 122 ∷ 71 ∷ 108 ∷ 56 ∷ 87 ∷ 85 ∷ 67 ∷ 95 ∷ 48 ∷ 111 ∷ 105 ∷ 109 ∷ 89 ∷ 71 ∷ 53 ∷ 73 ∷ 102 ∷ 51 ∷ 83 ∷ 100 ∷ 73 ∷ 79 ∷ 83 ∷ 122 ∷ 87 ∷ 77 ∷ 56 ∷ 81 ∷ 115 ∷ 57 ∷ 83 ∷ 70 ∷ 97 ∷ 106 ∷ 65 ∷ 105 ∷ 108 ∷ 81 ∷ 99 ∷ 111 ∷ 122 ∷ 88 ∷ 74 ∷ 86 ∷ 110 ∷ 98 ∷ 107 ∷ 89 ∷ 53 ∷ 115 ∷ 116 ∷ 71 ∷ 95 ∷ 75 ∷ 52 ∷ 78 ∷ 98 ∷ 75 ∷ 100 ∷ 78 ∷ 66 ∷ 52 ∷ 65 ∷ 81 ∷ []) (refused 8 4) ∷  -- `-KAWAA5267UlFg1jHee4Dauht77SzGl8WUC_0oimYG5If3SdIOSzWM8Qs9SFajAilQcozXJVnbkY5stG_K4NbKdNB4AQ`
@@ -124,12 +129,12 @@ signatures-hold = (
       refl & refl & refl & refl & refl & refl & refl & refl & refl & refl & refl & refl & refl & refl & refl & refl &
       refl & refl & refl & refl & refl & refl & refl & refl & refl & refl & refl & refl & refl & refl & refl & refl &
       refl & refl & refl & refl & refl & refl & refl & refl & refl & refl & refl & refl & refl & refl & refl & refl &
-      refl & refl & refl & refl & refl & end,
+      refl & refl & refl & refl & refl & refl & refl & refl & refl & refl & end,
   refl & refl & refl & refl & refl & refl & refl & refl & refl & refl & refl & refl & refl & refl & refl & refl &
       refl & refl & refl & refl & refl & refl & refl & refl & refl & refl & refl & refl & refl & refl & refl & refl &
       refl & refl & refl & refl & refl & refl & refl & refl & refl & refl & refl & refl & refl & refl & refl & refl &
       refl & refl & refl & refl & refl & refl & refl & refl & refl & refl & refl & refl & refl & refl & refl & refl &
-      refl & refl & refl & refl & refl & end,
+      refl & refl & refl & refl & refl & refl & refl & refl & refl & refl & end,
 )
 
 -- in text: some of its characters are outside the alphabet

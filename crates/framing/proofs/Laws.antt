@@ -2,9 +2,8 @@
 use mathlib.Core.Path.{_≡_, sym, _∙_, subst}
 use mathlib.Core.List.{List}
 use mathlib.Core.Bool.{Bool, true, false}
-use Prim.Native.Nat.{ℕ, _+_, _*_, _/_}
+use Prim.Native.Nat.{ℕ, _/_}
 use native.Mathlib.Omega.{arith}
-use lib.Dec.{eqb}
 use lib.ListN.{length, getD}
 use Rattle.format.specs.declared.CodeRow.{CodeRow}
 use Rattle.format.specs.declared.IndexRow.{IndexRow}
@@ -14,7 +13,7 @@ use Rattle.format.specs.declared.Framed.{Framed}
 use Rattle.format.specs.declared.Framed.the-variants.{Item, Unframed}
 use Rattle.format.specs.Units.{textSextets, binarySextets}
 use Rattle.format.specs.Registry.{openingBy}
-use Rattle.format.specs.Framing.{frameWith, ruled, isOurs, digits4, sextet, frameBy, frameNext}
+use Rattle.format.specs.Framing.{frameWith, ruled, isOurs, sextet, frameBy, frameNext}
 use Rattle.laws.specs.Framing.{Lawful, Good, opens-by, by-with, by-good, nextWith, next-with}
 use Rattle.laws.specs.Domains.{text-reader, binary-reader}
 use Rattle.laws.specs.Local.{frame-there, ruled-there}
@@ -72,14 +71,6 @@ pub lawful : (t : Bool) (s : List ℕ) (f : Framed) (k : Kind) (h n : ℕ) → f
 lawful t s f k h n e p = subst (Good (frameWith (openingBy t)) (sextet s) (length s / 4)) (sym e ∙ p) (by-good t s)
 
 -- ---- 7
-
--- the six digits, as the code puts them together
-pub six-digits : (at : ℕ → ℕ) (high low : ℕ) → high ≡ ((0 * 64 + 0) * 64 + at 2) * 64 + at 3 → low ≡ digits4 at
-    → eqb (high * 16777216 + low) 8192 ≡ isOurs at
-unfolding isOurs
-six-digits at high low p q =
-    let e : high * 16777216 + low ≡ (at 2 * 64 + at 3) * 16777216 + digits4 at = omega arith in
-    rw e
 
 pub unframed-ruled : (at : ℕ → ℕ) (m p : ℕ) (f : Framed) → f ≡ Unframed m p → f ≡ ruled at f
 unfolding ruled

@@ -13,6 +13,7 @@ use Rattle.laws.specs.Local.{text-sextet, binary-sextet}
 use mathlib.Core.Logic.{⊎-elim}
 use lib.Seq.{getD-take, getD-drop, length-take-le, ext-getD}
 use Rattle.base.specs.Cases.{lt-or-ge}
+use Rattle.framing_within.proofs.Laws.{part-in, part-out}
 use Rattle.framing_head.specs.Heads.{unitOf, headOf}
 
 -- ---- arrays
@@ -79,12 +80,6 @@ pub unit-past : (s : List ℕ) (k : ℕ) → length s < 3 * k + 3 → 0 ∷ 0 �
 unit-past s k h = four (past s (4 * k) (omega arith)) (past s (4 * k + 1) (omega arith)) (past s (4 * k + 2) (omega arith)) (past s (4 * k + 3) (omega arith))
 
 -- ---- an item's first sextets
-
-pub part-in : (s : List ℕ) (n i : ℕ) → i / 4 < n → getD s i 0 ≡ getD (take (4 * n) s) i 0
-part-in s n i h = sym (getD-take (4 * n) s i 0 (omega arith))
-
-pub part-out : (s : List ℕ) (n i : ℕ) → n ≤ i / 4 → 0 ≡ getD (take (4 * n) s) i 0
-part-out s n i h = sym (List·getD-eq-default (take (4 * n) s) 0 {n = i} (omega (arith, length-take (4 * n) s)))
 
 -- cutting before or after the first sextets are taken
 pub within-head : (s : List ℕ) (n : ℕ) → headOf (take (4 * n) (headOf s)) ≡ headOf (take (4 * n) s)

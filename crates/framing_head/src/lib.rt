@@ -90,22 +90,15 @@ pub fn binary_head(s: &[u8]) -> [u8; 12]
 
 // ---- of an item
 
-fn within_sextet(cs: [u8; 12], n: usize, i: usize) -> u8
-    requires { ⌜ i < 12 ⌝ }
-    ensures { λ r. ⌜ r ≡ getD (take (4 * n) cs) i 0 ⌝ }
-{
-    if i / 4 < n { cs[i] } else { 0 }
-}
-
 fn within_unit(cs: [u8; 12], n: usize, at: usize) -> [u8; 4]
     requires { ⌜ at ≤ 8 ⌝ }
     ensures { λ r. ⌜ r ≡ unitOf (take (4 * n) cs) at ⌝ }
 {
     [
-        within_sextet(cs, n, at),
-        within_sextet(cs, n, at + 1),
-        within_sextet(cs, n, at + 2),
-        within_sextet(cs, n, at + 3),
+        framing_within::within_sextet(cs, n, at),
+        framing_within::within_sextet(cs, n, at + 1),
+        framing_within::within_sextet(cs, n, at + 2),
+        framing_within::within_sextet(cs, n, at + 3),
     ]
 }
 

@@ -1,18 +1,15 @@
 // Reading a single indexed item at an offset of a binary: 1, 4 at or past the end, framing by the indexed table, judging. The raw value is
-// told by its place, and the part where it lies is handed back.
+// told by its place.
 use format::BinaryIndexed;
 use format::BinaryOffset;
 use format::Framed;
 use format::Kind;
 ghost use mathlib.Core.Path.{_≡_};
-ghost use Prim.Native.Nat.{_+_, _≤_};
-ghost use lib.ListN.{length};
 ghost use Rattle.format.specs.declared.Framed.the-variants.{Item};
 ghost use Rattle.format.specs.Units.{binarySextets};
 ghost use Rattle.format.specs.Reading.Reading.{found};
-ghost use Rattle.format.specs.Indexed.{readingIndexed, binaryIndexedAnswer, readIndexedBinary, indexedPart};
+ghost use Rattle.format.specs.Indexed.{readingIndexed, binaryIndexedAnswer, readIndexedBinary};
 ghost use Rattle.reading_part.specs.Outcome.{outcome};
-ghost use Rattle.indexed_binary.specs.Part.{partStart};
 
 // The item that a part begins with.
 fn binary_found(part: &[u8], kind: Kind, head: usize, size: usize) -> BinaryIndexed
@@ -41,23 +38,5 @@ pub fn read_indexed_binary(s: &[u8], at: BinaryOffset) -> BinaryIndexed
             BinaryIndexed::Refused(number, BinaryOffset(from + (place / 4 * 3 + place % 4)))
         }
         Framed::Item { kind, head, size } => binary_found(part, kind, head, size),
-    }
-}
-
-// The part of the binary where the raw value of the indexed item at an offset lies: at the item's end. An empty part, at the stream's
-// start, where reading refuses.
-pub fn raw_indexed_binary(s: &[u8], at: BinaryOffset) -> &[u8]
-    ensures { λ r. ⌜ now r ≡ indexedPart (now (s .entry)) (at .0) (readIndexedBinary (now (s .entry)) (at .0)) ⌝ }
-    ensures { λ r. ⌜ r .ptr ≡ (s .entry .ptr .0, partStart (at .0) (readIndexedBinary (now (s .entry)) (at .0)) + s .entry .ptr .1) ⌝ }
-{
-    let from = at.0;
-    let read = read_indexed_binary(s, at);
-    match read {
-        BinaryIndexed::Refused(_, _) => &s[..0],
-        BinaryIndexed::Found(p) => {
-            let start = from + p.start.0;
-            let end = start + p.raw;
-            &s[start..end]
-        }
     }
 }

@@ -26,7 +26,7 @@ use Rattle.laws.specs.Units.{bytes-size}
 use Rattle.writing_raw.specs.Item.{Sized, rawItem, roomFor}
 use Rattle.indexed_code.specs.declared.Planned.{Planned}
 use Rattle.indexed_code.specs.declared.Planned.the-variants as P
-use Rattle.indexed_code.specs.Names.{planOf}
+use Rattle.indexed_code.specs.Plan.{planOf}
 use Rattle.indexed_head.specs.Heads.{firstUnit, secondUnit, headBytes}
 
 infixr 5 _&_

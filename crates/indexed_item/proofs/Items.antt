@@ -1,12 +1,11 @@
 -- What a read item is, in a caller's words, by its first sextets; and where it lies. Assumes nothing.
-use mathlib.Core.Path.{_≡_, refl, ap, sym, _∙_}
-use mathlib.Core.List.{List, [], _∷_, _++_}
+use mathlib.Core.Path.{_≡_, sym, _∙_}
+use mathlib.Core.List.{List}
 use mathlib.Core.Logic.{⊎-elim}
-use Prim.Native.Nat.{ℕ, _+_, _-_, _*_, _/_, _<_, _≤_, min}
+use Prim.Native.Nat.{ℕ, _+_, _*_, _≤_}
 use native.Mathlib.Omega.{arith}
-use lib.ListN.{length, getD, take, drop, take-append-drop}
-use Rattle.base.specs.Digits.{Below, numberOf}
-use Rattle.base.specs.Each.{take3}
+use lib.ListN.{length, take}
+use Rattle.base.specs.Digits.{Below}
 use Rattle.format.specs.declared.IndexRow.{IndexRow}
 use Rattle.format.specs.declared.Kind.{Kind}
 use Rattle.format.specs.declared.Kind.the-variants.{Fixed, Variable, Group, Genus, Indexed}
@@ -22,24 +21,8 @@ use Rattle.roundtrip_indexed.specs.Own.{Own}
 use Rattle.roundtrip_indexed.specs.Reads.{Read, read-own}
 use Rattle.reading_part.specs.Outcome.{outcome}
 use Rattle.reading_part.proofs.Answers.{is-found}
-use Rattle.indexed_code.proofs.Names.{few}
-use Rattle.indexed_item.specs.Items.{Placed, PlacedIn}
-
--- ---- digits
-
-three : (s : List ℕ) (i : ℕ) → i + 3 ≤ length s → drop i s ≡ getD s i 0 ∷ getD s (i + 1) 0 ∷ getD s (i + 2) 0 ∷ drop 3 (drop i s)
-three s i h = sym (take-append-drop 3 (drop i s)) ∙ ap (λ (t : List ℕ). t ++ drop 3 (drop i s)) (take3 s i h)
-
--- no digit, one, two and three
-module _ (s : List ℕ) (i : ℕ) (h : i + 3 ≤ length s) where
-  pub one-digit : getD s i 0 ≡ numberOf 64 (take 1 (drop i s))
-  one-digit = rw (three s i h) (omega arith)
-
-  pub two-digits : getD s i 0 * 64 + getD s (i + 1) 0 ≡ numberOf 64 (take 2 (drop i s))
-  two-digits = rw (three s i h) (omega arith)
-
-  pub three-digits : (getD s i 0 * 64 + getD s (i + 1) 0) * 64 + getD s (i + 2) 0 ≡ numberOf 64 (take 3 (drop i s))
-  three-digits = rw (three s i h) (omega arith)
+use Rattle.indexed_name.proofs.Names.{few}
+use Rattle.indexed_item.specs.Items.{PlacedIn}
 
 -- ---- what is read
 

@@ -1,14 +1,7 @@
--- Rows whose digits lie in the first sextets. Assumes nothing.
-use Prim.Native.Nat.{_+_, _≤_}
-use Rattle.format.specs.declared.IndexRow.{IndexRow}
+-- Kinds whose digits lie in the first sextets. Assumes nothing.
 use Rattle.format.specs.declared.Kind.{Kind}
 use Rattle.format.specs.declared.Kind.the-variants.{Fixed, Variable, Group, Genus, Indexed}
-
--- three digits at most, which start in the first nine
-pub record Placed (c : IndexRow) : Type 0 where
-  pub from : c .chars + c .index ≤ 9
-  pub index : c .index ≤ 3
-  pub ondex : c .ondex ≤ 3
+use Rattle.indexed_digits.specs.Placed.{Placed}
 
 -- an indexed kind of such a row
 abbrev pub PlacedIn : Kind → Type 0

@@ -6,44 +6,16 @@ use format::IndexRow;
 use format::IndexedItem;
 use format::Kind;
 ghost use mathlib.Core.Path.{_≡_};
-ghost use Prim.Native.Nat.{_-_, _*_, _<_, _≤_};
-ghost use lib.ListN.{take, drop};
-ghost use Rattle.base.specs.Digits.{numberOf};
+ghost use Prim.Native.Nat.{_-_, _*_, _≤_};
 ghost use Rattle.format.specs.declared.Kind.the-variants as Kind;
-ghost use Rattle.format.specs.Values.{indexOf, ondexOf};
 ghost use Rattle.format.specs.Indexed.{codeOfRow, indexedOf};
-ghost use Rattle.indexed_item.specs.Items.{Placed, PlacedIn};
-
-fn wide(x: u8) -> usize
-    ensures { λ r. ⌜ (r ≡ x) × (r < 256) ⌝ }
-{
-    x as usize
-}
+ghost use Rattle.indexed_digits.specs.Placed.{Placed};
+ghost use Rattle.indexed_item.specs.Items.{PlacedIn};
 
 fn at_most(x: usize, most: usize) -> usize
     ensures { λ r. ⌜ (x ≤ most → r ≡ x) × (r ≤ most) ⌝ }
 {
     if x < most { x } else { most }
-}
-
-// The number of so many digits from a place of the first sextets on, most significant first. Of more than three nothing is said.
-fn number(cs: [u8; 12], from: usize, count: u8) -> usize
-    requires { ⌜ from ≤ 9 ⌝ }
-    ensures { λ r. ⌜ (count ≤ 3 → r ≡ numberOf 64 (take count (drop from cs))) ⌝ }
-{
-    let a = wide(cs[from]);
-    let b = wide(cs[from + 1]);
-    let d = wide(cs[from + 2]);
-    if count == 0 {
-        return 0;
-    }
-    if count == 1 {
-        return a;
-    }
-    if count == 2 {
-        return a * 64 + b;
-    }
-    (a * 64 + b) * 64 + d
 }
 
 fn code_of(c: IndexRow) -> IndexCode
@@ -60,22 +32,6 @@ fn code_of(c: IndexRow) -> IndexCode
     IndexCode { selector, letter }
 }
 
-// Behind the code.
-fn index_of(c: IndexRow, cs: [u8; 12]) -> usize
-    ensures { λ r. ⌜ (Placed c → r ≡ indexOf c cs) ⌝ }
-{
-    let from = at_most(wide(c.chars), 9);
-    number(cs, from, c.index)
-}
-
-// Behind the index.
-fn ondex_of(c: IndexRow, cs: [u8; 12]) -> usize
-    ensures { λ r. ⌜ (Placed c → r ≡ ondexOf c cs) ⌝ }
-{
-    let from = at_most(wide(c.chars) + wide(c.index), 9);
-    number(cs, from, c.ondex)
-}
-
 // The raw bytes of n units from one of them on.
 fn raw_size(n: usize, start: usize) -> usize
     ensures { λ r. ⌜ (n ≤ 1048576 → r ≡ 3 * n - start) ⌝ }
@@ -89,10 +45,10 @@ fn row_item(c: IndexRow, n: usize, cs: [u8; 12]) -> IndexedItem
     ensures { λ r. ⌜ (Placed c → n ≤ 1048576 → r ≡ indexedOf (Kind.Indexed c) 1 n cs) ⌝ }
 {
     let code = code_of(c);
-    let start = reading_item::indexed_start(c);
+    let start = reading_start::indexed_start(c);
     let raw = raw_size(n, start.0);
-    let index = index_of(c, cs);
-    let ondex = ondex_of(c, cs);
+    let index = indexed_digits::index_of(c, cs);
+    let ondex = indexed_digits::ondex_of(c, cs);
     IndexedItem {
         code,
         size: n,

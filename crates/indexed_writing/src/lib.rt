@@ -19,7 +19,7 @@ fn binary_row(c: IndexRow, index: usize, ondex: usize, raw: &[u8], out: &mut [u8
     ensures { λ r. ⌜ (Sized (length (now (raw .entry))) (c .size / 4) → r ≡ binaryOutcome (roomFor 3 (c .size / 4) (length (now (out .entry))))) ⌝ }
     ensures { λ _. ⌜ (Sized (length (now (raw .entry))) (c .size / 4) → now (out .exit) ≡ binaryIn (roomFor 3 (c .size / 4) (length (now (out .entry)))) (rawItem (c .size / 4) (headBytes c index ondex) (now (raw .entry))) (now (out .entry))) ⌝ }
 {
-    let units = indexed_code::units_of(c);
+    let units = indexed_fit::units_of(c);
     let head = indexed_head::head_bytes(c, index, ondex);
     writing_raw::binary_item(units, head, raw, out)
 }
@@ -28,7 +28,7 @@ fn text_row(c: IndexRow, index: usize, ondex: usize, raw: &[u8], out: &mut [u8])
     ensures { λ r. ⌜ (Sized (length (now (raw .entry))) (c .size / 4) → r ≡ textOutcome (roomFor 4 (c .size / 4) (length (now (out .entry))))) ⌝ }
     ensures { λ _. ⌜ (Sized (length (now (raw .entry))) (c .size / 4) → now (out .exit) ≡ textIn (roomFor 4 (c .size / 4) (length (now (out .entry)))) (rawItem (c .size / 4) (headBytes c index ondex) (now (raw .entry))) (now (out .entry))) ⌝ }
 {
-    let units = indexed_code::units_of(c);
+    let units = indexed_fit::units_of(c);
     let head = indexed_head::head_bytes(c, index, ondex);
     writing_raw::text_item(units, head, raw, out)
 }

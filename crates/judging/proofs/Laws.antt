@@ -1,76 +1,40 @@
--- The code's checks are format's: the search for a stranger is the scan, and the first sextets are all that 8, 9, 10, 15 and 16 look at.
--- Assumes nothing.
+-- The code's checks are format's: the first sextets are all that 8, 9, 10, 15 and 16 look at. Assumes nothing.
 use mathlib.Core.Path.{_≡_, refl, ap, _∙_}
-use mathlib.Core.List.{List, [], _∷_}
-use mathlib.Core.Logic.{⊎-elim}
+use mathlib.Core.List.{List}
 use Prim.Native.Nat.{ℕ, zero, suc, _+_, _-_, _*_, _/_, _<_, _≤_}
 use native.Mathlib.Omega.{arith}
-use lib.ListN.{length, getD, take, drop, length-drop, length-map, drop-of-length-le}
-use lib.Seq.{getD-drop, take-all, length-take-le}
-use borrow.Author.Tests.{lt-ltb, le-ltb}
-use Rattle.base.specs.Cases.{lt-or-ge}
-use Rattle.base.specs.Lists.{map-take, map-drop}
+use lib.ListN.{length, take, drop, length-drop, length-map}
+use lib.Seq.{take-all, length-take-le}
+use Rattle.base.specs.Lists.{map-take}
 use Rattle.base.specs.Digits.{numberOf, below-drop}
 use Rattle.format.specs.declared.IndexRow.{IndexRow}
 use Rattle.format.specs.declared.Kind.{Kind}
 use Rattle.format.specs.declared.Kind.the-variants.{Fixed, Variable, Group, Genus, Indexed}
 use Rattle.format.specs.declared.Verdict.{Verdict}
-use Rattle.format.specs.declared.Verdict.the-variants.{Accepted, Refused}
-use Rattle.format.specs.Alphabet.{sextetOf, strangerNumber}
+use Rattle.format.specs.declared.Verdict.the-variants.{Accepted}
+use Rattle.format.specs.Alphabet.{sextetOf}
 use Rattle.format.specs.Units.{textSextets, binarySextets}
-use Rattle.format.specs.Conversion.{firstStranger, firstNumber}
 use Rattle.format.specs.Registry.{zeroBitsOf, prepadOf, indexChars, indexHead}
 use Rattle.format.specs.Values.{ondexOf}
-use Rattle.format.specs.Judging.{shift, andThen, unless, isShortest, scan, behind, zeroBits, prepadRight, judgeKind, ownCheck}
+use Rattle.format.specs.Judging.{shift, andThen, unless, isShortest, behind, zeroBits, prepadRight, judgeKind, ownCheck}
 use Rattle.laws.specs.Framing.{Shaped}
 use Rattle.laws.specs.Domains.{binary-reader}
 use Rattle.laws.specs.Scan.{scan-below}
 use Rattle.laws.specs.Conversion.{binary-below}
 use Rattle.framing_head.specs.Heads.{headOf}
 use Rattle.framing_head.proofs.Laws.{head-at, part-head, within-head}
-use Rattle.judging_header.specs.Checks.{fixedChecks, variableChecks, indexedChecks, groupChecks}
+use Rattle.judging_header.specs.Checks.{groupChecks}
+use Rattle.judging_fixed.specs.Checks.{fixedChecks}
+use Rattle.judging_variable.specs.Checks.{variableChecks}
+use Rattle.judging_indexed.specs.Checks.{indexedChecks}
 use Rattle.judging.specs.Own.{ownBy}
 use Rattle.judging.proofs.Texts.{nine-first, value-tells}
-
--- ---- 5 or 19
-
-pub scan-bad : (s : List ℕ) → firstStranger s < length s → scan (textSextets s) ≡ Refused (firstNumber s) (firstStranger s)
-unfolding scan firstStranger firstNumber textSextets shift
-scan-bad [] h = absurd (omega arith)
-scan-bad (c ∷ s) h =
-    let z : 1 + firstStranger s ≡ suc (firstStranger s) = omega arith in
-    ⊎-elim (λ l. rw (lt-ltb (sextetOf c) 64 l) (rw (scan-bad s (omega (arith, rw (lt-ltb (sextetOf c) 64 l) at h)), z) refl))
-    (λ g. rw (le-ltb (sextetOf c) 64 g)) (lt-or-ge (sextetOf c) 64)
-
-pub scan-clean : (s : List ℕ) → length s ≤ firstStranger s → scan (textSextets s) ≡ Accepted
-unfolding scan firstStranger textSextets shift
-scan-clean [] h = refl
-scan-clean (c ∷ s) h =
-    ⊎-elim (λ l. rw (lt-ltb (sextetOf c) 64 l, scan-clean s (omega (arith, rw (lt-ltb (sextetOf c) 64 l) at h))))
-    (λ g. absurd (omega (arith, rw (le-ltb (sextetOf c) 64 g) at h))) (lt-or-ge (sextetOf c) 64)
-
-behind-part : (item : List ℕ) (h : ℕ) → behind h (textSextets item) ≡ shift (4 * h) (scan (textSextets (drop (4 * h) item)))
-unfolding behind textSextets
-behind-part item h = rw (map-drop sextetOf (4 * h) item)
 
 -- a part that is lent to the end
 pub to-end : (s : List ℕ) (from : ℕ) → take (length s - from) (drop from s) ≡ drop from s
 to-end s from = take-all (length s - from) (drop from s) (omega (arith, length-drop from s))
 
-module _ (item : List ℕ) (h i : ℕ) (e : i ≡ firstStranger (drop (4 * h) item)) where
-  pub behind-bad : i < length item - 4 * h
-      → Refused (strangerNumber (sextetOf (getD item (4 * h + i) 0))) (4 * h + i) ≡ behind h (textSextets item)
-  unfolding shift firstNumber
-  behind-bad l =
-      rw (behind-part item h, scan-bad (drop (4 * h) item) (rw (← e, length-drop (4 * h) item) l), ← e, getD-drop (4 * h) item i 0)
-
-  pub behind-clean : length item - 4 * h ≤ i → Accepted ≡ behind h (textSextets item)
-  unfolding shift
-  behind-clean l = rw (behind-part item h, scan-clean (drop (4 * h) item) (rw (← e, length-drop (4 * h) item) l))
-
-pub behind-past : (item : List ℕ) (h : ℕ) → length item / 4 < h → Accepted ≡ behind h (textSextets item)
-unfolding shift scan textSextets
-behind-past item h l = rw (behind-part item h, drop-of-length-le item {i = 4 * h} (omega arith))
+-- ---- 5 or 19
 
 pub behind-binary : (b : List ℕ) (h : ℕ) → behind h (binarySextets b) ≡ Accepted
 unfolding behind shift

@@ -15,7 +15,7 @@ use Rattle.format.specs.Texts.{fills, fillOf, textRight, valueRight}
 use Rattle.format.specs.Judging.{andThen, unless, hasLead}
 use Rattle.framing_head.specs.Heads.{headOf}
 use Rattle.framing_head.proofs.Laws.{head-at}
-use Rattle.judging_header.specs.Checks.{filledRight, textFilled}
+use Rattle.judging_fill.specs.Fill.{filledRight, textFilled}
 
 -- a character other than `A`
 other : (n : ℕ) → eqb (suc n) 0 ≡ false

@@ -9,7 +9,10 @@ use Rattle.format.specs.declared.Framed.the-variants.{Unframed}
 use Rattle.format.specs.declared.Verdict.{Verdict}
 use Rattle.format.specs.declared.Verdict.the-variants.{Accepted, Refused}
 use Rattle.format.specs.Judging.{andThen}
-use Rattle.judging_header.specs.Checks.{fixedChecks, variableChecks, indexedChecks, groupChecks}
+use Rattle.judging_header.specs.Checks.{groupChecks}
+use Rattle.judging_fixed.specs.Checks.{fixedChecks}
+use Rattle.judging_variable.specs.Checks.{variableChecks}
+use Rattle.judging_indexed.specs.Checks.{indexedChecks}
 
 -- an item of n units, h of them its header
 unfoldable pub ownBy : Kind → ℕ → ℕ → List ℕ → Verdict → ℕ → Verdict

@@ -10,24 +10,7 @@ ghost use Rattle.format.specs.Judging.{andThen, behind};
 ghost use Rattle.judging.specs.Own.{ownBy, toldBy};
 
 // How many groups may be open, one in the other: 64 by 02 g.
-pub const MAX_DEPTH: usize = 64;
-
-// ---- 5 or 19 behind the header, in text
-
-fn behind_text(item: &[u8], h: usize) -> Verdict
-    ensures { λ r. ⌜ r ≡ behind h (textSextets (now (item .entry))) ⌝ }
-{
-    if h <= item.len() / 4 {
-        let from = 4 * h;
-        let bad = alphabet::first_stranger(&item[from..]);
-        if bad < item.len() - from {
-            let place = from + bad;
-            let number = alphabet::number_at(item, place);
-            return Verdict::Refused { number, place };
-        }
-    }
-    Verdict::Accepted
-}
+pub const MAX_DEPTH: usize = nesting::MAX_DEPTH;
 
 fn after(b: Verdict, v: Verdict) -> Verdict
     ensures { λ r. ⌜ r ≡ andThen b v ⌝ }
@@ -48,16 +31,16 @@ pub fn own_text(kind: Kind, h: usize, n: usize, cs: [u8; 12], item: &[u8], level
 {
     match kind {
         Kind::Fixed(c) => {
-            let b = behind_text(item, h);
-            after(b, judging_header::fixed_checks(c, cs))
+            let b = judging_behind::behind_text(item, h);
+            after(b, judging_fixed::fixed_checks(c, cs))
         }
         Kind::Variable {
             letter,
             lead,
             count,
         } => {
-            let b = behind_text(item, h);
-            let v = judging_header::variable_checks(letter, lead, count, h, cs);
+            let b = judging_behind::behind_text(item, h);
+            let v = judging_variable::variable_checks(letter, lead, count, h, cs);
             after(b, v)
         }
         Kind::Group { letter: _ } => {
@@ -66,8 +49,8 @@ pub fn own_text(kind: Kind, h: usize, n: usize, cs: [u8; 12], item: &[u8], level
         }
         Kind::Genus => Verdict::Accepted,
         Kind::Indexed(c) => {
-            let b = behind_text(item, h);
-            after(b, judging_header::indexed_checks(c, cs))
+            let b = judging_behind::behind_text(item, h);
+            after(b, judging_indexed::indexed_checks(c, cs))
         }
     }
 }
@@ -77,18 +60,18 @@ pub fn own_binary(kind: Kind, h: usize, n: usize, cs: [u8; 12], levels: usize) -
     ensures { λ r. ⌜ r ≡ ownBy kind h n cs Verdict.Accepted levels ⌝ }
 {
     match kind {
-        Kind::Fixed(c) => judging_header::fixed_checks(c, cs),
+        Kind::Fixed(c) => judging_fixed::fixed_checks(c, cs),
         Kind::Variable {
             letter,
             lead,
             count,
-        } => judging_header::variable_checks(letter, lead, count, h, cs),
+        } => judging_variable::variable_checks(letter, lead, count, h, cs),
         Kind::Group { letter: _ } => {
             let units = judging_header::units_behind(n, h);
             judging_header::group_checks(h, units, levels)
         }
         Kind::Genus => Verdict::Accepted,
-        Kind::Indexed(c) => judging_header::indexed_checks(c, cs),
+        Kind::Indexed(c) => judging_indexed::indexed_checks(c, cs),
     }
 }
 

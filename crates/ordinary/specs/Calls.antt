@@ -37,7 +37,7 @@ use Rattle.format.specs.Reading.Reading.{refused, found}
 use Rattle.format.specs.Writing as W
 use Rattle.laws.specs.Conversion.{all-known}
 use Rattle.laws.specs.Levels.{item-sizes, frame-own}
-use Rattle.roundtrip.specs.Reads.{read-own}
+use Rattle.roundtrip_laws.specs.Reads.{read-own}
 use Rattle.roundtrip.specs.Sextets.{accepted}
 use Rattle.ordinary.specs.Words.{mask, masked, maskedText, asFive, verdictFive, framedFive, toBinaryFive, textFoundFive, textReadFive}
 use Rattle.ordinary.specs.Words.{textWrittenFive, binaryWrittenFive}

@@ -26,7 +26,7 @@ use Rattle.format.specs.Cutting.Cut.{done, stopped, item}
 use Rattle.format.specs.Judging.{shift, andThen, unless, scan, behind, judgeKind, judgeBy, inTurn, frame4, frameNext4, contents}
 use Rattle.format.specs.Judging.{ownCheck, group, judgeWith, judge}
 use Rattle.laws.specs.Levels.{shift-accepted}
-use Rattle.roundtrip.specs.Reads.{low-scan}
+use Rattle.roundtrip_laws.specs.Reads.{low-scan}
 use Rattle.ordinary.specs.Words.{asFive, verdictFive, framedFive}
 use Rattle.ordinary.specs.Marks.{pick-to, plain, plain-test, plain-number, plain-all}
 use Rattle.ordinary.specs.Framed.{header-known, frame-five, next-five, scale-five}

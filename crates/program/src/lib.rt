@@ -1,5 +1,5 @@
-// What the two programs share: a stream from standard input, told from one that a failed read cut off, what is to be written, and
-// the lines for standard error where something could not be done. Assumed: the contract of the C library's read.
+// What the two programs share: a stream from standard input, told from one that a failed read cut off, and what is to be
+// written. Assumed: the contract of the C library's read.
 use format::Reported;
 use libc::STDIN_FILENO;
 ghost use mathlib.Core.Path.{_≡_};
@@ -7,7 +7,7 @@ ghost use Prim.Native.Nat.{_≤_};
 ghost use lib.ListN.{length};
 ghost use Rattle.io.specs.Counts.{Counts};
 ghost use Rattle.format.specs.Units.{text, binary};
-ghost use Rattle.program.specs.Printed.{printedAnswer, printedLeft, Fits, Came, unreadLine, unwrittenLine};
+ghost use Rattle.program.specs.Printed.{printedAnswer, printedLeft, Fits, Came};
 
 // The longest stream that is reported, and room for each such report: 17 + 18 x 2,730.
 const LONGEST: usize = 8192;
@@ -89,18 +89,4 @@ pub fn answer_binary(s: &[u8], out: &mut [u8]) -> usize
         Reported::Written(n) => n,
         Reported::Refused(_, _) => 0,
     }
-}
-
-// A line for standard error: a read failed, so there is no stream.
-pub fn unread() -> [u8; 59]
-    ensures { λ r. ⌜ r ≡ unreadLine ⌝ }
-{
-    *b"cesr: standard input could not be read: nothing was judged\n"
-}
-
-// A line for standard error: standard output did not take all of the answer.
-pub fn unwritten() -> [u8; 68]
-    ensures { λ r. ⌜ r ≡ unwrittenLine ⌝ }
-{
-    *b"cesr: standard output could not be written: the report is not whole\n"
 }

@@ -24,7 +24,7 @@ fn print(s: &[u8]) {
     let mut out = room();
     let n = program::answer_binary(s, &mut out);
     if !io::write_all(STDOUT_FILENO, &out[..n]) {
-        io::write_all(STDERR_FILENO, &program::unwritten());
+        io::write_all(STDERR_FILENO, &program_lines::unwritten());
     }
 }
 
@@ -32,7 +32,7 @@ fn main() {
     let mut buffer = space();
     match program::read_stream(&mut buffer) {
         Input::Failed => {
-            io::write_all(STDERR_FILENO, &program::unread());
+            io::write_all(STDERR_FILENO, &program_lines::unread());
         }
         Input::Whole(n) => print(&buffer[..n]),
     }

@@ -1,19 +1,15 @@
 -- The reader behind a step stands at the step's next state, whatever it found. Assumes nothing.
-use mathlib.Core.Path.{_≡_, refl, sym, ap}
+use mathlib.Core.Path.{_≡_, ap}
 use denote.Ref.{now}
-use Rattle.format.specs.Units.{text, binary}
 use Rattle.walk_state.specs.declared.Walk.{Walk}
-use Rattle.walk_state.specs.declared.Found.{Found}
-use Rattle.walk_state.specs.declared.Found.the-variants as F
 use Rattle.walk_state.specs.declared.TextStep.{TextStep}
 use Rattle.walk_state.specs.declared.BinaryStep.{BinaryStep}
-use Rattle.walk_state.specs.Walking.{stepIn, textItem, textStep, binaryItem, binaryStep}
-use Rattle.walk_claims.specs.Words.{Stops}
-use Rattle.walk_claims.specs.Proved.{proved}
+use Rattle.walk_state.specs.Walking.{textStep, binaryStep}
+use Rattle.reader_place.specs.Stands.{text-stands, binary-stands}
 use Rattle.reader.specs.declared.Reader.{Reader}
 use Rattle.reader.specs.declared.TextTaken.{TextTaken}
 use Rattle.reader.specs.declared.BinaryTaken.{BinaryTaken}
-use Rattle.reader.specs.Reading.{resumedAt, textBehind, textTaken, binaryBehind, binaryTaken}
+use Rattle.reader.specs.Reading.{resumedAt, textTaken, binaryTaken}
 
 -- the reader at a step's next state, and what the step found
 abbrev pub textAt : Reader → TextStep → TextTaken
@@ -22,28 +18,12 @@ textAt r s = record { reader = resumedAt r (s .next); found = s .found }
 abbrev pub binaryAt : Reader → BinaryStep → BinaryTaken
 binaryAt r s = record { reader = resumedAt r (s .next); found = s .found }
 
-text-behind : (f : Found) (r : Reader) (w : Walk) → (Stops f → w ≡ r .walk) → textBehind (textItem f) r w ≡ resumedAt r w
-unfolding textItem textBehind
-text-behind (F.Item o n d k h) r w e = refl
-text-behind (F.Refused m p) r w e = sym (ap (resumedAt r) (e tt))
-text-behind F.End r w e = sym (ap (resumedAt r) (e tt))
-
 pub text-taken : (r : Reader) → textTaken r ≡ textAt r (textStep (now (r .src)) (r .walk))
-unfolding textTaken textStep
+unfolding textTaken
 text-taken r =
-    ap (λ (q : Reader). record { reader = q; found = textStep (now (r .src)) (r .walk) .found })
-    (text-behind (stepIn text (now (r .src)) (r .walk) .found) r (stepIn text (now (r .src)) (r .walk) .next)
-    (proved .of-text (now (r .src)) .stays (r .walk)))
-
-binary-behind : (f : Found) (r : Reader) (w : Walk) → (Stops f → w ≡ r .walk) → binaryBehind (binaryItem f) r w ≡ resumedAt r w
-unfolding binaryItem binaryBehind
-binary-behind (F.Item o n d k h) r w e = refl
-binary-behind (F.Refused m p) r w e = sym (ap (resumedAt r) (e tt))
-binary-behind F.End r w e = sym (ap (resumedAt r) (e tt))
+    ap (λ (w : Walk). record { reader = resumedAt r w; found = textStep (now (r .src)) (r .walk) .found }) (text-stands (now (r .src)) (r .walk))
 
 pub binary-taken : (r : Reader) → binaryTaken r ≡ binaryAt r (binaryStep (now (r .src)) (r .walk))
-unfolding binaryTaken binaryStep
+unfolding binaryTaken
 binary-taken r =
-    ap (λ (q : Reader). record { reader = q; found = binaryStep (now (r .src)) (r .walk) .found })
-    (binary-behind (stepIn binary (now (r .src)) (r .walk) .found) r (stepIn binary (now (r .src)) (r .walk) .next)
-    (proved .of-binary (now (r .src)) .stays (r .walk)))
+    ap (λ (w : Walk). record { reader = resumedAt r w; found = binaryStep (now (r .src)) (r .walk) .found }) (binary-stands (now (r .src)) (r .walk))

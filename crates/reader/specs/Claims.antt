@@ -8,6 +8,6 @@ use Rattle.reader.specs.Behind.{textAt, binaryAt}
 
 pub record ReaderClaims : Type 0 where
   -- "keeps the stream it was opened over beside its place": the reader handed back is over the same stream, at the next state of
-  -- the walk's step, and beside it is what the step found. That a refusal or the end leaves it as it was is Reading's definition.
+  -- the walk's step, and beside it is what the step found. That a refusal or the end leaves it where it was is the definition of its place (reader_place's Place).
   pub text-next : (r : Reader) → textTaken r ≡ textAt r (textStep (now (r .src)) (r .walk))
   pub binary-next : (r : Reader) → binaryTaken r ≡ binaryAt r (binaryStep (now (r .src)) (r .walk))

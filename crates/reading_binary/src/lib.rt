@@ -3,63 +3,14 @@
 use format::BinaryFound;
 use format::BinaryOffset;
 use format::BinaryRead;
-use format::Framed;
-use format::Kind;
 use format::TextOffset;
 ghost use mathlib.Core.Path.{_≡_};
 ghost use Prim.Native.Nat.{_+_, _-_, _*_, _≤_};
 ghost use lib.ListN.{length, take, drop};
-ghost use Rattle.format.specs.declared.Framed.the-variants.{Item};
-ghost use Rattle.format.specs.Units.{binarySextets};
-ghost use Rattle.format.specs.Reading.{reading, binaryAnswer, readBinary, charsLeft, partAt};
-ghost use Rattle.format.specs.Reading.Reading.{found};
-ghost use Rattle.reading_part.specs.Outcome.{outcome};
+ghost use Rattle.format.specs.Reading.{readBinary, charsLeft, partAt};
 ghost use Rattle.reading_chars.specs.Chars.{charsInto};
-ghost use Rattle.reading_binary.specs.Part.{noBinary, anyText, partStart};
-
-fn no_binary(number: u8, place: usize) -> BinaryRead
-    ensures { λ r. ⌜ r ≡ noBinary number place ⌝ }
-{
-    BinaryRead {
-        found: BinaryFound::Refused(number, BinaryOffset(place)),
-        tag: [0; 11],
-    }
-}
-
-// The item that a part begins with.
-fn binary_found(part: &[u8], kind: Kind, head: usize, size: usize) -> BinaryRead
-    requires { ⌜ (outcome (reading (binarySextets (now part))) ≡ Item kind head size) × (length (now part) ≤ 3145728) ⌝ }
-    ensures { λ r. ⌜ r ≡ binaryAnswer 0 (found kind head size) (binarySextets (now (part .entry))) anyText ⌝ }
-{
-    let cs = framing_head::binary_head(part);
-    let own = framing_head::within(cs, size);
-    let start = reading_item::text_start(kind, head, size, own);
-    let text = reading_item::text_size(size, start);
-    let p = reading_item::primitive_of(kind, head, size, text);
-    let tag = reading_item::tag_of(kind, own);
-    BinaryRead {
-        found: BinaryFound::Found(p),
-        tag,
-    }
-}
-
-// A primitive of a binary at an offset, its room not asked.
-fn found_at(s: &[u8], at: BinaryOffset) -> BinaryRead
-    ensures { λ r. ⌜ r ≡ readBinary (now (s .entry)) (at .0) anyText ⌝ }
-{
-    if 3145728 < s.len() {
-        return no_binary(1, 0);
-    }
-    let from = at.0;
-    if s.len() <= from {
-        return no_binary(4, from);
-    }
-    let part = &s[from..];
-    match reading_part::of_binary(part) {
-        Framed::Unframed { number, place } => no_binary(number, from + (place / 4 * 3 + place % 4)),
-        Framed::Item { kind, head, size } => binary_found(part, kind, head, size),
-    }
-}
+ghost use Rattle.reading_found.specs.Found.{anyText};
+ghost use Rattle.reading_binary.specs.Part.{partStart};
 
 // The text of an item of so many units from a byte on: its last characters.
 fn copy_text(s: &[u8], from: usize, size: usize, text: usize, out: &mut [u8])
@@ -77,13 +28,13 @@ pub fn read_binary(s: &[u8], at: BinaryOffset, out: &mut [u8]) -> BinaryRead
     ensures { λ r. ⌜ r ≡ readBinary (now (s .entry)) (at .0) (length (now (out .entry))) ⌝ }
     ensures { λ r. ⌜ now (out .exit) ≡ charsLeft (r .found) (now (s .entry)) (at .0) (now (out .entry)) ⌝ }
 {
-    let read = found_at(s, at);
+    let read = reading_found::found_at(s, at);
     let found = read.found;
     match found {
         BinaryFound::Refused(_, _) => read,
         BinaryFound::Found(p) => {
             if out.len() < p.text {
-                return no_binary(3, 0);
+                return reading_found::no_binary(3, 0);
             }
             copy_text(s, at.0, p.size, p.text, out);
             read
@@ -98,7 +49,7 @@ pub fn raw_binary(s: &[u8], at: BinaryOffset) -> &[u8]
     ensures { λ r. ⌜ r .ptr ≡ (s .entry .ptr .0, partStart (at .0) (readBinary (now (s .entry)) (at .0) anyText .found) + s .entry .ptr .1) ⌝ }
 {
     let from = at.0;
-    let read = found_at(s, at);
+    let read = reading_found::found_at(s, at);
     let found = read.found;
     match found {
         BinaryFound::Refused(_, _) => &s[..0],

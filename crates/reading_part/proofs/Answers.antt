@@ -29,8 +29,8 @@ use Rattle.laws.specs.Framing.{Lawful, Good, Shaped, frame-good}
 use Rattle.laws.specs.Values.{Led, raw-inside}
 use Rattle.framing_head.specs.Heads.{headOf}
 use Rattle.framing_head.proofs.Laws.{part-head, within-head}
-use Rattle.reading_item.specs.Tags.{Taggable}
-use Rattle.reading_item.specs.Texts.{textStart}
+use Rattle.reading_tag.specs.Tags.{Taggable}
+use Rattle.reading_fill.specs.Texts.{textStart}
 use Rattle.reading_part.specs.Outcome.{outcome}
 use Rattle.reading_part.proofs.Texts.{text-length, text-last}
 

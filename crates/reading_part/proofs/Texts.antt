@@ -19,7 +19,7 @@ use Rattle.format.specs.Values.{textIn}
 use Rattle.laws.specs.Framing.{Shaped}
 use Rattle.framing_head.specs.Heads.{headOf}
 use Rattle.framing_head.proofs.Laws.{head-at}
-use Rattle.reading_item.specs.Texts.{fillBy, textStart}
+use Rattle.reading_fill.specs.Texts.{fillBy, textStart}
 
 -- the fill is told by the value's first sextet
 first-tells : (lead : ℕ) (v : List ℕ) → drop (fillOf lead v) v ≡ drop (fillBy lead (getD v 0 0)) v

@@ -1,10 +1,11 @@
 -- The answers of reading from a text, case by case, and what the buffer then holds. Assumes nothing.
-use mathlib.Core.Path.{_≡_, refl, ap, sym, _∙_}
-use mathlib.Core.List.{List, [], map, _++_, append-assoc, append-nil}
+use mathlib.Core.Path.{_≡_, refl, ap, _∙_}
+use mathlib.Core.List.{List, map, append-assoc}
 use Prim.Native.Nat.{ℕ, _+_, _-_, _*_, _/_, _%_, _<_, _≤_}
 use native.Mathlib.Omega.{arith}
 use lib.ListN.{length, take, drop, length-append, length-drop, length-map, drop-of-length-le}
-use lib.Seq.{take-at, drop-at, drop-drop, take-all, length-take-le}
+use lib.Seq.{length-take-le}
+use lib.Dec.{ltb}
 use borrow.Author.Tests.{lt-ltb, le-ltb}
 use Rattle.base.specs.Lists.{map-take, map-drop}
 use Rattle.base.specs.Digits.{Below, below-drop}
@@ -24,16 +25,15 @@ use Rattle.format.specs.Reading.{primitiveOf, readFramed, reading, from, placeF
 use Rattle.format.specs.Reading.Reading.{found}
 use Rattle.laws.specs.Framing.{Shaped}
 use Rattle.laws.specs.Units.{bytes-size, chars-back}
-use Rattle.laws.specs.Conversion.{length-to-binary}
-use Rattle.judging.proofs.Laws.{to-end}
 use Rattle.laws.specs.Values.{text-raw}
 use Rattle.framing_head.specs.Heads.{headOf}
 use Rattle.framing.proofs.Laws.{text-units}
-use Rattle.reading_item.specs.Tags.{Taggable}
-use Rattle.reading_item.specs.Texts.{textStart}
-use Rattle.reading_raw.specs.Raw.{Fit, rawInto}
+use Rattle.reading_tag.specs.Tags.{Taggable}
+use Rattle.reading_fill.specs.Texts.{textStart}
+use Rattle.reading_raw.specs.Raw.{Fit}
 use Rattle.reading_part.specs.Outcome.{outcome}
-use Rattle.reading_text.specs.Told.{noText, valueInto, Tells}
+use Rattle.reading_value.specs.Value.{valueInto}
+use Rattle.reading_text.specs.Told.{noText, Tells}
 use Rattle.reading_part.proofs.Bounds.{item-known, place-near}
 use Rattle.reading_part.proofs.Answers.{is-refused, is-found, accepts, inside, item-long, text-few, told-start, told-text, told-size, told-primitive, told-tag}
 
@@ -143,9 +143,6 @@ module _ (t : List ℕ) (k : Kind) (h n : ℕ) (e : outcome (reading (textSextet
         let few = text-few (textSextets t) k h n e in
         rw (w .item) (omega (arith, i .start, item-size), omega (arith, item-size), omega (arith, item-size))
 
-    pub sizes-fit : p .raw + p .text ≤ 8388608
-    sizes-fit = let r = item-room in let v = value-lies in omega (arith, v .1, v .2, item-size)
-
     pub no-room : (d : List ℕ) → length d < p .raw + p .text → noText 3 0 ≡ textAnswer 0 (found k h n) (textSextets t) (length d)
     unfolding textAnswer
     no-room d r = rw (lt-ltb (length d) (length (valueAt (found k h n) (textSextets t))) (rw (← value-size) at r))
@@ -156,32 +153,14 @@ module _ (t : List ℕ) (k : Kind) (h n : ℕ) (e : outcome (reading (textSextet
     text-item d r = rw (le-ltb (length d) (length (valueAt (found k h n) (textSextets t))) (rw (← value-size) at r), w .item, w .tags)
 
     -- what is copied out is the value
-    pub value-copied : (d d′ : List ℕ)
-        → (Fit (take (4 * n) t) → p .start .0 ≤ length (take (4 * n) t) / 4 * 3 → p .raw ≡ length (take (4 * n) t) / 4 * 3 - p .start .0
+    pub value-copied : (d d′ : List ℕ) → p .raw + p .text ≤ length d
+        → (p .text ≤ length (take (4 * n) t) → p .raw + p .text ≤ length d → Fit (take (4 * n) t) → p .start .0 ≤ length (take (4 * n) t) / 4 * 3 → p .raw ≡ length (take (4 * n) t) / 4 * 3 - p .start .0
         → d′ ≡ valueInto (take (4 * n) t) (p .start .0) (p .text) d)
         → d′ ≡ valueLeft (T.Found p) t 0 d
     unfolding valueLeft from valueAt valueOf primitiveOf
-    value-copied d d′ c =
+    value-copied d d′ r c =
         let T = take (4 * n) t in
         let z : 4 * n / 4 * 3 - rawStart k h ≡ 3 * n - rawStart k h = omega arith in
         let raw : rawOf k h (take (4 * n) (textSextets t)) ≡ drop (rawStart k h) (toBinary T) = rw (own-sextets t (4 * n)) at (text-raw k h T) in
-        c item-fit (value-lies .0) (value-lies .1)
+        c (value-lies .2) r item-fit (value-lies .0) (value-lies .1)
         ∙ rw (w .item, is-found (reading (textSextets t)) k h n e, item-size, ← chars-are, z, raw, append-assoc)
-
--- ---- the buffer: raw bytes, and a text behind them
-
-pub put-value : (t d : List ℕ) (start raw text : ℕ) → start ≤ length t / 4 * 3 → raw ≡ length t / 4 * 3 - start → text ≤ length t → raw + text ≤ length d
-    → (d₁ : List ℕ) → d₁ ≡ rawInto t start d → (src : List ℕ) → src ≡ take (length t - (length t - text)) (drop (length t - text) t)
-    → (d₂ : List ℕ) → d₂ ≡ take (length src) src ++ drop (length src) (take (length d₁ - raw) (drop raw d₁))
-    → take raw d₁ ++ (d₂ ++ drop (length d₁ - raw) (drop raw d₁)) ≡ valueInto t start text d
-put-value t d start raw text i r few room d₁ p src q d₂ c =
-    let bytes = drop start (toBinary t) in
-    let l : length bytes ≡ raw = length-drop start (toBinary t) ∙ omega (arith, length-to-binary t) in
-    let p′ : d₁ ≡ bytes ++ drop raw d = p ∙ rw (← r) in
-    let front : take raw d₁ ≡ bytes = rw p′ (take-at bytes (drop raw d) raw l) in
-    let rest : drop raw d₁ ≡ drop raw d = rw p′ (drop-at bytes (drop raw d) raw l) in
-    let none : drop (length d₁ - raw) (drop raw d₁) ≡ [] = drop-of-length-le (drop raw d₁) {i = length d₁ - raw} (omega (arith, length-drop raw d₁)) in
-    let s : src ≡ drop (length t - text) t = q ∙ to-end t (length t - text) in
-    let m : length src ≡ text = ap length s ∙ length-drop (length t - text) t ∙ omega arith in
-    let g : d₂ ≡ src ++ drop text (drop raw d) = c ∙ rw (to-end d₁ raw, rest, take-all (length src) src (omega arith), m) in
-    rw (front, none, append-nil, g, s, ← r, drop-drop text raw d)

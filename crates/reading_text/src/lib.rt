@@ -1,6 +1,5 @@
 // Reading a single primitive at an offset of a text: 1, 4 at or past the end, framing, 14, judging, and 3 where there is no room for
 // its value, raw bytes or a text, which is copied out.
-use format::BinaryOffset;
 use format::Framed;
 use format::Kind;
 use format::Primitive;
@@ -8,15 +7,14 @@ use format::TextFound;
 use format::TextOffset;
 use format::TextRead;
 ghost use mathlib.Core.Path.{_≡_};
-ghost use Prim.Native.Nat.{_+_, _-_, _*_, _≤_, _/_};
+ghost use Prim.Native.Nat.{_≤_};
 ghost use lib.ListN.{length};
 ghost use Rattle.format.specs.declared.Framed.the-variants.{Item};
 ghost use Rattle.format.specs.Units.{textSextets};
 ghost use Rattle.format.specs.Reading.{reading, textAnswer, readText, valueLeft};
 ghost use Rattle.format.specs.Reading.Reading.{found};
 ghost use Rattle.reading_part.specs.Outcome.{outcome};
-ghost use Rattle.reading_raw.specs.Raw.{Fit};
-ghost use Rattle.reading_text.specs.Told.{noText, valueInto, Tells};
+ghost use Rattle.reading_text.specs.Told.{noText, Tells};
 
 fn no_text(number: u8, place: usize) -> TextRead
     ensures { λ r. ⌜ r ≡ noText number place ⌝ }
@@ -39,21 +37,11 @@ fn text_item(part: &[u8], kind: Kind, head: usize, size: usize) -> Told
 {
     let cs = framing_head::text_head(part);
     let own = framing_head::within(cs, size);
-    let start = reading_item::text_start(kind, head, size, own);
-    let text = reading_item::text_size(size, start);
+    let start = reading_fill::text_start(kind, head, size, own);
+    let text = reading_fill::text_size(size, start);
     let item = reading_item::primitive_of(kind, head, size, text);
-    let tag = reading_item::tag_of(kind, own);
+    let tag = reading_tag::tag_of(kind, own);
     Told { item, tag }
-}
-
-// The item's raw bytes from one of its binary form on, and behind them so many of its last characters: one of the two is empty.
-fn copy_value(item: &[u8], start: BinaryOffset, raw: usize, text: usize, out: &mut [u8])
-    requires { ⌜ (text ≤ length (now item)) × (raw + text ≤ length (now out)) ⌝ }
-    ensures { λ _. ⌜ (Fit (now (item .entry)) → start .0 ≤ length (now (item .entry)) / 4 * 3 → raw ≡ length (now (item .entry)) / 4 * 3 - start .0 → now (out .exit) ≡ valueInto (now (item .entry)) (start .0) text (now (out .entry))) ⌝ }
-{
-    reading_raw::copy_raw(item, start, out);
-    let from = item.len() - text;
-    bytes::copy(&item[from..], &mut out[raw..]);
 }
 
 // The item that a part begins with, where there is room for its value: 3.
@@ -64,11 +52,11 @@ fn text_found(part: &[u8], kind: Kind, head: usize, size: usize, out: &mut [u8])
 {
     let read = text_item(part, kind, head, size);
     let p = read.item;
-    if out.len() < p.raw + p.text {
+    if reading_room::lacks(out.len(), p.raw, p.text) {
         return no_text(3, 0);
     }
     let end = 4 * size;
-    copy_value(&part[..end], p.start, p.raw, p.text, out);
+    reading_value::copy_value(&part[..end], p.start, p.raw, p.text, out);
     let tag = read.tag;
     TextRead {
         found: TextFound::Found(p),

@@ -1,224 +1,24 @@
-// The indexed code table of source document 003 as one fixed table, and the look-up of a code in it. The items of `-K` and `-L` have these.
-use format::IndexRow;
-use format::Kind;
+// The look-up of a code in the indexed table, and what a first unit opens by it. The items of `-K` and `-L` have these codes.
 use format::Opening;
 ghost use mathlib.Core.Path.{_≡_};
 ghost use lib.ListN.{getD};
-ghost use Prim.Native.Nat.{_+_, _<_, _≤_};
-ghost use Rattle.format.specs.Registry.{indexedRow, indexedBy, indexedOpening};
-ghost use Rattle.registry_indexed.specs.Places.{rowAt, indexedFrom};
-
-// `A` to `D`, `0A` and `0B`, `2A` to `2D`, `3A` and `3B`, in that order.
-const ROWS: [IndexRow; 12] = [
-    IndexRow {
-        chars: 1,
-        selector: 0,
-        letter: 0,
-        size: 88,
-        index: 1,
-        ondex: 0,
-        zeros: 4,
-        current: 0,
-    },
-    IndexRow {
-        chars: 1,
-        selector: 0,
-        letter: 1,
-        size: 88,
-        index: 1,
-        ondex: 0,
-        zeros: 4,
-        current: 1,
-    },
-    IndexRow {
-        chars: 1,
-        selector: 0,
-        letter: 2,
-        size: 88,
-        index: 1,
-        ondex: 0,
-        zeros: 4,
-        current: 0,
-    },
-    IndexRow {
-        chars: 1,
-        selector: 0,
-        letter: 3,
-        size: 88,
-        index: 1,
-        ondex: 0,
-        zeros: 4,
-        current: 1,
-    },
-    IndexRow {
-        chars: 2,
-        selector: 52,
-        letter: 0,
-        size: 156,
-        index: 1,
-        ondex: 1,
-        zeros: 0,
-        current: 0,
-    },
-    IndexRow {
-        chars: 2,
-        selector: 52,
-        letter: 1,
-        size: 156,
-        index: 1,
-        ondex: 1,
-        zeros: 0,
-        current: 1,
-    },
-    IndexRow {
-        chars: 2,
-        selector: 54,
-        letter: 0,
-        size: 92,
-        index: 2,
-        ondex: 2,
-        zeros: 4,
-        current: 0,
-    },
-    IndexRow {
-        chars: 2,
-        selector: 54,
-        letter: 1,
-        size: 92,
-        index: 2,
-        ondex: 2,
-        zeros: 4,
-        current: 1,
-    },
-    IndexRow {
-        chars: 2,
-        selector: 54,
-        letter: 2,
-        size: 92,
-        index: 2,
-        ondex: 2,
-        zeros: 4,
-        current: 0,
-    },
-    IndexRow {
-        chars: 2,
-        selector: 54,
-        letter: 3,
-        size: 92,
-        index: 2,
-        ondex: 2,
-        zeros: 4,
-        current: 1,
-    },
-    IndexRow {
-        chars: 2,
-        selector: 55,
-        letter: 0,
-        size: 160,
-        index: 3,
-        ondex: 3,
-        zeros: 0,
-        current: 0,
-    },
-    IndexRow {
-        chars: 2,
-        selector: 55,
-        letter: 1,
-        size: 160,
-        index: 3,
-        ondex: 3,
-        zeros: 0,
-        current: 1,
-    },
-];
-
-fn wide(x: u8) -> usize
-    ensures { λ r. ⌜ (r ≡ x) × (r < 256) ⌝ }
-{
-    x as usize
-}
-
-// The table is named here alone.
-fn row_at(k: usize) -> IndexRow
-    requires { ⌜ k < 12 ⌝ }
-    ensures { λ r. ⌜ r ≡ rowAt k ⌝ }
-{
-    ROWS[k]
-}
-
-// A row's opening: selectors `2` and `3` have a header of two units.
-fn row_opening(row: IndexRow) -> Opening
-    ensures { λ r. ⌜ r ≡ indexedRow row ⌝ }
-{
-    let size = row.size;
-    if row.selector < 54 {
-        Opening::Short {
-            kind: Kind::Indexed(row),
-            size: wide(size / 4),
-        }
-    } else {
-        Opening::Long {
-            kind: Kind::Indexed(row),
-            size: wide(size / 4),
-        }
-    }
-}
-
-// The code of a letter among so many rows of the table, whose letters run from A on.
-fn indexed_from(from: usize, count: u8, letter: u8) -> Opening
-    requires { ⌜ from + count ≤ 12 ⌝ }
-    ensures { λ r. ⌜ r ≡ indexedFrom from count letter ⌝ }
-{
-    if letter < count {
-        row_opening(row_at(from + wide(letter)))
-    } else {
-        Opening::Unknown
-    }
-}
-
-// A code of one letter.
-fn one_letter(l: u8) -> Opening
-    ensures { λ r. ⌜ r ≡ indexedBy 0 l ⌝ }
-{
-    indexed_from(0, 4, l)
-}
-
-// `0` and a letter.
-fn zero_letter(l: u8) -> Opening
-    ensures { λ r. ⌜ r ≡ indexedBy 52 l ⌝ }
-{
-    indexed_from(4, 2, l)
-}
-
-// `2` and a letter.
-fn two_letter(l: u8) -> Opening
-    ensures { λ r. ⌜ r ≡ indexedBy 54 l ⌝ }
-{
-    indexed_from(6, 4, l)
-}
-
-// `3` and a letter.
-fn three_letter(l: u8) -> Opening
-    ensures { λ r. ⌜ r ≡ indexedBy 55 l ⌝ }
-{
-    indexed_from(10, 2, l)
-}
+ghost use Rattle.format.specs.Registry.{indexedBy, indexedOpening};
 
 // An indexed code by its selector's sextet, 0 where the letter stands alone, and its letter's; nothing known where there is none.
 pub fn indexed(selector: u8, letter: u8) -> Opening
     ensures { λ r. ⌜ r ≡ indexedBy selector letter ⌝ }
 {
     if selector == 0 {
-        return one_letter(letter);
+        return registry_indexed_table::one_letter(letter);
     }
     if selector == 52 {
-        return zero_letter(letter);
+        return registry_indexed_table::zero_letter(letter);
     }
     if selector == 54 {
-        return two_letter(letter);
+        return registry_indexed_table::two_letter(letter);
     }
     if selector == 55 {
-        return three_letter(letter);
+        return registry_indexed_table::three_letter(letter);
     }
     Opening::Unknown
 }
@@ -230,16 +30,16 @@ pub fn opening(u: [u8; 4]) -> Opening
     let a = u[0];
     let b = u[1];
     if a < 52 {
-        return one_letter(a);
+        return registry_indexed_table::one_letter(a);
     }
     if a == 52 {
-        return zero_letter(b);
+        return registry_indexed_table::zero_letter(b);
     }
     if a == 54 {
-        return two_letter(b);
+        return registry_indexed_table::two_letter(b);
     }
     if a == 55 {
-        return three_letter(b);
+        return registry_indexed_table::three_letter(b);
     }
     Opening::Unknown
 }

@@ -15,6 +15,7 @@ use Rattle.format.specs.declared.Kind.the-variants.{Fixed, Variable, Group, Gen
 use Rattle.format.specs.declared.Opening.{Opening}
 use Rattle.format.specs.declared.Opening.the-variants.{Unknown, Short, Long, LargeVariable, LargeGroup, Version}
 use Rattle.format.specs.Registry.{codes, fixed, fixedAmong}
+use Rattle.registry_table.specs.Unknown.{isUnknown, unknown-opening}
 use Rattle.registry_table.specs.Places.{noRow, rowAt, fixedRow, fixedFrom}
 
 -- ---- two rows are equal
@@ -71,23 +72,6 @@ row-opening r Unknown z = absurd z
 row-opening r (LargeVariable t l) z = absurd z
 row-opening r (LargeGroup l d) z = absurd z
 row-opening r Version z = absurd z
-
-isUnknown : Opening → Bool
-isUnknown Unknown = true
-isUnknown (Short k n) = false
-isUnknown (Long k n) = false
-isUnknown (LargeVariable t l) = false
-isUnknown (LargeGroup l d) = false
-isUnknown Version = false
-
-unknown-opening : (o : Opening) → T (isUnknown o) → o ≡ Unknown
-unfolding isUnknown
-unknown-opening Unknown t = refl
-unknown-opening (Short k n) z = absurd z
-unknown-opening (Long k n) z = absurd z
-unknown-opening (LargeVariable t l) z = absurd z
-unknown-opening (LargeGroup l d) z = absurd z
-unknown-opening Version z = absurd z
 
 -- ---- the test
 

@@ -128,8 +128,8 @@ fn report(form: Form, s: &[u8], out: &mut [u8]) -> Reported
     ensures { λ r. ⌜ Answered form (now (s .entry)) (now (out .entry)) r (now (out .exit)) ⌝ }
 {
     let values = alphabet::sextets();
-    let classes = runs::classes();
-    let rows = runs::rows();
+    let classes = runs_tables::classes();
+    let rows = runs_tables::rows();
     let known = report_first::known(form, s, 0, 0);
     report_by(
         form,

@@ -6,7 +6,6 @@ use format::Framed;
 use format::Kind;
 use judging::MAX_DEPTH;
 ghost use mathlib.Core.Bool.{Bool, true, false};
-ghost use mathlib.Core.List.{List};
 ghost use Prim.Native.Nat.{ℕ, _+_, _-_, _/_, _≤_, _<_};
 ghost use lib.ListN.{length};
 ghost use Rattle.format.specs.Units.{domain};
@@ -14,69 +13,7 @@ ghost use Rattle.format.specs.Judging.{maxDepth};
 ghost use Rattle.runs.specs.Levels.{Clear};
 ghost use Rattle.report_next.specs.Next.{isRuled, holdsIndexed};
 ghost use Rattle.report_first.specs.First.{Lent};
-ghost use Rattle.report_fast.specs.Fast.{Reach, Accepts, Take, Passes};
-
-// ---- indexed items, where all is known
-
-// The next indexed item from a unit on, which its first unit does not tell, if it ends in front of another unit and is accepted: its
-// size, else 0. No group stands there.
-fn other_indexed(form: Form, s: &[u8], levels: usize, first: bool, at: usize, stop: usize) -> usize
-    requires { ⌜ Reach form (now s) at stop × (at < stop) ⌝ }
-    ensures { λ r. ⌜ ((values classes rows : List ℕ) → Take form values classes rows (now (s .entry)) true levels first at stop r) ⌝ }
-{
-    match report_found::found(form, s, true, levels, first, at, stop) {
-        Framed::Unframed {
-            number: _,
-            place: _,
-        } => 0,
-        Framed::Item {
-            kind,
-            head: _,
-            size,
-        } => {
-            if report_next::is_entered(kind) {
-                return 0;
-            }
-            size
-        }
-    }
-}
-
-// Whether the indexed items from a unit to the end of their group are accepted.
-fn accepts_indexed(
-    form: Form,
-    values: &[u8; 256],
-    classes: &[u8; 256],
-    rows: &[u16; 192],
-    s: &[u8],
-    levels: usize,
-    first: bool,
-    at: usize,
-    stop: usize,
-) -> bool
-    requires { ⌜ Reach form (now s) at stop ⌝ }
-    ensures { λ r. ⌜ Passes form (now (values .entry)) (now (classes .entry)) (now (rows .entry)) (now (s .entry)) true levels first at stop r ⌝ }
-{
-    let mut i = at;
-    let mut ruled = first;
-    while i < stop {
-        let told = report_first::indexed(form, values, classes, rows, s, i);
-        if 0 < told {
-            if stop - i < told {
-                return false;
-            }
-            i = i + told;
-        } else {
-            let n = other_indexed(form, s, levels, ruled, i, stop);
-            if n == 0 {
-                return false;
-            }
-            i = i + n;
-        }
-        ruled = false;
-    }
-    true
-}
+ghost use Rattle.report_fast_laws.specs.Fast.{Reach, Accepts, Take, Passes};
 
 // ---- items accepted whole, where all is known
 
@@ -186,7 +123,17 @@ fn entered(
 {
     let marks = report_next::is_ruled(kind);
     if report_next::holds_indexed(kind) {
-        return accepts_indexed(form, values, classes, rows, s, levels, marks, at, stop);
+        return report_fast_indexed::accepts_indexed(
+            form,
+            values,
+            classes,
+            rows,
+            s,
+            levels,
+            marks,
+            at,
+            stop,
+        );
     }
     accepts(form, values, classes, rows, s, levels, marks, at, stop)
 }
@@ -254,7 +201,17 @@ pub fn passes(
         return false;
     }
     if indexed {
-        return accepts_indexed(form, values, classes, rows, s, levels, first, at, stop);
+        return report_fast_indexed::accepts_indexed(
+            form,
+            values,
+            classes,
+            rows,
+            s,
+            levels,
+            first,
+            at,
+            stop,
+        );
     }
     accepts(form, values, classes, rows, s, levels, first, at, stop)
 }

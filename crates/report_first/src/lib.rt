@@ -153,7 +153,7 @@ pub fn known(form: Form, s: &[u8], at: usize, clean: usize) -> usize
                 return clean;
             }
             let from = 4 * at;
-            at + alphabet::first_stranger(&s[from..]) / 4
+            at + alphabet_search::first_stranger(&s[from..]) / 4
         }
         Form::Binary => s.len() / 3,
     }

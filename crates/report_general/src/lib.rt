@@ -83,7 +83,7 @@ fn put_judged(
     requires { ⌜ Placed form u (now s) n a i k ⌝ }
     ensures { λ r. ⌜ Turned form u (now (s .entry)) n a i k (now (out .entry)) r (now (out .exit)) ⌝ }
 {
-    match report_item::framed(form, s, a) {
+    match report_frame::framed(form, s, a) {
         Framed::Unframed { number, place: _ } => Turn::Rest { number },
         Framed::Item {
             kind: _,

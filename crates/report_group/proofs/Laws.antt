@@ -21,8 +21,8 @@ use Rattle.runs.specs.Levels.{Clear, clear-less, plain-level, Nested, nested-le
 use Rattle.report_found.specs.Finds.{Inside}
 use Rattle.report_found.proofs.Laws.{wide, in-units}
 use Rattle.report_first.specs.First.{Lent}
-use Rattle.report_fast.specs.Fast.{Reach, Ready, Good}
-use Rattle.report_fast.proofs.Laws.{inside, by-group, taken-good}
+use Rattle.report_fast_laws.specs.Fast.{Reach, Ready, Good}
+use Rattle.report_fast_laws.specs.Laws.{inside, by-group, taken-good}
 
 -- ---- groups one in the other
 

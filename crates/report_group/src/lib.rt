@@ -15,7 +15,7 @@ ghost use Rattle.laws.specs.Levels.{level};
 ghost use Rattle.runs.specs.Plain.{groupAt, letterAt};
 ghost use Rattle.runs.specs.Levels.{Clear};
 ghost use Rattle.report_first.specs.First.{Lent};
-ghost use Rattle.report_fast.specs.Fast.{Reach, Ready, Good};
+ghost use Rattle.report_fast_laws.specs.Fast.{Reach, Ready, Good};
 
 // The contents of a small group that ends in front of another unit.
 fn inside_accepted(

@@ -1,41 +1,17 @@
-// The item at a unit of a stream, of either form: its frame, and its verdict, whatever it is. The general way: it needs no table but
-// those of the registry and the alphabet, and every other way to a verdict is proved against the same definition. Positions count
-// units, and places within the judging sextets.
+// The verdict on the item at a unit of a stream, of either form, whatever it is. The general way: it needs no table but those of the
+// registry and the alphabet, and every other way to a verdict is proved against the same definition. Positions count units, and places
+// within the judging sextets.
 use format::Form;
 use format::Framed;
 use format::Verdict;
 use judging::MAX_DEPTH;
 ghost use mathlib.Core.Path.{_≡_};
-ghost use Prim.Native.Nat.{_*_, _/_, _<_};
-ghost use lib.ListN.{drop};
+ghost use Prim.Native.Nat.{_<_};
 ghost use Rattle.format.specs.Units.{domain};
-ghost use Rattle.format.specs.Framing.{frameRuled};
 ghost use Rattle.format.specs.Report.{placed};
 ghost use Rattle.laws.specs.Levels.{level};
 ghost use Rattle.report_found.specs.Finds.{Inside};
 ghost use Rattle.report_item.specs.Items.{Whole, Judges};
-
-// The item at a unit, framed as at top level; past the end nothing is.
-pub fn framed(form: Form, s: &[u8], at: usize) -> Framed
-    ensures { λ r. ⌜ r ≡ frameRuled (domain form .sextets (drop (domain form .unit * at) (now (s .entry)))) ⌝ }
-{
-    if report_units::units(form, s.len()) < at {
-        return Framed::Unframed {
-            number: 4,
-            place: 0,
-        };
-    }
-    match form {
-        Form::Text => {
-            let from = 4 * at;
-            framing::frame_ruled_text(&s[from..])
-        }
-        Form::Binary => {
-            let from = 3 * at;
-            framing::frame_ruled_binary(&s[from..])
-        }
-    }
-}
 
 // ---- the items of a group
 

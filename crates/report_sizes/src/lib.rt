@@ -100,7 +100,7 @@ pub fn size(
             }
         }
     }
-    size_of(report_item::framed(form, s, at))
+    size_of(report_frame::framed(form, s, at))
 }
 
 // ---- items behind it that begin alike, and so have its size

@@ -24,8 +24,8 @@ use Rattle.runs.specs.Runs.{Run}
 use Rattle.report_found.specs.Finds.{Inside}
 use Rattle.report_found.proofs.Laws.{wide}
 use Rattle.report_first.specs.First.{Lent}
-use Rattle.report_fast.specs.Fast.{Good}
-use Rattle.report_fast.proofs.Laws.{taken-good}
+use Rattle.report_fast_laws.specs.Fast.{Good}
+use Rattle.report_fast_laws.specs.Laws.{taken-good}
 use Rattle.report_rows.specs.Stores.{put, put-fits, rowWith, runOf, row-long}
 use Rattle.report_alike.specs.Alike.{in-elements}
 use Rattle.report_filling.specs.Filling.{filled-good, filled-run}

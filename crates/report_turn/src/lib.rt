@@ -11,7 +11,7 @@ ghost use Rattle.format.specs.Units.{domain};
 ghost use Rattle.runs.specs.Plain.{groupAt};
 ghost use Rattle.runs.specs.Levels.{Clear};
 ghost use Rattle.report_first.specs.First.{Lent};
-ghost use Rattle.report_fast.specs.Fast.{Good};
+ghost use Rattle.report_fast_laws.specs.Fast.{Good};
 ghost use Rattle.report_general.specs.Turns.{Placed, Turned};
 ghost use Rattle.report_turn.specs.Turns.{Turns};
 

@@ -25,11 +25,11 @@ use Rattle.format.specs.Reading.{valueAt, textAt, textAnswer, readText, valueLe
 use Rattle.laws.specs.Conversion.{text-back as text-there}
 use Rattle.laws.specs.Domains.{text-reader, binary-reader}
 use Rattle.laws.specs.Values.{text-bytes, binary-bytes, raw-inside}
-use Rattle.roundtrip.specs.Bytes.{bytes-length, binary-length}
-use Rattle.roundtrip.specs.Own.{Own}
-use Rattle.roundtrip.specs.Reads.{read-own}
-use Rattle.roundtrip.specs.Counts.{has-lead}
-use Rattle.roundtrip.specs.Writes.{own-writes}
+use Rattle.roundtrip_laws.specs.Bytes.{bytes-length, binary-length}
+use Rattle.roundtrip_laws.specs.Own.{Own}
+use Rattle.roundtrip_laws.specs.Reads.{read-own}
+use Rattle.roundtrip_laws.specs.Counts.{has-lead}
+use Rattle.roundtrip_laws.specs.Writes.{own-writes}
 use Rattle.roundtrip.specs.Sextets.{reads-written}
 use Rattle.roundtrip.specs.Claims.{Given, tagGiven, textGiven, Reads, Tells, BinaryReads, TextReads, WritesBack}
 

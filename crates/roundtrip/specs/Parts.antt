@@ -17,9 +17,9 @@ use Rattle.format.specs.Alphabet.{charOf}
 use Rattle.format.specs.Registry.{isType, isText}
 use Rattle.format.specs.Values.{rawStart, textIn}
 use Rattle.format.specs.Reading.{codeOf, primitiveOf, partAt}
-use Rattle.roundtrip.specs.Own.{Own}
-use Rattle.roundtrip.specs.Words.{fixed-text, counted-text}
-use Rattle.roundtrip.specs.Reads.{read-own}
+use Rattle.roundtrip_laws.specs.Own.{Own}
+use Rattle.roundtrip_laws.specs.Words.{fixed-text, counted-text}
+use Rattle.roundtrip_laws.specs.Reads.{read-own}
 use Rattle.roundtrip.specs.Calls.{From, binary-from, text-from}
 use Rattle.roundtrip.specs.Spelling.{type-small, same-letter}
 use Rattle.roundtrip.specs.Claims.{typeOf, EmptyPart, TextParts}

@@ -19,8 +19,6 @@ use Rattle.roundtrip.specs.Sextets as S
 use Rattle.roundtrip.specs.Calls as C
 use Rattle.roundtrip.specs.Claims.{Given, textGiven, itemOf, Accepts, BinaryAccepts}
 use Rattle.roundtrip.specs.Claims.{TextAccepts, binaryBuffer, textBuffer, BinaryReads, TextReads}
-use Rattle.roundtrip.specs.Limits.{limits}
-use Rattle.roundtrip.specs.Orders.{orders}
 use Rattle.roundtrip.specs.Spelling.{spelling}
 use Rattle.roundtrip.specs.Parts.{text-parts}
 use Rattle.roundtrip.specs.Claims.{WrittenReads, WrittenConverts, ReadWrites, RoundTrip}
@@ -125,8 +123,6 @@ proved = record {
   written-reads = written-reads;
   written-converts = written-converts;
   read-writes = read-writes;
-  limits = limits;
-  orders = orders;
   spelling = spelling;
   text-parts = text-parts;
 }

@@ -1,6 +1,6 @@
 -- There and back on the sextets of a stream, in either form. Assumes nothing.
 use Prim.Native.Nat.{ℕ, suc, _*_, _/_, _%_, _≤_}
-use mathlib.Core.Path.{_≡_, ap, _∙_, sym}
+use mathlib.Core.Path.{_≡_, refl, ap, _∙_, sym}
 use mathlib.Core.List.{List, [], _∷_, _++_}
 use mathlib.Core.Bool.{true}
 use native.Mathlib.Omega.{arith}
@@ -24,12 +24,12 @@ use Rattle.format.specs.Writing.{Named, unknown, row, variable, textual, named,
 use Rattle.format.specs.Writing.{isNamed, isFit, isShort, charsOf, charsFor, beginsRight, unitsOf}
 use Rattle.format.specs.Writing.{textOutcome, binaryOutcome, writeText, writeBinary}
 use Rattle.laws.specs.Conversion.{length-to-text, binary-to-text-sextets, text-below, binary-back, no-stranger, all-known}
-use Rattle.roundtrip.specs.Bytes.{bytes-length, bytes-in-below, sextets-join, sextets-back}
-use Rattle.roundtrip.specs.Own.{Own}
-use Rattle.roundtrip.specs.Reads.{own-reads, read-own}
-use Rattle.roundtrip.specs.Words.{nameOf, Made}
-use Rattle.roundtrip.specs.Writes.{own-named, own-writes, text-fits, made, made-code}
-use Rattle.roundtrip.specs.Claims.{Given, tagGiven, itemOf, Accepts, Reads, WritesBack}
+use Rattle.roundtrip_laws.specs.Bytes.{bytes-length, bytes-in-below, sextets-join, sextets-back}
+use Rattle.roundtrip_laws.specs.Own.{Own}
+use Rattle.roundtrip_laws.specs.Reads.{own-reads, read-own}
+use Rattle.roundtrip_laws.specs.Words.{nameOf, charsIn, Made}
+use Rattle.roundtrip_laws.specs.Writes.{own-named, own-writes, text-fits, made, made-code}
+use Rattle.roundtrip.specs.Claims.{Given, tagGiven, textFor, itemOf, Accepts, Reads, WritesBack}
 
 -- ---- what an accepted write says
 
@@ -92,6 +92,12 @@ counted (textual k) tag tags raw e h = (rw (text-fits k tags (length raw) e .0),
 
 -- ---- what is written, then read
 
+chars-are : (name : Named) (raw : List ℕ) → charsIn name raw ≡ textFor name raw
+chars-are unknown raw = refl
+chars-are (row c) raw = refl
+chars-are (variable t h) raw = refl
+chars-are (textual h) raw = refl
+
 module _ (u room n : ℕ) (g : Given) (w : Accepts u g room n) where
   fits : Accepted u (named (g .code)) (g .tag) (g .tags) (g .raw) room n
   fits = accepted u (named (g .code)) (g .tag) (g .tags) (g .raw) room n w
@@ -138,7 +144,7 @@ module _ (u room n : ℕ) (g : Given) (w : Accepts u g room n) where
         code-back = item .code ∙ made-code (g .code) (fits .known);
         tag-back = ap (tagOf (item .kind)) front ∙ item .tagged;
         raw-back = ap (valueOf (item .kind) (item .head)) front ∙ item .value;
-        text-back = ap (textIn (item .kind) (item .head)) front ∙ item .text;
+        text-back = ap (textIn (item .kind) (item .head)) front ∙ (item .text ∙ chars-are (named (g .code)) (g .raw));
       }
 
   pub binary-reads : (rest : List ℕ) → Reads (binarySextets (itemOf g ++ rest)) g n

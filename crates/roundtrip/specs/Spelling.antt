@@ -28,12 +28,12 @@ use Rattle.format.specs.Values.{bytesIn, valueOf, tagOf}
 use Rattle.format.specs.Reading.{codeOf, tagsOf, primitiveOf, found, reading, padded, readText, valueLeft, readBinary, charsLeft, partAt}
 use Rattle.format.specs.Writing.{Named, unknown, row, variable, textual, countFor, unitsOf, named, writtenBytes}
 use Rattle.laws.specs.Alphabet.{sextet-char}
-use Rattle.roundtrip.specs.Bytes.{below-any, sextets-back}
-use Rattle.roundtrip.specs.Rows.{type-low}
-use Rattle.roundtrip.specs.Own.{Headed, small, large, Own}
-use Rattle.roundtrip.specs.Words.{nameOf}
-use Rattle.roundtrip.specs.Reads.{read-own}
-use Rattle.roundtrip.specs.Writes.{own-named, own-writes}
+use Rattle.roundtrip_laws.specs.Bytes.{below-any, sextets-back}
+use Rattle.roundtrip_laws.specs.Rows.{type-low}
+use Rattle.roundtrip_laws.specs.Own.{Headed, small, large, Own}
+use Rattle.roundtrip_laws.specs.Words.{nameOf}
+use Rattle.roundtrip_laws.specs.Reads.{read-own}
+use Rattle.roundtrip_laws.specs.Writes.{own-named, own-writes}
 use Rattle.roundtrip.specs.Sextets.{reads-written}
 use Rattle.roundtrip.specs.Calls.{From, value-length, text-short, binary-short, text-from, text-back, text-whole, text-value}
 use Rattle.roundtrip.specs.Calls.{binary-from, binary-back, binary-value}

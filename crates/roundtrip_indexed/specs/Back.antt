@@ -14,7 +14,7 @@ use Rattle.format.specs.declared.Kind.the-variants.{Indexed}
 use Rattle.format.specs.Registry.{indexChars, indexHead}
 use Rattle.format.specs.Values.{bytesIn, rawStart, rawOf, indexOf, ondexOf}
 use Rattle.format.specs.Indexed.{indexedRawSize, fitsIndexed, indexCode, indexHeader, indexPrefix}
-use Rattle.roundtrip.specs.Bytes.{Quad, quad, quad-of, bytes-length}
+use Rattle.roundtrip_laws.specs.Bytes.{Quad, quad, quad-of, bytes-length}
 use Rattle.roundtrip_indexed.specs.Rows.{Spread, whole, half, Facts}
 use Rattle.roundtrip_indexed.specs.Fronts.{whole-front, half-front, four-bits}
 use Rattle.roundtrip_indexed.specs.Own.{Own}

@@ -26,7 +26,7 @@ use Rattle.format.specs.Indexed.{codeOfRow, indexedOf, readingIndexed, textInde
 use Rattle.format.specs.Indexed.{binaryIndexedAnswer, readIndexedBinary, indexedPart}
 use Rattle.laws.specs.Conversion.{text-back as text-there}
 use Rattle.laws.specs.Domains.{text-reader}
-use Rattle.roundtrip.specs.Bytes.{bytes-length, binary-length}
+use Rattle.roundtrip_laws.specs.Bytes.{bytes-length, binary-length}
 use Rattle.roundtrip.specs.Calls.{text-length, binary-own, text-own, part-at}
 use Rattle.roundtrip_indexed.specs.Rows.{Spread, whole, half}
 use Rattle.roundtrip_indexed.specs.Own.{Own}

@@ -16,7 +16,7 @@ use Rattle.format.specs.declared.Opening.the-variants.{Unknown, Short, Long, La
 use Rattle.format.specs.Registry.{indexHead, indexedRow, indexedBy, indexedOpening}
 use Rattle.format.specs.Framing.{sextet}
 use Rattle.format.specs.Indexed.{indexCode}
-use Rattle.roundtrip.specs.Bytes.{Quad, quad}
+use Rattle.roundtrip_laws.specs.Bytes.{Quad, quad}
 use Rattle.roundtrip_indexed.specs.Rows.{Facts, Finds, index-finds}
 
 -- ---- the code's sextets

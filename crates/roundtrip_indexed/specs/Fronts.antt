@@ -13,8 +13,8 @@ use Rattle.base.specs.Digits.{Below, none, more, below-take, below-drop, below-
 use Rattle.format.specs.Units.{binarySextets}
 use Rattle.format.specs.Judging.{zeroBits}
 use Rattle.format.specs.Values.{bytesIn}
-use Rattle.roundtrip.specs.Bytes.{Quad, quad, quad-of, below-any, bytes-join, bytes-length, sextets-back}
-use Rattle.roundtrip.specs.Prefix.{front, list2}
+use Rattle.roundtrip_laws.specs.Bytes.{Quad, quad, quad-of, below-any, bytes-join, bytes-length, sextets-back}
+use Rattle.roundtrip_laws.specs.Prefix.{front, list2}
 
 -- a front of k whole units, and n bytes more
 front-and : (k n : ℕ) (p t : List ℕ) → length p ≡ k * 4 → take (3 * k + n) (bytesIn (p ++ t)) ≡ bytesIn p ++ take n (bytesIn t)

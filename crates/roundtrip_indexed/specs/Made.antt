@@ -21,8 +21,8 @@ use Rattle.format.specs.Indexed.{indexedRawSize, fitsIndexed, indexCode, indexH
 use Rattle.laws.specs.Conversion.{binary-below}
 use Rattle.laws.specs.Values.{binary-bytes}
 use Rattle.laws.specs.Levels.{take-of-drop}
-use Rattle.roundtrip.specs.Bytes.{Quad, quad, quad-of, below-any, bytes-length, binary-length, bytes-in-below}
-use Rattle.roundtrip.specs.Prefix.{no-bits}
+use Rattle.roundtrip_laws.specs.Bytes.{Quad, quad, quad-of, below-any, bytes-length, binary-length, bytes-in-below}
+use Rattle.roundtrip_laws.specs.Prefix.{no-bits}
 use Rattle.roundtrip_indexed.specs.Rows.{Spread, whole, half, Facts}
 use Rattle.roundtrip_indexed.specs.Fronts.{whole-front, half-front, four-bits}
 use Rattle.roundtrip_indexed.specs.Own.{Own}

@@ -27,8 +27,8 @@ use Rattle.format.specs.Reading.{found, judged}
 use Rattle.format.specs.Indexed.{readIndexedFramed, readingIndexed, indexCode}
 use Rattle.laws.specs.Scan.{scan-below}
 use Rattle.laws.specs.Framing.{Known, known-by, known-next, Good, Lawful, by-good}
-use Rattle.roundtrip.specs.Bytes.{Quad, quad, quad-of}
-use Rattle.roundtrip.specs.Reads.{Lows, known-low, fits, both-accept, passes, shifted, low-scan, own-low}
+use Rattle.roundtrip_laws.specs.Bytes.{Quad, quad, quad-of}
+use Rattle.roundtrip_laws.specs.Reads.{Lows, known-low, fits, both-accept, passes, shifted, low-scan, own-low}
 use Rattle.roundtrip_indexed.specs.Rows.{Facts}
 use Rattle.roundtrip_indexed.specs.Own.{Own}
 use Rattle.roundtrip_indexed.specs.Codes.{code-opens, Says, opening-says}

@@ -29,7 +29,7 @@ use Rattle.format.specs.Writing as W
 use Rattle.format.specs.Indexed.{codeOfRow, readingIndexed, IndexNamed, none, row, namedIndex, fitsIndexed, writingIndexed, indexedBytes}
 use Rattle.format.specs.Indexed.{writtenIndexed, writeIndexedText, writeIndexedBinary}
 use Rattle.laws.specs.Conversion.{length-to-text, binary-to-text-sextets, text-below, binary-back, no-stranger}
-use Rattle.roundtrip.specs.Bytes.{sextets-join}
+use Rattle.roundtrip_laws.specs.Bytes.{sextets-join}
 use Rattle.roundtrip_indexed.specs.Rows.{Facts, Names, index-names}
 use Rattle.roundtrip_indexed.specs.Own.{Own}
 use Rattle.roundtrip_indexed.specs.Reads.{Read, own-reads, read-own}

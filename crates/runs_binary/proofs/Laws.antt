@@ -15,23 +15,30 @@ use Rattle.laws.specs.Domains.{binary-reader}
 use Rattle.laws.specs.Local.{binary-sextet}
 use Rattle.runs.specs.Plain.{groupOf, opensBy, unitBy, groupAt, marksAt}
 use Rattle.runs.specs.Units.{unit-at, unit-past}
+use Rattle.runs_binary.specs.Bytes.{UnitBytes}
 use Rattle.runs_value.specs.Values.{unitNumber, isSelector, valuedOf, other-valued, numberAt, valuedAt}
 
 abbrev Bytes : List ℕ → Type 0
 Bytes s = (i : ℕ) → getD s i 0 < 256
 
+-- the bytes of a unit, by what is known of all
+pub unit-bytes : (s : List ℕ) (at : ℕ) → Bytes s → UnitBytes s at (getD s (3 * at) 0) (getD s (3 * at + 1) 0) (getD s (3 * at + 2) 0)
+unit-bytes s at b =
+    record { first = refl; second = refl; third = refl; first-byte = b (3 * at); second-byte = b (3 * at + 1); third-byte = b (3 * at + 2) }
+
 module _ (f : ℕ → ℕ → ℕ → ℕ → ℕ) (s : List ℕ) (at : ℕ) where
-  pub binary-unit : at < length s / 3 → Bytes s
-      → f (getD s (3 * at) 0 / 4) (getD s (3 * at) 0 % 4 * 16 + getD s (3 * at + 1) 0 / 16) (getD s (3 * at + 1) 0 % 16 * 4 + getD s (3 * at + 2) 0 / 64)
-      (getD s (3 * at + 2) 0 % 64) ≡ unitBy f (binarySextets s) at
+  pub binary-unit : at < length s / 3 → {x y z : ℕ} → UnitBytes s at x y z
+      → f (x / 4) (x % 4 * 16 + y / 16) (y % 16 * 4 + z / 64) (z % 64) ≡ unitBy f (binarySextets s) at
   binary-unit h b =
       let z : 4 * at + 0 ≡ 4 * at = omega arith in
       let d0 = rw z at (binary-sextet s at 0 h (omega arith)) in
-      let x = b (3 * at) in
-      let y = b (3 * at + 1) in
-      let w = b (3 * at + 2) in
       unit-at f (binarySextets s) at (rw (binary-reader .units s) h) (omega (arith, d0)) (omega (arith, binary-sextet s at 1 h (omega arith)))
       (omega (arith, binary-sextet s at 2 h (omega arith))) (omega (arith, binary-sextet s at 3 h (omega arith)))
+
+  -- its sextets in the middle by calls
+  pub binary-four : at < length s / 3 → {x y z : ℕ} → UnitBytes s at x y z → (c d : ℕ) → c ≡ x % 4 * 16 + y / 16 → d ≡ y % 16 * 4 + z / 64
+      → f (x / 4) c d (z % 64) ≡ unitBy f (binarySextets s) at
+  binary-four h b c d k l = rw (k, l) (binary-unit h b)
 
   pub binary-past : length s / 3 ≤ at → 0 ≡ unitBy f (binarySextets s) at
   binary-past h = unit-past f (binarySextets s) at (rw (binary-reader .units s) h)
@@ -52,17 +59,14 @@ group-bytes x y z h =
     rw n (either (eqb (x / 4) 62) (isGroup (x % 4 * 16 + y / 16)) (isIndexed (x % 4 * 16 + y / 16)) (1 + (y % 16 * 256 + z)))
 
 module _ (s : List ℕ) (at : ℕ) where
-  pub open-unit : at < length s / 3 → Bytes s → {x y z : ℕ} → x ≡ getD s (3 * at) 0 → y ≡ getD s (3 * at + 1) 0 → z ≡ getD s (3 * at + 2) 0 → (o : Bool)
-      → o ≡ opensBy (x / 4) (x % 4 * 16 + y / 16) → pick o (1 + (y % 16 * 256 + z)) 0 ≡ groupAt (binarySextets s) at
-  open-unit h b p q r o e = rw (e, p, q, r) (sym (group-bytes _ _ (getD s (3 * at + 2) 0) (b (3 * at + 2))) ∙ binary-unit groupOf s at h b)
+  pub open-unit : at < length s / 3 → {x y z : ℕ} → UnitBytes s at x y z → (o : Bool) → o ≡ opensBy (x / 4) (x % 4 * 16 + y / 16)
+      → pick o (1 + (y % 16 * 256 + z)) 0 ≡ groupAt (binarySextets s) at
+  open-unit h b o e = rw e (sym (group-bytes _ _ _ (b .third-byte)) ∙ binary-unit groupOf s at h b)
 
-  pub marks-unit : at < length s / 3 → Bytes s → ltb (getD s (3 * at) 0 % 4 * 16 + getD s (3 * at + 1) 0 / 16) 3 ≡ marksAt (binarySextets s) at
+  pub marks-unit : at < length s / 3 → {b : ℕ} → b ≡ unitBy (λ a b c d. b) (binarySextets s) at → ltb b 3 ≡ marksAt (binarySextets s) at
   unfolding marksAt isOverrideable
-  marks-unit h b =
-      let x = b (3 * at) in
-      let y = b (3 * at + 1) in
-      let z = b (3 * at + 2) in
-      let l : getD s (3 * at) 0 % 4 * 16 + getD s (3 * at + 1) 0 / 16 ≡ sextet (binarySextets s) (4 * at + 1) = omega (arith, binary-sextet s at 1 h (omega arith)) in
+  marks-unit h e =
+      let l = e ∙ sym (unit-at (λ a b c d. b) (binarySextets s) at (rw (binary-reader .units s) h) refl refl refl refl) in
       rw (binary-reader .units s, lt-ltb _ _ h) (ap (λ (m : ℕ). ltb m 3) l)
 
   pub marks-past : length s / 3 ≤ at → false ≡ marksAt (binarySextets s) at
@@ -75,19 +79,17 @@ number-bytes : (x y z : ℕ) → y < 256 → z < 256
     → (x * 256 + y) * 256 + z ≡ unitNumber (x / 4) (x % 4 * 16 + y / 16) (y % 16 * 4 + z / 64) (z % 64)
 number-bytes x y z h l = omega arith
 
-module _ (s : List ℕ) (at : ℕ) (h : at < length s / 3) (b : Bytes s) where
-  pub number-unit : {x y z : ℕ} → x ≡ getD s (3 * at) 0 → y ≡ getD s (3 * at + 1) 0 → z ≡ getD s (3 * at + 2) 0
-      → (x * 256 + y) * 256 + z ≡ numberAt (binarySextets s) at
-  number-unit p q r = rw (p, q, r) (number-bytes _ _ _ (b (3 * at + 1)) (b (3 * at + 2)) ∙ binary-unit unitNumber s at h b)
+module _ (s : List ℕ) (at : ℕ) where
+  pub number-unit : at < length s / 3 → {x y z : ℕ} → UnitBytes s at x y z → (x * 256 + y) * 256 + z ≡ numberAt (binarySextets s) at
+  number-unit h b = number-bytes _ _ _ (b .second-byte) (b .third-byte) ∙ binary-unit unitNumber s at h b
 
-  pub binary-valued : (v : ℕ) → v ≡ numberAt (binarySextets s) (at + 1) → (x y z : ℕ) → x ≡ getD s (3 * at) 0 → y ≡ getD s (3 * at + 1) 0
-      → z ≡ getD s (3 * at + 2) 0 → (c d : ℕ) → c ≡ x % 4 * 16 + y / 16 → d ≡ y % 16 * 4 + z / 64 → (r : ℕ) → r ≡ valuedOf v (x / 4) c d (z % 64)
-      → r ≡ valuedAt (binarySextets s) at
-  binary-valued v e x y z p q t c d k l r w =
-      w ∙ rw (k, l, p, q, t, e) (binary-unit (valuedOf (numberAt (binarySextets s) (at + 1))) s at h b)
+  -- of four sextets of which each rule says what it says of the unit
+  pub binary-valued : {a b c d v r : ℕ} → v ≡ numberAt (binarySextets s) (at + 1)
+      → ((f : ℕ → ℕ → ℕ → ℕ → ℕ) → f a b c d ≡ unitBy f (binarySextets s) at) → r ≡ valuedOf v a b c d → r ≡ valuedAt (binarySextets s) at
+  binary-valued e u w = w ∙ rw e (u (valuedOf (numberAt (binarySextets s) (at + 1))))
 
   -- none under `4` `5` `6`
-  pub binary-other : (y : Bool) → y ≡ isSelector (getD s (3 * at) 0 / 4) → y ≡ false → 0 ≡ valuedAt (binarySextets s) at
-  binary-other y e f =
+  pub binary-other : at < length s / 3 → Bytes s → (y : Bool) → y ≡ isSelector (getD s (3 * at) 0 / 4) → y ≡ false → 0 ≡ valuedAt (binarySextets s) at
+  binary-other h b y e f =
       other-valued (numberAt (binarySextets s) (at + 1)) _ _ _ _ (sym e ∙ f)
-      ∙ binary-unit (valuedOf (numberAt (binarySextets s) (at + 1))) s at h b
+      ∙ binary-unit (valuedOf (numberAt (binarySextets s) (at + 1))) s at h (unit-bytes s at b)

@@ -32,13 +32,15 @@ module _ (f : ℕ → ℕ → ℕ → ℕ → ℕ) (values s : List ℕ) (at : �
 
 -- ---- a small variable value
 
-module _ (values s : List ℕ) (at : ℕ) (h : at < length s / 4) (a : ℕ) (p : a ≡ getD values (getD s (4 * at) 0) 0) where
-  pub text-valued : (v b c d r : ℕ) → v ≡ numberAt (sextetsBy values s) (at + 1) → b ≡ getD values (getD s (4 * at + 1) 0) 0
-      → c ≡ getD values (getD s (4 * at + 2) 0) 0 → d ≡ getD values (getD s (4 * at + 3) 0) 0 → r ≡ valuedOf v a b c d → r ≡ valuedAt (sextetsBy values s) at
-  text-valued v b c d r e q t u w = w ∙ rw e (text-unit (valuedOf (numberAt (sextetsBy values s) (at + 1))) values s at h p q t u)
+module _ (values s : List ℕ) (at : ℕ) where
+  -- of four sextets of which each rule says what it says of the unit
+  pub text-valued : {a b c d v r : ℕ} → v ≡ numberAt (sextetsBy values s) (at + 1)
+      → ((f : ℕ → ℕ → ℕ → ℕ → ℕ) → f a b c d ≡ unitBy f (sextetsBy values s) at) → r ≡ valuedOf v a b c d → r ≡ valuedAt (sextetsBy values s) at
+  text-valued e u w = w ∙ rw e (u (valuedOf (numberAt (sextetsBy values s) (at + 1))))
 
   -- none under `4` `5` `6`
-  pub text-other : (y : Bool) → y ≡ isSelector a → y ≡ false → 0 ≡ valuedAt (sextetsBy values s) at
-  text-other y e f =
-      other-valued (numberAt (sextetsBy values s) (at + 1)) a _ _ _ (sym e ∙ f)
+  pub text-other : at < length s / 4 → {a : ℕ} → a ≡ getD values (getD s (4 * at) 0) 0 → (y : Bool) → y ≡ isSelector a → y ≡ false
+      → 0 ≡ valuedAt (sextetsBy values s) at
+  text-other h p y e f =
+      other-valued (numberAt (sextetsBy values s) (at + 1)) _ _ _ _ (sym e ∙ f)
       ∙ text-unit (valuedOf (numberAt (sextetsBy values s) (at + 1))) values s at h p refl refl refl

@@ -2,9 +2,9 @@
 // groups, and which of these stand one in the other; where indexed items stand, these; and what it decides with the unit behind it: small
 // variable values. Whether a character is known is not asked.
 ghost use mathlib.Core.Path.{_≡_};
-ghost use Prim.Native.Nat.{_/_, _<_};
+ghost use Prim.Native.Nat.{ℕ, _/_, _<_};
 ghost use lib.ListN.{length, getD};
-ghost use Rattle.runs.specs.Plain.{sizedAt, plainAt, groupBy, marksBy, nestedAt, sextetsBy};
+ghost use Rattle.runs.specs.Plain.{sizedAt, plainAt, groupBy, marksBy, nestedAt, unitBy, sextetsBy};
 ghost use Rattle.runs_value.specs.Values.{numberAt, valuedAt};
 ghost use Rattle.runs_indexed.specs.Indexed.{indexedAt};
 
@@ -22,6 +22,28 @@ fn value(values: &[u8; 256], s: &[u8], i: usize) -> u8
     values[wide(s[i])]
 }
 
+// The four sextets of the unit at a position.
+struct Sextets {
+    a: u8,
+    b: u8,
+    c: u8,
+    d: u8,
+}
+
+// Of which each rule of a first unit says what it says of the unit.
+fn unit(values: &[u8; 256], s: &[u8], at: usize) -> Sextets
+    requires { ⌜ at < length (now s) / 4 ⌝ }
+    ensures { λ r. ⌜ ((f : ℕ → ℕ → ℕ → ℕ → ℕ) → f (r .a) (r .b) (r .c) (r .d) ≡ unitBy f (sextetsBy (now (values .entry)) (now (s .entry))) at) ⌝ }
+{
+    let i = 4 * at;
+    Sextets {
+        a: value(values, s, i),
+        b: value(values, s, i + 1),
+        c: value(values, s, i + 2),
+        d: value(values, s, i + 3),
+    }
+}
+
 // The size in units of the item whose header is the unit at a position, or 0.
 pub fn sized_text(values: &[u8; 256], rows: &[u16; 192], s: &[u8], at: usize) -> usize
     ensures { λ r. ⌜ r ≡ sizedAt (now (rows .entry)) (sextetsBy (now (values .entry)) (now (s .entry))) at ⌝ }
@@ -29,14 +51,8 @@ pub fn sized_text(values: &[u8; 256], rows: &[u16; 192], s: &[u8], at: usize) ->
     if s.len() / 4 <= at {
         return 0;
     }
-    let i = 4 * at;
-    runs::sized(
-        rows,
-        value(values, s, i),
-        value(values, s, i + 1),
-        value(values, s, i + 2),
-        value(values, s, i + 3),
-    )
+    let u = unit(values, s, at);
+    runs::sized(rows, u.a, u.b, u.c, u.d)
 }
 
 // The same of a plain primitive.
@@ -46,14 +62,8 @@ pub fn plain_text(values: &[u8; 256], rows: &[u16; 192], s: &[u8], at: usize) ->
     if s.len() / 4 <= at {
         return 0;
     }
-    let i = 4 * at;
-    runs::plain(
-        rows,
-        value(values, s, i),
-        value(values, s, i + 1),
-        value(values, s, i + 2),
-        value(values, s, i + 3),
-    )
+    let u = unit(values, s, at);
+    runs::plain(rows, u.a, u.b, u.c, u.d)
 }
 
 // The unit at a position as a number; 0 past the end.
@@ -63,13 +73,8 @@ fn number_text(values: &[u8; 256], s: &[u8], at: usize) -> usize
     if s.len() / 4 <= at {
         return 0;
     }
-    let i = 4 * at;
-    runs_value::number(
-        value(values, s, i),
-        value(values, s, i + 1),
-        value(values, s, i + 2),
-        value(values, s, i + 3),
-    )
+    let u = unit(values, s, at);
+    runs_value::number(u.a, u.b, u.c, u.d)
 }
 
 // The size of a small variable value, by its header and the unit behind it, or 0.
@@ -79,17 +84,10 @@ pub fn valued_text(values: &[u8; 256], s: &[u8], at: usize) -> usize
     if s.len() / 4 <= at {
         return 0;
     }
-    let i = 4 * at;
-    let a = value(values, s, i);
-    if runs_value::is_selector(a) {
+    if runs_value::is_selector(value(values, s, 4 * at)) {
         let v = number_text(values, s, at + 1);
-        return runs_value::valued(
-            v,
-            a,
-            value(values, s, i + 1),
-            value(values, s, i + 2),
-            value(values, s, i + 3),
-        );
+        let u = unit(values, s, at);
+        return runs_value::valued(v, u.a, u.b, u.c, u.d);
     }
     0
 }
@@ -101,13 +99,8 @@ pub fn indexed_text(values: &[u8; 256], s: &[u8], at: usize) -> usize
     if s.len() / 4 <= at {
         return 0;
     }
-    let i = 4 * at;
-    runs_indexed::indexed(
-        value(values, s, i),
-        value(values, s, i + 1),
-        value(values, s, i + 2),
-        value(values, s, i + 3),
-    )
+    let u = unit(values, s, at);
+    runs_indexed::indexed(u.a, u.b, u.c, u.d)
 }
 
 // By the characters themselves, which saves look-ups: 45 is `-`.

@@ -1,7 +1,7 @@
 // A unit by value: four characters or three bytes, and the four sextets that both are. A function that reads a table is lent it,
 // since naming a constant table copies it.
 ghost use mathlib.Core.Path.{_≡_};
-ghost use Prim.Native.Nat.{_<_};
+ghost use Prim.Native.Nat.{_+_, _*_, _<_};
 ghost use lib.ListN.{getD};
 ghost use Rattle.format.specs.Units.{bytesOf, sextetsOf, tripletBy, quadletBy};
 
@@ -11,11 +11,26 @@ fn wide(x: u8) -> u32
     x as u32
 }
 
+// A number with a sextet behind it, and with a byte.
+fn with_sextet(n: u32, x: u8) -> u32
+    requires { ⌜ n < 4194304 ⌝ }
+    ensures { λ r. ⌜ (r ≡ n * 64 + x) × (r < n * 64 + 256) ⌝ }
+{
+    n * 64 + wide(x)
+}
+
+fn with_byte(n: u32, x: u8) -> u32
+    requires { ⌜ n < 65536 ⌝ }
+    ensures { λ r. ⌜ (r ≡ n * 256 + x) × (r < n * 256 + 256) ⌝ }
+{
+    n * 256 + wide(x)
+}
+
 // Four sextets as three bytes.
 pub fn pack(q: [u8; 4]) -> [u8; 3]
     ensures { λ r. ⌜ r ≡ bytesOf q ⌝ }
 {
-    let n = ((wide(q[0]) * 64 + wide(q[1])) * 64 + wide(q[2])) * 64 + wide(q[3]);
+    let n = with_sextet(with_sextet(with_sextet(wide(q[0]), q[1]), q[2]), q[3]);
     [
         (n / 65536 % 256) as u8,
         (n / 256 % 256) as u8,
@@ -27,7 +42,7 @@ pub fn pack(q: [u8; 4]) -> [u8; 3]
 pub fn unpack(t: [u8; 3]) -> [u8; 4]
     ensures { λ r. ⌜ r ≡ sextetsOf t ⌝ }
 {
-    let n = (wide(t[0]) * 256 + wide(t[1])) * 256 + wide(t[2]);
+    let n = with_byte(with_byte(wide(t[0]), t[1]), t[2]);
     [
         (n / 262144 % 64) as u8,
         (n / 4096 % 64) as u8,

@@ -22,11 +22,11 @@ use instalments::TextPause;
 use libc::STDIN_FILENO;
 use recorded::number;
 use recorded::wide;
-use walk_count::BinaryEnd;
-use walk_count::TextEnd;
 use walk_state::BinaryItem;
 use walk_state::TextItem;
 use walk_state::Walk;
+use walk_tally::BinaryEnd;
+use walk_tally::TextEnd;
 ghost use mathlib.Core.Path.{_≡_};
 ghost use Prim.Native.Nat.{_≤_};
 ghost use lib.ListN.{length};
@@ -248,7 +248,7 @@ fn step(call: u8, stream: &[u8], before: [usize; STATE]) {
 fn read_step_text(stream: &[u8], before: Walk) {
     let step = reader_step::step_text(stream, before);
     let found = step.found;
-    let state = exports_values::state_of(step.next);
+    let state = exports_state::state_of(step.next);
     match found {
         TextItem::Item {
             offset,
@@ -257,7 +257,7 @@ fn read_step_text(stream: &[u8], before: Walk) {
             kind,
             head,
         } => {
-            let item = exports_values::item_of(offset.0, size.0, depth, kind, head);
+            let item = exports_item::item_of(offset.0, size.0, depth, kind, head);
             show_step(11, 0, 0, state, item);
         }
         TextItem::Refused { number, place } => show_step(11, number, place.0, state, [170; 6]),
@@ -269,7 +269,7 @@ fn read_step_text(stream: &[u8], before: Walk) {
 fn read_step_binary(stream: &[u8], before: Walk) {
     let step = reader_step::step_binary(stream, before);
     let found = step.found;
-    let state = exports_values::state_of(step.next);
+    let state = exports_state::state_of(step.next);
     match found {
         BinaryItem::Item {
             offset,
@@ -278,7 +278,7 @@ fn read_step_binary(stream: &[u8], before: Walk) {
             kind,
             head,
         } => {
-            let item = exports_values::item_of(offset.0, size.0, depth, kind, head);
+            let item = exports_item::item_of(offset.0, size.0, depth, kind, head);
             show_step(12, 0, 0, state, item);
         }
         BinaryItem::Refused { number, place } => show_step(12, number, place.0, state, [170; 6]),
@@ -325,7 +325,7 @@ fn through_reader(call: u8, stream: &[u8], before: [usize; STATE]) {
     if !is_state(before) {
         return;
     }
-    let walk = exports_values::walk_of(before);
+    let walk = exports_state::walk_of(before);
     if call == 9 {
         read_step_text(stream, walk);
     } else {
@@ -380,10 +380,10 @@ fn walk_on(call: u8, stream: &[u8], before: [usize; STATE], budget: usize) {
 }
 
 fn walk_on_text(stream: &[u8], before: Walk, budget: usize) {
-    let walked = instalments::walk_on_text(before, stream, budget);
+    let walked = instalments_walk::walk_on_text(before, stream, budget);
     let pause = walked.pause;
     let items = walked.items;
-    let state = exports_values::state_of(walked.next);
+    let state = exports_state::state_of(walked.next);
     match pause {
         TextPause::Spent => show_slice(15, 0, 0, items, state),
         TextPause::End => show_slice(15, 255, 0, items, state),
@@ -392,10 +392,10 @@ fn walk_on_text(stream: &[u8], before: Walk, budget: usize) {
 }
 
 fn walk_on_binary(stream: &[u8], before: Walk, budget: usize) {
-    let walked = instalments::walk_on_binary(before, stream, budget);
+    let walked = instalments_walk::walk_on_binary(before, stream, budget);
     let pause = walked.pause;
     let items = walked.items;
-    let state = exports_values::state_of(walked.next);
+    let state = exports_state::state_of(walked.next);
     match pause {
         BinaryPause::Spent => show_slice(16, 0, 0, items, state),
         BinaryPause::End => show_slice(16, 255, 0, items, state),
@@ -414,7 +414,7 @@ fn walk_on_from(call: u8, src: &[u8], budget: usize) {
     if !is_state(before) {
         return;
     }
-    let walk = exports_values::walk_of(before);
+    let walk = exports_state::walk_of(before);
     if call == 13 {
         walk_on_text(stream, walk, budget);
         return;

@@ -8,7 +8,7 @@ use native.Mathlib.Numerals.{sub-one}
 use native.Mathlib.Omega.{arith}
 use lib.Dec.{ltb, leb, eqb}
 use lib.ListN.{length, getD}
-use borrow.Author.Tests.{lt-ltb, le-ltb, le-leb, lt-leb, ne-eqb, ltb-true, ltb-false, leb-true, eqb-false}
+use borrow.Author.Tests.{lt-ltb, le-ltb, le-leb, ne-eqb, ltb-true, ltb-false, leb-true, eqb-false}
 use Rattle.base.specs.Pick.{pick, pick-by}
 use Rattle.base.specs.Cases.{lt-or-ge}
 use Rattle.format.specs.declared.Form.{Form}
@@ -16,8 +16,9 @@ use Rattle.format.specs.Units.{domain}
 use Rattle.format.specs.Judging.{maxDepth}
 use Rattle.walk_state.specs.declared.Walk.{Walk}
 use Rattle.walk_state.specs.Walking.{allBelow, slotFits, isFit, stopOf}
-use Rattle.walk.specs.declared.Extent.{Extent}
-use Rattle.walk.specs.Stepping.{unitsIn, Fits, Measured, Near, isNear}
+use Rattle.walk_extent.specs.declared.Extent.{Extent}
+use Rattle.walk_extent.specs.Extent.{unitsIn, Measured, isNear}
+use Rattle.walk.specs.Stepping.{Fits, Near}
 
 both : (b x : Bool) → pick b x false ≡ true → (b ≡ true) × (x ≡ true)
 both true x h = (refl, h)
@@ -86,26 +87,6 @@ module _ (w : Walk) (n : ℕ) (h : isFit w n ≡ true) where
       (λ e. omega (arith, ltb-true (w .at) (getD (w .ends) (w .depth - 1) 0) (rw e at (tests .3))))
 
 -- ---- where the next item is looked for
-
--- the test, as the code goes
-module _ (w : Walk) (e : Extent) where
-  pub near-over : e .over ≡ true → false ≡ isNear w e
-  unfolding isNear
-  near-over o = rw o
-
-  module _ (o : e .over ≡ false) where
-    pub near-many : maxDepth < w .depth → false ≡ isNear w e
-    unfolding isNear
-    near-many h = rw (o, lt-leb _ _ h)
-
-    module _ (few : w .depth ≤ maxDepth) {stop : ℕ} (s : stop ≡ stopOf w (e .units)) where
-      pub near-behind : stop < w .at → false ≡ isNear w e
-      unfolding isNear
-      near-behind h = rw (o, le-leb _ _ few, ← s, lt-leb _ _ h)
-
-      pub near-last : w .at ≤ stop → leb stop (e .units) ≡ isNear w e
-      unfolding isNear
-      near-last h = rw (o, le-leb _ _ few, ← s, le-leb _ _ h)
 
 pub fit-near : (form : Form) (xs : List ℕ) (w : Walk) → Fits form xs w → {n : ℕ} → n ≡ unitsIn (domain form) xs → Near form xs n w
 fit-near form xs w f {n} e =

@@ -4,9 +4,9 @@ use mathlib.Core.Path.{_≡_, refl, sym, ap, _∙_}
 use mathlib.Core.Bool.{Bool, true, false}
 use mathlib.Core.List.{List}
 use mathlib.Core.Logic.{⊎-elim}
-use Prim.Native.Nat.{ℕ, _+_, _-_, _*_, _/_, _%_, _<_, _≤_}
+use Prim.Native.Nat.{ℕ, _+_, _-_, _*_, _≤_}
 use native.Mathlib.Omega.{arith}
-use lib.Dec.{ltb, eqb}
+use lib.Dec.{eqb}
 use lib.ListN.{length, take}
 use borrow.Author.Tests.{eq-eqb, ne-eqb, ltb-false, le-ltb, eqb-true, eqb-false}
 use Rattle.base.specs.Pick.{pick, pick-by}
@@ -19,7 +19,7 @@ use Rattle.format.specs.declared.Verdict.{Verdict}
 use Rattle.format.specs.declared.Verdict.the-variants.{Accepted, Refused}
 use Rattle.format.specs.declared.Form.{Form}
 use Rattle.format.specs.declared.Form.the-variants.{Text, Binary}
-use Rattle.format.specs.Units.{Domain, domain}
+use Rattle.format.specs.Units.{domain}
 use Rattle.format.specs.Framing.{frameNext}
 use Rattle.format.specs.Judging.{maxDepth}
 use Rattle.laws.specs.Domains.{reader}
@@ -38,9 +38,10 @@ use Rattle.walk_state.specs.Moving.{stepOver}
 use Rattle.walk_state.specs.Lent.{walkAt, Moves}
 use Rattle.walk_state.proofs.Laws.{steps-into, steps-past}
 use Rattle.walk_state.proofs.Lent.{own-moved}
-use Rattle.walk.specs.declared.Extent.{Extent}
+use Rattle.walk_extent.specs.declared.Extent.{Extent}
+use Rattle.walk_extent.specs.Extent.{unitsIn, Measured}
 use Rattle.walk.specs.declared.Moved.{Moved}
-use Rattle.walk.specs.Stepping.{isAsked, placeOf, foundBy, inElements, isItem, Steps, partStep, unitsIn, Fits, reach, Slotted, Ready, Spans, Near, Measured, InReach}
+use Rattle.walk.specs.Stepping.{isAsked, placeOf, foundBy, inElements, isItem, Steps, partStep, Fits, reach, Slotted, Ready, Spans, Near, InReach}
 
 -- ---- the next state
 

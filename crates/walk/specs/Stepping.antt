@@ -1,16 +1,16 @@
 -- What the step's functions answer, in the shape of the code: proofs/Steps shows that Walking's steps are made of them. Assumes nothing.
-use Prim.Native.Nat.{ℕ, _+_, _-_, _*_, _/_, _%_, _≤_, _<_}
+use Prim.Native.Nat.{ℕ, _+_, _-_, _*_, _≤_, _<_}
 use mathlib.Core.Path.{_≡_}
 use mathlib.Core.List.{List}
 use mathlib.Core.Bool.{Bool, true, false}
 use lib.ListN.{length}
-use lib.Dec.{ltb, leb, eqb}
+use lib.Dec.{eqb}
 use Rattle.base.specs.Pick.{pick}
 use Rattle.format.specs.declared.Kind.{Kind}
 use Rattle.format.specs.declared.Framed.{Framed}
 use Rattle.format.specs.declared.Framed.the-variants.{Item, Unframed}
 use Rattle.format.specs.declared.Form.{Form}
-use Rattle.format.specs.Units.{Domain, domain, text}
+use Rattle.format.specs.Units.{domain, text}
 use Rattle.format.specs.Judging.{maxDepth}
 use Rattle.report_next.specs.Next.{nextOwn, isEntered}
 use Rattle.walk_state.specs.declared.Walk.{Walk}
@@ -20,7 +20,7 @@ use Rattle.walk_state.specs.declared.Found.the-variants as F
 use Rattle.walk_state.specs.declared.Stepped.{Stepped}
 use Rattle.walk_state.specs.Walking.{isFit, nextOf, stopOf, foundIn}
 use Rattle.walk_state.specs.Lent.{Moves}
-use Rattle.walk.specs.declared.Extent.{Extent}
+use Rattle.walk_extent.specs.Extent.{unitsIn}
 use Rattle.walk.specs.declared.Moved.{Moved}
 
 -- 7 is asked at top level, and where the mark is set
@@ -54,13 +54,6 @@ pub record Steps (before after : List ℕ) (r : Moved) (t : Stepped) : Type 0 wh
   pub found : r .found ≡ t .found
   pub kept : isItem (r .found) ≡ false → after ≡ before
 
--- a stream's whole units, and whether elements stand behind them
-abbrev pub unitsIn : Domain → List ℕ → ℕ
-unitsIn d xs = length xs / d .unit
-
-abbrev pub tailIn : Domain → List ℕ → Bool
-tailIn d xs = ltb 0 (length xs % d .unit)
-
 -- neither 1 nor 13
 pub record Fits (form : Form) (xs : List ℕ) (w : Walk) : Type 0 where
   pub few : length xs ≤ domain form .limit
@@ -88,12 +81,6 @@ pub record Spans (form : Form) (xs : List ℕ) (p : Place) (stop : ℕ) : Type 0
   pub room : domain form .unit * stop ≤ length xs
   pub few : length xs ≤ domain form .limit
 
--- what a stream's length says
-pub record Measured (form : Form) (xs : List ℕ) (e : Extent) : Type 0 where
-  pub limit : e .over ≡ ltb (domain form .limit) (length xs)
-  pub units : e .units ≡ unitsIn (domain form) xs
-  pub rest : e .tail ≡ tailIn (domain form) xs
-
 -- a stream within its limit of n whole units, in which the next item's part lies
 pub record Near (form : Form) (xs : List ℕ) (n : ℕ) (w : Walk) : Type 0 where
   pub few : length xs ≤ domain form .limit
@@ -101,12 +88,6 @@ pub record Near (form : Form) (xs : List ℕ) (n : ℕ) (w : Walk) : Type 0 wher
   pub slots : w .depth ≤ maxDepth
   pub order : w .at ≤ stopOf w n
   pub room : stopOf w n ≤ n
-
--- the test of it
-unfoldable pub isNear : Walk → Extent → Bool
-isNear w e =
-    pick (e .over) false
-    (pick (leb (w .depth) maxDepth) (pick (leb (w .at) (stopOf w (e .units))) (leb (stopOf w (e .units)) (e .units)) false) false)
 
 abbrev pub InReach : Found → Type 0
 InReach (F.Item o n d k h) = (o ≤ reach) × (n ≤ reach)

@@ -1,16 +1,12 @@
 // The walk: items at all depths, outer before inner, one a step. A step frames and judges the next item and gives the state behind it.
 // One code serves both forms: a Form goes with the stream, and only what reads a unit looks at it.
-use format::BinaryOffset;
 use format::Form;
 use format::Framed;
-use format::TextOffset;
 use judging::MAX_DEPTH;
-use walk_state::BinaryItem;
 use walk_state::BinaryStep;
 use walk_state::Found;
 use walk_state::Place;
 use walk_state::Stepped;
-use walk_state::TextItem;
 use walk_state::TextStep;
 use walk_state::Walk;
 ghost use mathlib.Core.Path.{_≡_};
@@ -22,21 +18,9 @@ ghost use Rattle.format.specs.Judging.{maxDepth};
 ghost use Rattle.laws.specs.Levels.{part};
 ghost use Rattle.report_next.specs.Next.{nextOwn};
 ghost use Rattle.walk_state.specs.declared.Found.the-variants as Found;
-ghost use Rattle.walk_state.specs.Walking.{stepFit, foundIn, stepIn, textItem, textStep, binaryItem, binaryStep};
+ghost use Rattle.walk_state.specs.Walking.{stepFit, foundIn, stepIn, textStep, binaryStep};
 ghost use Rattle.walk_state.specs.Lent.{walkAt};
-ghost use Rattle.walk.specs.Stepping.{isAsked, foundBy, inElements, Steps, reach, Ready, Spans, isNear, Near, Fits, Measured, InReach};
-
-// The longest streams: 1.
-const MAX_CHARACTERS: usize = 4194304;
-
-const MAX_BYTES: usize = 3145728;
-
-// What a stream's length says: whether it passes the form's limit, its whole units, and whether elements stand behind them.
-pub struct Extent {
-    pub over: bool,
-    pub units: usize,
-    pub tail: bool,
-}
+ghost use Rattle.walk.specs.Stepping.{isAsked, foundBy, inElements, Steps, reach, Ready, Spans, Near, Fits, InReach};
 
 // Where a step in lent slots leads, and what it finds.
 pub struct Moved {
@@ -221,23 +205,6 @@ fn move_near(slots: &mut [usize], p: Place, form: Form, s: &[u8], n: usize, tail
     }
 }
 
-pub fn measured(form: Form, s: &[u8]) -> Extent
-    ensures { λ r. ⌜ Measured form (now (s .entry)) r ⌝ }
-{
-    match form {
-        Form::Text => Extent {
-            over: MAX_CHARACTERS < s.len(),
-            units: s.len() / 4,
-            tail: 0 < s.len() % 4,
-        },
-        Form::Binary => Extent {
-            over: MAX_BYTES < s.len(),
-            units: s.len() / 3,
-            tail: 0 < s.len() % 3,
-        },
-    }
-}
-
 // The next item at any depth, the first refusal or the end, the state's ends in lent slots. Offset, size and place count the stream's
 // elements. Too few slots stay as they are.
 pub fn move_in(slots: &mut [usize], p: Place, form: Form, s: &[u8]) -> Moved
@@ -246,7 +213,7 @@ pub fn move_in(slots: &mut [usize], p: Place, form: Form, s: &[u8]) -> Moved
     if slots.len() < MAX_DEPTH {
         return refused(p, 13);
     }
-    let e = measured(form, s);
+    let e = walk_extent::measured(form, s);
     if e.over {
         return refused(p, 1);
     }
@@ -254,23 +221,6 @@ pub fn move_in(slots: &mut [usize], p: Place, form: Form, s: &[u8]) -> Moved
         return refused(p, 13);
     }
     move_near(slots, p, form, s, e.units, e.tail)
-}
-
-// Whether the next item can be looked for, which a state that fits the stream allows.
-fn is_near(slots: &[usize], p: Place, e: Extent) -> bool
-    ensures { λ r. ⌜ (maxDepth ≤ length (now (slots .entry)) → r ≡ isNear (walkAt (now (slots .entry)) p) e) ⌝ }
-{
-    if e.over {
-        return false;
-    }
-    if MAX_DEPTH < p.depth {
-        return false;
-    }
-    let stop = walk_fit::stop(slots, p, e.units);
-    if stop < p.at {
-        return false;
-    }
-    stop <= e.units
 }
 
 // The same for a caller that has asked 1 and 13 before, so that neither is asked again: of a state that fits a stream within the limit.
@@ -281,8 +231,8 @@ pub fn move_fit(slots: &mut [usize], p: Place, form: Form, s: &[u8]) -> Moved
     if slots.len() < MAX_DEPTH {
         return refused(p, 13);
     }
-    let e = measured(form, s);
-    if !is_near(slots, p, e) {
+    let e = walk_extent::measured(form, s);
+    if !walk_extent::is_near(slots, p, e) {
         return refused(p, 13);
     }
     move_near(slots, p, form, s, e.units, e.tail)
@@ -310,31 +260,6 @@ pub fn step_in(w: Walk, form: Form, s: &[u8]) -> Stepped
 
 // ---- in a form's own offsets
 
-fn text_item(found: Found) -> TextItem
-    ensures { λ r. ⌜ r ≡ textItem found ⌝ }
-{
-    match found {
-        Found::Item {
-            offset,
-            size,
-            depth,
-            kind,
-            head,
-        } => TextItem::Item {
-            offset: TextOffset(offset),
-            size: TextOffset(size),
-            depth,
-            kind,
-            head,
-        },
-        Found::Refused { number, place } => TextItem::Refused {
-            number,
-            place: TextOffset(place),
-        },
-        Found::End => TextItem::End,
-    }
-}
-
 // A step over a text.
 pub fn step_text(w: Walk, s: &[u8]) -> TextStep
     ensures { λ r. ⌜ r ≡ textStep (now (s .entry)) w ⌝ }
@@ -344,32 +269,7 @@ pub fn step_text(w: Walk, s: &[u8]) -> TextStep
     let found = r.found;
     TextStep {
         next,
-        found: text_item(found),
-    }
-}
-
-fn binary_item(found: Found) -> BinaryItem
-    ensures { λ r. ⌜ r ≡ binaryItem found ⌝ }
-{
-    match found {
-        Found::Item {
-            offset,
-            size,
-            depth,
-            kind,
-            head,
-        } => BinaryItem::Item {
-            offset: BinaryOffset(offset),
-            size: BinaryOffset(size),
-            depth,
-            kind,
-            head,
-        },
-        Found::Refused { number, place } => BinaryItem::Refused {
-            number,
-            place: BinaryOffset(place),
-        },
-        Found::End => BinaryItem::End,
+        found: walk_forms::text_item(found),
     }
 }
 
@@ -382,6 +282,6 @@ pub fn step_binary(w: Walk, s: &[u8]) -> BinaryStep
     let found = r.found;
     BinaryStep {
         next,
-        found: binary_item(found),
+        found: walk_forms::binary_item(found),
     }
 }

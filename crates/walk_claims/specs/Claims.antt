@@ -14,7 +14,7 @@ use Rattle.format.specs.Conversion.{toBinary, toText}
 use Rattle.format.specs.Judging.{maxDepth}
 use Rattle.format.specs.Report.{rowsIn, refusalsIn, remainderIn, frameIn, judgeIn}
 use Rattle.claims.specs.Words.{WholeText, WholeBinary}
-use Rattle.claims.specs.Order.{None, Among, Refusal}
+use Rattle.claims_rules.specs.Order.{None, Among, Refusal}
 use Rattle.walk_state.specs.declared.Walk.{Walk}
 use Rattle.walk_state.specs.declared.Found.the-variants as F
 use Rattle.walk_state.specs.Walking.{isFit, stepIn}

@@ -1,5 +1,4 @@
 pub mod Words
-pub mod Deck
 pub mod Claims
 pub mod Fitting
 pub mod Steps

@@ -23,15 +23,15 @@ use Rattle.format.specs.Framing.{isOurs, ruled, sextet, frameBy, frameNext}
 use Rattle.format.specs.Judging.{judgeKind, ownCheck, maxDepth}
 use Rattle.laws.specs.Domains.{Reader}
 use Rattle.laws.specs.Levels.{part, any-item}
-use Rattle.claims.specs.Order.{Rule, _when_, First, None, Among, Refusal}
-use Rattle.claims.specs.Rules.{Told, By, Allowed, skip, behind, in-front, by-none, by-first, refusal}
-use Rattle.claims.specs.Rules.Told.{accepted, told}
-use Rattle.claims.specs.Rules.By.{none, first}
-use Rattle.claims.specs.Rules.Allowed.{end, _&_}
-use Rattle.claims.specs.Conditions as C
-use Rattle.claims.specs.Framed.{framed-found, unframed-first}
-use Rattle.claims.specs.Judged.{Judged, own-judged}
-use Rattle.claims.specs.Judged.Judged.{passes, refuses}
+use Rattle.claims_rules.specs.Order.{Rule, _when_, First, None, Among, Refusal}
+use Rattle.claims_rules.specs.Rules.{Told, By, Allowed, skip, behind, in-front, by-none, by-first, refusal}
+use Rattle.claims_rules.specs.Rules.Told.{accepted, told}
+use Rattle.claims_rules.specs.Rules.By.{none, first}
+use Rattle.claims_rules.specs.Rules.Allowed.{end, _&_}
+use Rattle.claims_rules.specs.Conditions as C
+use Rattle.claims_rules.specs.Framed.{framed-found, unframed-first}
+use Rattle.claims_rules.specs.Judged.{Judged, own-judged}
+use Rattle.claims_rules.specs.Judged.Judged.{passes, refuses}
 use Rattle.walk_state.specs.declared.Walk.{Walk}
 use Rattle.walk_state.specs.declared.Found.{Found}
 use Rattle.walk_state.specs.declared.Found.the-variants as F

@@ -13,7 +13,7 @@ use Rattle.format.specs.Conversion.{toBinary, toText}
 use Rattle.format.specs.Report.{rowsIn, remainderIn, frameIn, judgeIn}
 use Rattle.laws.specs.Domains.{Reader, text-reader, binary-reader}
 use Rattle.claims.specs.Demand2.{binary-whole, text-whole, text-same, binary-same}
-use Rattle.claims.specs.Order.{Among}
+use Rattle.claims_rules.specs.Order.{Among}
 use Rattle.walk_state.specs.declared.Walk.{Walk}
 use Rattle.walk_state.specs.declared.Found.the-variants as F
 use Rattle.walk_state.specs.Walking.{stepIn}

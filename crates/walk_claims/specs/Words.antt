@@ -23,8 +23,8 @@ use Rattle.format.specs.Judging.{shift, andThen, isShortest, maxDepth}
 use Rattle.format.specs.Report.{ItemRow, RemainderRow, frameIn, judgeIn, placed}
 use Rattle.damage.specs.Words.{itemAt}
 use Rattle.claims.specs.Words.{Ratio}
-use Rattle.claims.specs.Order.{Rule, _when_}
-use Rattle.claims.specs.Conditions.{framing, itemKind, itemHead, itemSize, ownRules}
+use Rattle.claims_rules.specs.Order.{Rule, _when_}
+use Rattle.claims_rules.specs.Conditions.{framing, itemKind, itemHead, itemSize, ownRules}
 use Rattle.walk_state.specs.declared.Walk.{Walk}
 use Rattle.walk_state.specs.declared.Found.{Found}
 use Rattle.walk_state.specs.declared.Found.the-variants as F

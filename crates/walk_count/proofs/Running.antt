@@ -16,9 +16,9 @@ use Rattle.walk_state.specs.Walking.{stepIn}
 use Rattle.walk_claims.specs.Words.{unitsIn, Yields, Stops}
 use Rattle.walk_claims.specs.Claims.{StreamClaims}
 use Rattle.walk_claims.specs.Yielding.{of-form, yields-full}
-use Rattle.walk_count.specs.declared.Tally.{Tally}
-use Rattle.walk_count.specs.Counting.{plus, runIn, restIn}
-use Rattle.walk_count.specs.Runs.{run-stopped, run-yields, yields-inside}
+use Rattle.walk_tally.specs.declared.Tally.{Tally}
+use Rattle.walk_tally.specs.Counting.{plus, runIn, restIn}
+use Rattle.walk_tally.specs.Runs.{run-stopped, run-yields, yields-inside}
 
 few : (form : Form) (xs : List ℕ) → unitsIn (domain form) xs ≤ length xs
 few Text xs = omega arith

@@ -1,19 +1,14 @@
 // A walk counted: how many items are left from a state on, and what stops it. One loop serves both forms.
-use format::BinaryOffset;
 use format::Form;
-use format::TextOffset;
 use walk_state::Found;
 use walk_state::Walk;
+use walk_tally::BinaryTally;
+use walk_tally::Tally;
+use walk_tally::TextTally;
 ghost use mathlib.Core.Path.{_≡_};
 ghost use Rattle.format.specs.Units.{domain, text, binary};
 ghost use Rattle.walk_state.specs.Walking.{start};
-ghost use Rattle.walk_count.specs.Counting.{restIn, textEnd, textTally, binaryEnd, binaryTally};
-
-// last: what the step behind the items finds, which is none.
-pub struct Tally {
-    pub items: usize,
-    pub last: Found,
-}
+ghost use Rattle.walk_tally.specs.Counting.{restIn, textTally, binaryTally};
 
 // The items that are left from a state on, and what stops the walk.
 pub fn rest_in(form: Form, s: &[u8], walk: Walk) -> Tally
@@ -49,37 +44,6 @@ pub fn rest_in(form: Form, s: &[u8], walk: Walk) -> Tally
 
 // ---- a text
 
-// How a walk over a text ended.
-pub enum TextEnd {
-    End,
-    Refused { number: u8, place: TextOffset },
-}
-
-pub struct TextTally {
-    pub items: usize,
-    pub end: TextEnd,
-}
-
-// No walk stops at an item.
-fn text_end(last: Found) -> TextEnd
-    ensures { λ r. ⌜ r ≡ textEnd last ⌝ }
-{
-    match last {
-        Found::Item {
-            offset: _,
-            size: _,
-            depth: _,
-            kind: _,
-            head: _,
-        } => TextEnd::End,
-        Found::Refused { number, place } => {
-            let at = TextOffset(place);
-            TextEnd::Refused { number, place: at }
-        }
-        Found::End => TextEnd::End,
-    }
-}
-
 // The items of a text that are left from a state on, and how the walk ends.
 pub fn rest_text(s: &[u8], walk: Walk) -> TextTally
     ensures { λ r. ⌜ r ≡ textTally (restIn text (now (s .entry)) walk) ⌝ }
@@ -88,7 +52,7 @@ pub fn rest_text(s: &[u8], walk: Walk) -> TextTally
     let last = t.last;
     TextTally {
         items: t.items,
-        end: text_end(last),
+        end: walk_tally::text_end(last),
     }
 }
 
@@ -101,36 +65,6 @@ pub fn items_text(s: &[u8]) -> TextTally
 
 // ---- a binary
 
-// How a walk over a binary ended.
-pub enum BinaryEnd {
-    End,
-    Refused { number: u8, place: BinaryOffset },
-}
-
-pub struct BinaryTally {
-    pub items: usize,
-    pub end: BinaryEnd,
-}
-
-fn binary_end(last: Found) -> BinaryEnd
-    ensures { λ r. ⌜ r ≡ binaryEnd last ⌝ }
-{
-    match last {
-        Found::Item {
-            offset: _,
-            size: _,
-            depth: _,
-            kind: _,
-            head: _,
-        } => BinaryEnd::End,
-        Found::Refused { number, place } => {
-            let at = BinaryOffset(place);
-            BinaryEnd::Refused { number, place: at }
-        }
-        Found::End => BinaryEnd::End,
-    }
-}
-
 // The same of a binary.
 pub fn rest_binary(s: &[u8], walk: Walk) -> BinaryTally
     ensures { λ r. ⌜ r ≡ binaryTally (restIn binary (now (s .entry)) walk) ⌝ }
@@ -139,7 +73,7 @@ pub fn rest_binary(s: &[u8], walk: Walk) -> BinaryTally
     let last = t.last;
     BinaryTally {
         items: t.items,
-        end: binary_end(last),
+        end: walk_tally::binary_end(last),
     }
 }
 

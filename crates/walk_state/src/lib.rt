@@ -3,7 +3,7 @@
 use format::BinaryOffset;
 use format::Kind;
 use format::TextOffset;
-use judging::MAX_DEPTH;
+use nesting::MAX_DEPTH;
 ghost use mathlib.Core.Path.{_≡_};
 ghost use Prim.Native.Nat.{_≤_};
 ghost use lib.ListN.{length};

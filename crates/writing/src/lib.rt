@@ -29,7 +29,7 @@ pub fn write_binary(
         }
         Planned::Text(header) => {
             let head = plan.head;
-            writing_text::text_in_binary(header, head, raw, out)
+            writing_packed::text_in_binary(header, head, raw, out)
         }
     }
 }

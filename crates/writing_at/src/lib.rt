@@ -6,15 +6,7 @@ use format::Code;
 use format::TextOffset;
 use format::TextWritten;
 ghost use mathlib.Core.Path.{_≡_};
-ghost use Prim.Native.Nat.{min};
 ghost use Rattle.writing_at.specs.Cursor.{writeTextAt, textLeftAt, writeBinaryAt, binaryLeftAt};
-
-// A cursor past the buffer's end leaves no room.
-fn cursor_in(cursor: usize, len: usize) -> usize
-    ensures { λ r. ⌜ r ≡ min cursor len ⌝ }
-{
-    if cursor < len { cursor } else { len }
-}
 
 // A primitive as binary behind what stands before the cursor; the length written is the next cursor.
 pub fn write_binary_at(
@@ -29,7 +21,7 @@ pub fn write_binary_at(
     ensures { λ _. ⌜ now (out .exit) ≡ binaryLeftAt code tag tags (now (raw .entry)) (now (out .entry)) (cursor .0) ⌝ }
 {
     let from = cursor.0;
-    let at = cursor_in(from, out.len());
+    let at = writing_cursor::cursor_in(from, out.len());
     let written = writing::write_binary(code, tag, tags, raw, &mut out[at..]);
     match written {
         BinaryWritten::Refused(number, place) => BinaryWritten::Refused(number, place),
@@ -50,7 +42,7 @@ pub fn write_text_at(
     ensures { λ _. ⌜ now (out .exit) ≡ textLeftAt code tag tags (now (raw .entry)) (now (out .entry)) (cursor .0) ⌝ }
 {
     let from = cursor.0;
-    let at = cursor_in(from, out.len());
+    let at = writing_cursor::cursor_in(from, out.len());
     let written = writing::write_text(code, tag, tags, raw, &mut out[at..]);
     match written {
         TextWritten::Refused(number, place) => TextWritten::Refused(number, place),

@@ -1,4 +1,4 @@
-// The code that a caller names, whether tag characters and a raw value or a text fit it, and how large its item is: what 6, 12 and 18
+// The code that a caller names, whether tag characters and a raw value or a text fit it, and how large its item is: what 6 and 12
 // ask. A text's characters stand where the raw value does.
 use format::Code;
 use format::CodeRow;
@@ -6,11 +6,9 @@ use format::Kind;
 use format::Opening;
 use format::TextOffset;
 ghost use mathlib.Core.Path.{_≡_};
-ghost use Prim.Native.Nat.{_+_, _<_, _≤_};
-ghost use lib.Dec.{leb};
+ghost use Prim.Native.Nat.{_<_};
 ghost use Rattle.format.specs.Alphabet.{sextetOf};
-ghost use Rattle.format.specs.Texts.{fillFor};
-ghost use Rattle.format.specs.Writing.{named, namedFixed, namedVariable, isNamed, isFit, isShort, rawSize, rawLimit, textLimit, unitsOf};
+ghost use Rattle.format.specs.Writing.{named, namedFixed, namedVariable, isNamed, isFit, rawSize, unitsOf};
 ghost use Rattle.writing_code.specs.Names.{asNamed};
 
 // A code that is a primitive's, or none.
@@ -23,7 +21,7 @@ pub enum Named {
     Textual { head: u8 },
 }
 
-fn wide(x: u8) -> usize
+pub fn wide(x: u8) -> usize
     ensures { λ r. ⌜ (r ≡ x) × (r < 256) ⌝ }
 {
     x as usize
@@ -61,7 +59,7 @@ fn type_of(letter: u8, head: u8) -> Named
     ensures { λ r. ⌜ asNamed r ≡ namedVariable (sextetOf letter) head ⌝ }
 {
     let t = alphabet::sextet(letter);
-    if registry::is_type(t) {
+    if registry_variable::is_type(t) {
         if t == 0 {
             Named::Textual { head }
         } else {
@@ -103,32 +101,9 @@ fn raw_size(c: CodeRow) -> usize
     ensures { λ r. ⌜ r ≡ rawSize c ⌝ }
 {
     let size = c.size;
-    let start = reading_item::fixed_start(c).0;
+    let start = reading_start::fixed_start(c).0;
     let full = offsets::in_binary(TextOffset(wide(size))).0;
     if start < full { full - start } else { 0 }
-}
-
-fn raw_limit(head: u8) -> usize
-    ensures { λ r. ⌜ r ≡ rawLimit head ⌝ }
-{
-    if head == 1 { 12285 } else { 3145722 }
-}
-
-// Of a text with its fill.
-fn text_limit(head: u8) -> usize
-    ensures { λ r. ⌜ (r ≡ textLimit head) × (r ≤ 4194296) ⌝ }
-{
-    if head == 1 { 16380 } else { 4194296 }
-}
-
-fn text_fits(head: u8, chars: usize) -> bool
-    ensures { λ r. ⌜ r ≡ leb (chars + fillFor chars) (textLimit head) ⌝ }
-{
-    let most = text_limit(head);
-    if most < chars {
-        return false;
-    }
-    chars + writing_sizes::fill_for(chars) <= most
 }
 
 pub fn is_fit(n: Named, tags: usize, raw: usize) -> bool
@@ -146,14 +121,14 @@ pub fn is_fit(n: Named, tags: usize, raw: usize) -> bool
         }
         Named::Variable { letter: _, head } => {
             if tags == 0 {
-                raw <= raw_limit(head)
+                raw <= writing_limits::raw_limit(head)
             } else {
                 false
             }
         }
         Named::Textual { head } => {
             if tags == 0 {
-                text_fits(head, raw)
+                writing_limits::text_fits(head, raw)
             } else {
                 false
             }
@@ -174,24 +149,5 @@ pub fn units_of(n: Named, raw: usize) -> usize
         }
         Named::Variable { letter: _, head } => wide(head) + writing_sizes::count_for(raw),
         Named::Textual { head } => wide(head) + writing_sizes::text_count(raw),
-    }
-}
-
-// ---- 18: a large code for a value that the small one holds
-
-pub fn is_short(n: Named, raw: usize) -> bool
-    ensures { λ r. ⌜ r ≡ isShort (asNamed n) raw ⌝ }
-{
-    match n {
-        Named::Unknown => true,
-        Named::Row(_) => true,
-        Named::Variable { letter: _, head } => {
-            let triplets = writing_sizes::count_for(raw);
-            judging_header::is_shortest(wide(head), triplets)
-        }
-        Named::Textual { head } => {
-            let quadlets = writing_sizes::text_count(raw);
-            judging_header::is_shortest(wide(head), quadlets)
-        }
     }
 }

@@ -16,12 +16,13 @@ use Rattle.writing_code.specs.Names.{Able}
 use Rattle.writing_code.proofs.Names.{able}
 use Rattle.writing_head.specs.Heads.{headBytes, WithRaw, WithText, Divided}
 use Rattle.writing_head.proofs.Bytes.{some-units, divided}
-use Rattle.writing_plan.specs.declared.Refusal.{Refusal}
+use Rattle.writing_refusal.specs.declared.Refusal.{Refusal}
 use Rattle.writing_plan.specs.declared.Planned.{Planned}
 use Rattle.writing_plan.specs.declared.Planned.the-variants as P
 use Rattle.writing_plan.specs.declared.Plan.{Plan}
 use Rattle.writing_raw.specs.Item.{roomFor}
-use Rattle.writing_plan.specs.Plan.{charsRefusal, refusalOf, plannedOf, planOf}
+use Rattle.writing_refusal.specs.Refusals.{charsRefusal, refusalOf}
+use Rattle.writing_plan.specs.Plan.{plannedOf, planOf}
 use Rattle.writing_plan.proofs.Refusals.{unrefused, by-refusal, text-clean}
 
 -- ---- how it is made

@@ -1,14 +1,13 @@
--- Format's writing, refused or not: all that is known of the numbers before 3 and their order. Assumes nothing.
+-- Format's writing, refused or not, by the refusal that comes before 3. Assumes nothing.
 use mathlib.Core.Path.{_≡_, refl}
-use mathlib.Core.List.{List, [], _∷_}
+use mathlib.Core.List.{List}
 use mathlib.Core.Bool.{Bool, true, false, not}
 use mathlib.Core.Logic.{⊎-elim}
-use Prim.Native.Nat.{ℕ, _<_, _≤_}
+use Prim.Native.Nat.{ℕ, _≤_}
 use native.Mathlib.Omega.{arith}
-use borrow.Author.Tests.{lt-ltb, le-ltb, ltb-false, ne-eqb}
+use borrow.Author.Tests.{ltb-false, ne-eqb}
 use lib.Dec.{ltb, eqb}
 use lib.ListN.{length, take, getD}
-use lib.Seq.{getD-take}
 use Rattle.base.specs.Pick.{pick}
 use Rattle.base.specs.Cases.{whether}
 use Rattle.format.specs.Alphabet.{sextetOf, strangerNumber}
@@ -19,48 +18,9 @@ use Rattle.format.specs.Writing.{Named, isNamed, isFit, isShort, charsOf, chars
 use Rattle.format.specs.Writing.Named.{unknown, row, variable, textual}
 use Rattle.format.specs.Writing.Writing.{refused}
 use Rattle.laws.specs.Alphabet.{number-some}
-use Rattle.writing_plan.specs.declared.Refusal.{Refusal}
+use Rattle.writing_refusal.specs.declared.Refusal.{Refusal}
 use Rattle.writing_raw.specs.Item.{roomFor}
-use Rattle.writing_plan.specs.Plan.{refusal, tagRefusal, textRefusal, charsRefusal, refusalOf}
-
--- ---- the characters, case by case
-
-module _ (tag : List ℕ) (tags i : ℕ) (e : i ≡ firstStranger (take tags tag)) where
-  pub tag-strange : i < tags → refusal (strangerNumber (sextetOf (getD tag i 0))) i ≡ tagRefusal tag tags
-  unfolding tagRefusal firstNumber
-  tag-strange h = rw (← e, lt-ltb i tags h, getD-take tags tag i 0 h)
-
-  pub tag-none : tags ≤ i → refusal 0 0 ≡ tagRefusal tag tags
-  unfolding tagRefusal
-  tag-none h = rw (← e, le-ltb i tags h)
-
-module _ (chars : List ℕ) (i : ℕ) (e : i ≡ firstStranger chars) where
-  pub text-strange : i < length chars → refusal (strangerNumber (sextetOf (getD chars i 0))) i ≡ textRefusal chars
-  unfolding textRefusal firstNumber
-  text-strange h = rw (← e, lt-ltb i (length chars) h)
-
-  pub text-filled : length chars ≤ i → fills 1 (textSextets chars) ≡ true → refusal 16 0 ≡ textRefusal chars
-  unfolding textRefusal
-  text-filled h b = rw (← e, le-ltb i (length chars) h, b)
-
-  pub text-none : length chars ≤ i → fills 1 (textSextets chars) ≡ false → refusal 0 0 ≡ textRefusal chars
-  unfolding textRefusal
-  text-none h b = rw (← e, le-ltb i (length chars) h, b)
-
--- an `A` in front of a text
-pub not-filled : (chars : List ℕ) → length chars ≡ 0 → false ≡ fills 1 (textSextets chars)
-unfolding fills textSextets
-not-filled [] e = refl
-not-filled (c ∷ chars) e = absurd (omega arith)
-
-same-test : (b : Bool) → b ≡ pick b true false
-same-test true = refl
-same-test false = refl
-
-pub first-fills : (chars : List ℕ) (v : ℕ) → (length chars ≡ 0 → ⊥) → v ≡ sextetOf (getD chars 0 0) → eqb v 0 ≡ fills 1 (textSextets chars)
-unfolding fills textSextets
-first-fills [] v h e = absurd (h refl)
-first-fills (c ∷ chars) v h e = rw e (same-test (eqb (sextetOf c) 0))
+use Rattle.writing_refusal.specs.Refusals.{refusal, tagRefusal, textRefusal, charsRefusal, refusalOf}
 
 -- ---- format's last tests
 
@@ -104,28 +64,6 @@ by-tests true true false r w = refl
 by-tests true true true r w = refl
 
 module _ (n : Named) (tag : List ℕ) (tags : ℕ) (raw : List ℕ) where
-  -- ---- case by case
-
-  pub is-unknown : isNamed n ≡ false → refusal 6 0 ≡ refusalOf n tag tags raw
-  unfolding refusalOf
-  is-unknown a = rw a
-
-  module _ (a : isNamed n ≡ true) where
-    pub is-unfit : isFit n tags (length raw) ≡ false → refusal 12 0 ≡ refusalOf n tag tags raw
-    unfolding refusalOf
-    is-unfit b = rw (a, b)
-
-    module _ (b : isFit n tags (length raw) ≡ true) where
-      pub is-long : isShort n (length raw) ≡ false → refusal 18 0 ≡ refusalOf n tag tags raw
-      unfolding refusalOf
-      is-long c = rw (a, b, c)
-
-      pub is-short : isShort n (length raw) ≡ true → charsRefusal n tag tags raw ≡ refusalOf n tag tags raw
-      unfolding refusalOf
-      is-short c = rw (a, b, c)
-
-  -- ---- what there is to write
-
   -- what is not refused fits, and its characters are not refused
   pub unrefused : refusalOf n tag tags raw .number ≡ 0 → (isFit n tags (length raw) ≡ true) × (charsRefusal n tag tags raw .number ≡ 0)
   unfolding refusalOf

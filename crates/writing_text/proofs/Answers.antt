@@ -1,4 +1,4 @@
--- The answers of an item that a text ends, and what the buffer holds then: 3, or the item. Assumes nothing.
+-- The answers of an item that a text ends, in text, and what the buffer holds then: 3, or the item. Assumes nothing.
 use mathlib.Core.Path.{_≡_, refl, _∙_}
 use mathlib.Core.List.{List, _++_}
 use Prim.Native.Nat.{ℕ, _+_, _*_, _<_, _≤_}
@@ -7,49 +7,30 @@ use borrow.Author.Tests.{lt-ltb, le-ltb}
 use lib.ListN.{length, take, drop}
 use lib.Seq.{length-take-le}
 use Rattle.format.specs.declared.TextWritten.the-variants as T
-use Rattle.format.specs.declared.BinaryWritten.the-variants as B
-use Rattle.format.specs.Offsets.{textOffset, binaryOffset}
-use Rattle.format.specs.Texts.{fillFor, textCount}
+use Rattle.format.specs.Offsets.{textOffset}
+use Rattle.format.specs.Texts.{textCount}
 use Rattle.format.specs.Values.{bytesIn}
-use Rattle.format.specs.Conversion.{toText, toBinary, firstStranger}
-use Rattle.format.specs.Writing.{filled, textOutcome, binaryOutcome}
-use Rattle.writing_head.specs.Heads.{TextSized}
-use Rattle.writing_raw.specs.Item.{roomFor, binaryIn, textIn}
-use Rattle.writing_text.specs.Filled.{filledText, textItem}
-use Rattle.writing_text.proofs.Filled.{filled-bytes, filled-text}
+use Rattle.format.specs.Conversion.{toText, firstStranger}
+use Rattle.format.specs.Writing.{filled, textOutcome}
+use Rattle.writing_raw.specs.Item.{roomFor, textIn}
+use Rattle.writing_fill.specs.Filled.{filledText, textItem}
+use Rattle.writing_fill.proofs.Filled.{filled-text}
 use Rattle.writing_raw.proofs.Buffers.{text-append}
 
 module _ (h : ℕ) (head chars d : List ℕ) (count : ℕ) (e : count ≡ textCount (length chars)) where
   abbrev units : ℕ
   units = h + textCount (length chars)
 
-  pub binary-none : length d < (h + count) * 3
-      → (B.Refused 3 0 ≡ binaryOutcome (roomFor 3 units (length d))) × (d ≡ binaryIn (roomFor 3 units (length d)) (textItem h head chars) d)
-  unfolding binaryOutcome
-  binary-none r = rw (lt-ltb _ _ (rw e at r)) (refl, refl)
-
   pub text-none : length d < (h + count) * 4
       → (T.Refused 3 0 ≡ textOutcome (roomFor 4 units (length d))) × (d ≡ textIn (roomFor 4 units (length d)) (textItem h head chars) d)
   unfolding textOutcome
   text-none r = rw (lt-ltb _ _ (rw e at r)) (refl, refl)
-
-  pub binary-some : (h + count) * 3 ≤ length d → B.Written (binaryOffset ((h + count) * 3)) ≡ binaryOutcome (roomFor 3 units (length d))
-  unfolding binaryOutcome
-  binary-some r = rw (le-ltb _ _ (rw e at r), e)
 
   pub text-some : (h + count) * 4 ≤ length d → T.Written (textOffset ((h + count) * 4)) ≡ textOutcome (roomFor 4 units (length d))
   unfolding textOutcome
   text-some r = rw (le-ltb _ _ (rw e at r), e)
 
   -- what is written is the item
-
-  pub binary-held : (d′ : List ℕ) → (h + count) * 3 ≤ length d
-      → d′ ≡ take (h * 3) head ++ toBinary (filledText chars) ++ drop (h * 3 + 3 * textCount (length chars)) d
-      → d′ ≡ binaryIn (roomFor 3 units (length d)) (textItem h head chars) d
-  binary-held d′ r f =
-      let m : h * 3 ≡ 3 * h = omega arith in
-      let z : h * 3 + 3 * textCount (length chars) ≡ units * 3 = omega arith in
-      rw (le-ltb _ _ (rw e at r)) (f ∙ rw (z, m, filled-bytes chars))
 
   pub text-held : (d′ : List ℕ) → h ≤ 2 → length head ≡ 9 → length chars ≤ firstStranger chars → (h + count) * 4 ≤ length d
       → d′ ≡ toText (take (h * 3) head) ++ filledText chars ++ drop (h * 4 + 4 * textCount (length chars)) d
@@ -59,8 +40,3 @@ module _ (h : ℕ) (head chars d : List ℕ) (count : ℕ) (e : count ≡ textCo
       let z : h * 4 + 4 * textCount (length chars) ≡ units * 4 = omega arith in
       let l = length-take-le (3 * h) head (omega arith) in
       rw (le-ltb _ _ (rw e at r), text-append (take (3 * h) head) (bytesIn (filled chars)) (omega arith), filled-text chars clean) (f ∙ rw (z, m))
-
--- a text within a stream's limit
-pub text-short : (chars h : ℕ) → TextSized chars h → chars ≤ 4194304
-unfolding textCount fillFor
-text-short chars h s = omega (arith, s .few)

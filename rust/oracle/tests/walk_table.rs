@@ -5,7 +5,7 @@ use oracle::form::Form;
 use oracle::registry::Code;
 use oracle::walk::{step, Found, Walk};
 
-const TABLE: &str = include_str!("../../../crates/walk_claims/specs/Deck.antt");
+const TABLE: &str = include_str!("../../../crates/walk_deck/specs/Deck.antt");
 
 /// A term of a row: a word, or terms in brackets.
 #[derive(Debug)]

@@ -8,7 +8,7 @@ use Rattle.format.specs.Conversion.{binaryLeft}
 use Rattle.laws.specs.Offsets.{in-binary-is}
 use Rattle.convert_pack.proofs.Left.{stranger-left, no-room-left, written-left}
 use Rattle.convert.proofs.Answers.{text-long, text-torn, text-stranger, text-no-room, text-converted}
-use Rattle.alphabet.proofs.number_at.Reads as number-at-reads
+use Rattle.alphabet_numbers.proofs.number_at.Reads as number-at-reads
 use borrow.Author.Needs.{needs}
 use Rattle.convert.proofs.text_to_binary.Statement.{statement}
 use Rattle.convert.proofs.text_to_binary.Tie as tie

@@ -1,5 +1,5 @@
 -- `put_characters` meets its contract: the first j entries of the row are put. Assumes nothing.
-use mathlib.Core.Path.{_≡_, ap}
+use mathlib.Core.Path.{_≡_}
 use Prim.Native.Nat.{ℕ, _+_, _*_, _-_, _≤_}
 use native.Mathlib.Omega.{arith}
 use lib.ListN.{getD}
@@ -18,23 +18,17 @@ abbrev μ-loop : tie.MeasureT-loop
 loop-holds : tie.Need-loop-holds Inv-loop μ-loop
 loop-holds c = (search needs, row-none 4096 (c .args .at) _ (c .args .table .now) (c .pre .0))
 
-element-copy-out-wide : tie.Need-element-copy-out-wide Inv-loop μ-loop
-element-copy-out-wide c = search needs
+element-copy-out-pair : tie.Need-element-copy-out-pair Inv-loop μ-loop
+element-copy-out-pair c = search needs
 
-wide-requires : tie.Need-wide-requires Inv-loop μ-loop
-wide-requires c κs = search needs
-
-mul-table : tie.Need-mul-table Inv-loop μ-loop
-mul-table c = search needs
+pair-requires : tie.Need-pair-requires Inv-loop μ-loop
+pair-requires c κs = search needs
 
 add-table : tie.Need-add-table Inv-loop μ-loop
 add-table c = search needs
 
-add-table-2 : tie.Need-add-table-2 Inv-loop μ-loop
-add-table-2 c = search needs
-
-mul-table-2 : tie.Need-mul-table-2 Inv-loop μ-loop
-mul-table-2 c = search needs
+mul-table : tie.Need-mul-table Inv-loop μ-loop
+mul-table c = search needs
 
 element-write-table : tie.Need-element-write-table Inv-loop μ-loop
 element-write-table c = search needs
@@ -50,8 +44,8 @@ loop-again c =
     let l = c .before .before .before in
     let a = l .before .args in (
       search needs,
-      row-more 4096 (a .at) (l .loop .j) (a .first + c .wide .result * 256) (λ k. a .first + getD (a .characters .now) k 0 * 256) (a .table .now) (l .loop .table) (omega arith)
-          (ap (λ (x : ℕ). a .first + x * 256) (c .wide .ensures .0)) (l .loop .inv .1),
+      row-more 4096 (a .at) (l .loop .j) (c .pair .result) (λ k. a .first + getD (a .characters .now) k 0 * 256) (a .table .now) (l .loop .table) (omega arith)
+          (c .pair .ensures) (l .loop .inv .1),
     )
 
 returns : tie.Need-returns Inv-loop μ-loop
@@ -67,12 +61,10 @@ put-characters-spec =
     Inv-loop
     μ-loop
     loop-holds
-    element-copy-out-wide
-    wide-requires
-    mul-table
+    element-copy-out-pair
+    pair-requires
     add-table
-    add-table-2
-    mul-table-2
+    mul-table
     element-write-table
     add-j
     loop-less

@@ -1,5 +1,5 @@
 -- `put_row` meets its contract: the first i entries of the row are put. Assumes nothing.
-use mathlib.Core.Path.{_≡_, ap}
+use mathlib.Core.Path.{_≡_}
 use Prim.Native.Nat.{ℕ, _+_, _*_, _-_, _≤_}
 use native.Mathlib.Omega.{arith}
 use lib.ListN.{getD}
@@ -18,26 +18,20 @@ abbrev μ-loop : tie.MeasureT-loop
 loop-holds : tie.Need-loop-holds Inv-loop μ-loop
 loop-holds c = (search needs, row-none 19790 (c .args .at) _ (c .args .table .now) (c .pre .0))
 
-add-wide : tie.Need-add-wide Inv-loop μ-loop
-add-wide c = search needs
+add-twelve : tie.Need-add-twelve Inv-loop μ-loop
+add-twelve c = search needs
 
-element-copy-out-wide : tie.Need-element-copy-out-wide Inv-loop μ-loop
-element-copy-out-wide c = search needs
+element-copy-out-twelve : tie.Need-element-copy-out-twelve Inv-loop μ-loop
+element-copy-out-twelve c = search needs
 
-wide-requires : tie.Need-wide-requires Inv-loop μ-loop
-wide-requires c κs = search needs
-
-mul-table : tie.Need-mul-table Inv-loop μ-loop
-mul-table c = search needs
+twelve-requires : tie.Need-twelve-requires Inv-loop μ-loop
+twelve-requires c κs = search needs
 
 add-table : tie.Need-add-table Inv-loop μ-loop
 add-table c = search needs
 
-add-table-2 : tie.Need-add-table-2 Inv-loop μ-loop
-add-table-2 c = search needs
-
-mul-table-2 : tie.Need-mul-table-2 Inv-loop μ-loop
-mul-table-2 c = search needs
+mul-table : tie.Need-mul-table Inv-loop μ-loop
+mul-table c = search needs
 
 element-write-table : tie.Need-element-write-table Inv-loop μ-loop
 element-write-table c = search needs
@@ -53,8 +47,8 @@ loop-again c =
     let l = c .before .before .before in
     let a = l .before .args in (
       search needs,
-      row-more 19790 (a .at) (l .loop .i) (c .wide .result * 64 + a .low) (λ k. getD (a .values .now) (k + 45) 0 * 64 + a .low) (a .table .now) (l .loop .table) (omega arith)
-          (ap (λ (x : ℕ). x * 64 + a .low) (c .wide .ensures .0)) (l .loop .inv .1),
+      row-more 19790 (a .at) (l .loop .i) (c .twelve .result) (λ k. getD (a .values .now) (k + 45) 0 * 64 + a .low) (a .table .now) (l .loop .table) (omega arith)
+          (c .twelve .ensures) (l .loop .inv .1),
     )
 
 returns : tie.Need-returns Inv-loop μ-loop
@@ -70,13 +64,11 @@ put-row-spec =
     Inv-loop
     μ-loop
     loop-holds
-    add-wide
-    element-copy-out-wide
-    wide-requires
-    mul-table
+    add-twelve
+    element-copy-out-twelve
+    twelve-requires
     add-table
-    add-table-2
-    mul-table-2
+    mul-table
     element-write-table
     add-i
     loop-less

@@ -6,11 +6,11 @@ use Rattle.exports.proofs.cesr_compare.Tie as tie
 compare-requires : tie.Need-compare-requires
 compare-requires c κs = search needs
 
-counts-of-requires : tie.Need-counts-of-requires
-counts-of-requires c κs = search needs
+compared-requires : tie.Need-compared-requires
+compared-requires c κs = search needs
 
 returns : tie.Need-returns
-returns c = rw (← (c .before .compare .ensures)) (search needs, c .counts-of .ensures)
+returns c = rw (← (c .before .before .compare .ensures)) (c .compared .ensures)
 
 pub cesr-compare-spec : {M : Type 1} → statement M
-cesr-compare-spec = tie.close (tie.spec compare-requires counts-of-requires returns)
+cesr-compare-spec = tie.close (tie.spec compare-requires compared-requires returns)

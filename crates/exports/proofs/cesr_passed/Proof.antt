@@ -6,11 +6,11 @@ use Rattle.exports.proofs.cesr_passed.Tie as tie
 passed-requires : tie.Need-passed-requires
 passed-requires c κs = search needs
 
-mark-of-requires : tie.Need-mark-of-requires
-mark-of-requires c κs = search needs
+passed-requires-2 : tie.Need-passed-requires-2
+passed-requires-2 c κs = search needs
 
 returns : tie.Need-returns
-returns c = rw (← (c .before .passed .ensures)) (search needs, c .mark-of .ensures)
+returns c = rw (← (c .before .before .passed .ensures)) (c .passed2 .ensures)
 
 pub cesr-passed-spec : {M : Type 1} → statement M
-cesr-passed-spec = tie.close (tie.spec passed-requires mark-of-requires returns)
+cesr-passed-spec = tie.close (tie.spec passed-requires passed-requires-2 returns)

@@ -5,7 +5,7 @@ use Rattle.exports_indexed.proofs.info_of.Statement.{statement}
 use Rattle.exports_indexed.proofs.info_of.Tie as tie
 use Rattle.exports_indexed.proofs.info_of.Reads as reads
 use Rattle.exports_indexed.proofs.info_of.Lts as lts
-use Rattle.exports_indexed.proofs.wide.Reads as wide-reads
+use Rattle.exports_values.proofs.wide.Reads as wide-reads
 
 wide-requires : tie.Need-wide-requires
 wide-requires c κs = search needs

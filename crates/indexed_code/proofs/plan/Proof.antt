@@ -1,12 +1,13 @@
 -- `indexed_code::plan` meets its contract: 6, or by the row. Assumes nothing.
-use Rattle.indexed_code.proofs.Names.{unknown-plan, few}
-use Rattle.indexed_code.specs.Names.{asNamed}
+use Rattle.indexed_name.specs.Names.{asNamed}
+use Rattle.indexed_name.proofs.Names.{few}
+use Rattle.indexed_code.proofs.Plans.{unknown-plan}
 use borrow.Author.Needs.{needs}
 use Rattle.indexed_code.proofs.plan.Statement.{statement}
 use Rattle.indexed_code.proofs.plan.Tie as tie
 use Rattle.indexed_code.proofs.plan.Reads as reads
 use Rattle.indexed_code.proofs.plan.Lts as lts
-use Rattle.indexed_code.proofs.name_of.Reads as name-of-reads
+use Rattle.indexed_name.proofs.name_of.Reads as name-of-reads
 use Rattle.indexed_code.proofs.plan_row.Reads as plan-row-reads
 
 name-of-requires : tie.Need-name-of-requires

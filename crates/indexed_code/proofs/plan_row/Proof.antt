@@ -1,14 +1,14 @@
 -- `indexed_code::plan_row` meets its contract: 12, 15. Assumes nothing.
 use mathlib.Core.Path.{sym, _∙_}
 use borrow.Author.Tests.{not-true, not-false}
-use Rattle.indexed_code.proofs.Names.{unfit, not-current, fine}
+use Rattle.indexed_code.proofs.Plans.{unfit, not-current, fine}
 use borrow.Author.Needs.{needs}
 use Rattle.indexed_code.proofs.plan_row.Statement.{statement}
 use Rattle.indexed_code.proofs.plan_row.Tie as tie
 use Rattle.indexed_code.proofs.plan_row.Reads as reads
 use Rattle.indexed_code.proofs.plan_row.Lts as lts
-use Rattle.indexed_code.proofs.is_fit.Reads as is-fit-reads
-use Rattle.indexed_code.proofs.ondex_right.Reads as ondex-right-reads
+use Rattle.indexed_fit.proofs.is_fit.Reads as is-fit-reads
+use Rattle.indexed_fit.proofs.ondex_right.Reads as ondex-right-reads
 
 is-fit-requires : tie.Need-is-fit-requires
 is-fit-requires c κs = search needs

@@ -6,10 +6,10 @@ use Rattle.indexed_item.proofs.row_item.Tie as tie
 use Rattle.indexed_item.proofs.row_item.Reads as reads
 use Rattle.indexed_item.proofs.row_item.Lts as lts
 use Rattle.indexed_item.proofs.code_of.Reads as code-of-reads
-use Rattle.indexed_item.proofs.index_of.Reads as index-of-reads
-use Rattle.indexed_item.proofs.ondex_of.Reads as ondex-of-reads
+use Rattle.indexed_digits.proofs.index_of.Reads as index-of-reads
+use Rattle.indexed_digits.proofs.ondex_of.Reads as ondex-of-reads
 use Rattle.indexed_item.proofs.raw_size.Reads as raw-size-reads
-use Rattle.reading_item.proofs.indexed_start.Reads as indexed-start-reads
+use Rattle.reading_start.proofs.indexed_start.Reads as indexed-start-reads
 
 code-of-requires : tie.Need-code-of-requires
 code-of-requires c κs = search needs

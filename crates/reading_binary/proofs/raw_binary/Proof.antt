@@ -5,13 +5,13 @@ use native.Mathlib.Omega.{arith}
 use Rattle.format.specs.declared.BinaryRead.{BinaryRead}
 use Rattle.format.specs.Reading.{partAt}
 use Rattle.reading_binary.specs.Part.{partStart}
-use Rattle.reading_binary.proofs.Answers.{found-inside}
+use Rattle.reading_found.proofs.Answers.{found-inside}
 use borrow.Author.Needs.{needs}
 use Rattle.reading_binary.proofs.raw_binary.Statement.{statement}
 use Rattle.reading_binary.proofs.raw_binary.Tie as tie
 use Rattle.reading_binary.proofs.raw_binary.Reads as reads
 use Rattle.reading_binary.proofs.raw_binary.Lts as lts
-use Rattle.reading_binary.proofs.found_at.Reads as found-at-reads
+use Rattle.reading_found.proofs.found_at.Reads as found-at-reads
 
 found-at-requires : tie.Need-found-at-requires
 found-at-requires c κs = search needs

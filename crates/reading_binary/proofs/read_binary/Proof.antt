@@ -2,15 +2,16 @@
 use mathlib.Core.Path.{_≡_, ap, sym, _∙_}
 use Rattle.format.specs.declared.BinaryRead.{BinaryRead}
 use Rattle.format.specs.Reading.{charsLeft}
-use Rattle.reading_binary.proofs.Answers.{found-of, found-start, item-inside, text-inside, no-room, some-room, refused-anyway, chars-are}
+use Rattle.reading_found.proofs.Answers.{found-of, found-start, item-inside, text-inside}
+use Rattle.reading_binary.proofs.Answers.{no-room, some-room, refused-anyway, chars-are}
 use borrow.Author.Needs.{needs}
 use Rattle.reading_binary.proofs.read_binary.Statement.{statement}
 use Rattle.reading_binary.proofs.read_binary.Tie as tie
 use Rattle.reading_binary.proofs.read_binary.Reads as reads
 use Rattle.reading_binary.proofs.read_binary.Lts as lts
 use Rattle.reading_binary.proofs.copy_text.Reads as copy-text-reads
-use Rattle.reading_binary.proofs.found_at.Reads as found-at-reads
-use Rattle.reading_binary.proofs.no_binary.Reads as no-binary-reads
+use Rattle.reading_found.proofs.found_at.Reads as found-at-reads
+use Rattle.reading_found.proofs.no_binary.Reads as no-binary-reads
 
 found-at-requires : tie.Need-found-at-requires
 found-at-requires c κs = search needs

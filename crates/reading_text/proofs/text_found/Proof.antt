@@ -2,25 +2,24 @@
 use mathlib.Core.Path.{sym, _∙_}
 use native.Mathlib.Omega.{arith}
 use lib.Seq.{length-take-le}
+use borrow.Author.Tests.{ltb-true, ltb-false}
 use Rattle.format.specs.Reading.{valueLeft}
-use Rattle.reading_text.proofs.Answers.{item-room, sizes-fit, value-lies, no-room, text-item, value-copied}
+use Rattle.reading_text.proofs.Answers.{item-room, no-room, text-item, value-copied}
 use borrow.Author.Needs.{needs}
 use Rattle.reading_text.proofs.text_found.Statement.{statement}
 use Rattle.reading_text.proofs.text_found.Tie as tie
 use Rattle.reading_text.proofs.text_found.Reads as reads
 use Rattle.reading_text.proofs.text_found.Lts as lts
-use Rattle.reading_text.proofs.copy_value.Reads as copy-value-reads
+use Rattle.reading_value.proofs.copy_value.Reads as copy-value-reads
+use Rattle.reading_room.proofs.lacks.Reads as lacks-reads
 use Rattle.reading_text.proofs.no_text.Reads as no-text-reads
 use Rattle.reading_text.proofs.text_item.Reads as text-item-reads
 
 text-item-requires : tie.Need-text-item-requires
 text-item-requires c κs = search needs
 
-add-if1 : tie.Need-add-if1
-add-if1 c =
-    let t = c .before .before in
-    let s = t .before .before .before in
-    omega (arith, sizes-fit (s .args .part .now) _ _ _ (s .pre .0) (s .pre .1) _ _ (t .text-item .ensures))
+lacks-requires : tie.Need-lacks-requires
+lacks-requires c κs = search needs
 
 no-text-requires : tie.Need-no-text-requires
 no-text-requires c κs = search needs
@@ -30,7 +29,7 @@ unfolding valueLeft
 returns c =
     let t = c .before .before .before .before in
     let s = t .before .before .before in
-    (c .no-text .ensures ∙ no-room (s .args .part .now) _ _ _ (s .pre .0) (s .pre .1) _ _ (t .text-item .ensures) (s .args .out .now) (c .before .if1 .taken), rw (c .no-text .ensures))
+    (c .no-text .ensures ∙ no-room (s .args .part .now) _ _ _ (s .pre .0) (s .pre .1) _ _ (t .text-item .ensures) (s .args .out .now) (ltb-true _ _ (sym (c .before .before .lacks .ensures) ∙ c .before .if1 .taken)), rw (c .no-text .ensures))
 
 mul-end : tie.Need-mul-end
 mul-end c =
@@ -45,21 +44,20 @@ slice-aggregate-copy-value c =
     sym (length-take-le _ _ (item-room (s .args .part .now) _ _ _ (s .pre .0) (s .pre .1)))
 
 copy-value-requires : tie.Need-copy-value-requires
-copy-value-requires c κs =
-    let t = c .before .before .before .before .before in
-    let s = t .before .before .before in
-    (value-lies (s .args .part .now) _ _ _ (s .pre .0) (s .pre .1) _ _ (t .text-item .ensures) .2, search needs)
+copy-value-requires c κs = search needs
 
 same-length : tie.Need-same-length
 same-length c = search needs
 
 returns-2 : tie.Need-returns-2
 returns-2 c =
-    let t = c .before .before .before .before .before .before .before .before .before in
+    let k = c .before .before .before .before .before .before in
+    let t = k .before .before .before in
     let s = t .before .before .before in
-    let w = t .text-item .ensures in (
-      text-item (s .args .part .now) _ _ _ (s .pre .0) (s .pre .1) _ _ w (s .args .out .now) (c .before .before .before .before .before .before .if1 .left),
-      value-copied (s .args .part .now) _ _ _ (s .pre .0) (s .pre .1) _ _ w (s .args .out .now) _ (c .before .before .before .copy-value .ensures),
+    let w = t .text-item .ensures in
+    let r = ltb-false _ _ (sym (k .before .lacks .ensures) ∙ k .if1 .left) in (
+      text-item (s .args .part .now) _ _ _ (s .pre .0) (s .pre .1) _ _ w (s .args .out .now) r,
+      value-copied (s .args .part .now) _ _ _ (s .pre .0) (s .pre .1) _ _ w (s .args .out .now) _ r (c .before .before .before .copy-value .ensures),
     )
 
 pub text-found-spec : {M : Type 1} → statement M
@@ -67,7 +65,7 @@ text-found-spec =
     tie.close
     (tie.spec
     text-item-requires
-    add-if1
+    lacks-requires
     no-text-requires
     returns
     mul-end

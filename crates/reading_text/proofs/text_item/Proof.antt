@@ -8,9 +8,9 @@ use Rattle.reading_text.proofs.text_item.Lts as lts
 use Rattle.framing_head.proofs.text_head.Reads as text-head-reads
 use Rattle.framing_head.proofs.within.Reads as within-reads
 use Rattle.reading_item.proofs.primitive_of.Reads as primitive-of-reads
-use Rattle.reading_item.proofs.tag_of.Reads as tag-of-reads
-use Rattle.reading_item.proofs.text_size.Reads as text-size-reads
-use Rattle.reading_item.proofs.text_start.Reads as text-start-reads
+use Rattle.reading_tag.proofs.tag_of.Reads as tag-of-reads
+use Rattle.reading_fill.proofs.text_size.Reads as text-size-reads
+use Rattle.reading_fill.proofs.text_start.Reads as text-start-reads
 
 text-head-requires : tie.Need-text-head-requires
 text-head-requires c κs = search needs

@@ -5,7 +5,7 @@ use mathlib.Core.Bool.{true, false}
 use native.Mathlib.Omega.{arith}
 use native.Mathlib.Nat.{pos-of-ne-zero}
 use borrow.Author.Needs.{needs}
-use Rattle.report_fast.proofs.Laws.{Going, going-start, going-reach, going-plain, going-taken, going-valued, going-less, going-end, no-pass, inner-reach, inner-falls, by-contents, by-own, by-kind, group-inner, group-falls, by-inner, nothing}
+use Rattle.report_fast_laws.specs.Laws.{Going, going-start, going-reach, going-plain, going-taken, going-valued, going-less, going-end, no-pass, inner-reach, inner-falls, by-contents, by-own, by-kind, group-inner, group-falls, by-inner, nothing}
 use Rattle.report_found.proofs.Laws.{inner-levels, head-fits, size-fits}
 use borrow.Fn.Kinds.{In}
 use borrow.Fn.PlainCycle.{Measures, is, falls, and}
@@ -21,7 +21,7 @@ use Rattle.report_fast.proofs.+accepts+entered+other+taken.Lts-other as
 use Rattle.report_fast.proofs.taken.Reads as taken
 use Rattle.report_fast.proofs.taken.Kinds as taken-kinds
 use Rattle.report_fast.proofs.+accepts+entered+other+taken.Lts-taken as taken-lts
-use Rattle.report_fast.proofs.accepts_indexed.Reads as accepts-indexed-reads
+use Rattle.report_fast_indexed.proofs.accepts_indexed.Reads as accepts-indexed-reads
 use Rattle.report_fast.proofs.valued.Reads as valued-reads
 use Rattle.report_first.proofs.group.Reads as group-reads
 use Rattle.report_first.proofs.marks.Reads as marks-reads
@@ -122,7 +122,7 @@ pub +accepts+entered+other+taken-spec : {M : Type 1} → statement M
     (λ c κs. search needs)
     (λ c κs. search needs)
     (λ c κs. search needs)
-    (λ c. search by-kind)
+    (λ c. let h = c .accepts-indexed .ensures (search needs) in search by-kind)
     (λ c κs. search needs)
     (λ c. search by-kind))
     (λ t. other-lts.spec (

@@ -1,5 +1,5 @@
 use native.Mathlib.Omega.{arith}
-use Rattle.report_fast.proofs.Laws.{top-reach, top-good}
+use Rattle.report_fast_laws.specs.Laws.{top-reach, top-good}
 use borrow.Author.Needs.{needs}
 use Rattle.report_fast.proofs.accepted.Statement.{statement}
 use Rattle.report_fast.proofs.accepted.Tie as tie

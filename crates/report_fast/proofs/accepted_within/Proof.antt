@@ -1,4 +1,4 @@
-use Rattle.report_fast.proofs.Laws.{by-first, nothing}
+use Rattle.report_fast_laws.specs.Laws.{by-first, nothing}
 use borrow.Author.Needs.{needs}
 use Rattle.report_fast.proofs.accepted_within.Statement.{statement}
 use Rattle.report_fast.proofs.accepted_within.Tie as tie

@@ -1,4 +1,4 @@
-use Rattle.report_fast.proofs.Laws.{none-passes, reach-units, by-table}
+use Rattle.report_fast_laws.specs.Laws.{none-passes, reach-units, by-table}
 use borrow.Author.Needs.{needs}
 use Rattle.report_fast.proofs.passes.Statement.{statement}
 use Rattle.report_fast.proofs.passes.Tie as tie
@@ -13,10 +13,10 @@ returns-2 : tie.Need-returns-2
 returns-2 c = none-passes
 
 accepts-indexed-requires : tie.Need-accepts-indexed-requires
-accepts-indexed-requires c κs = search reach-units
+accepts-indexed-requires c κs = search needs
 
 returns-3 : tie.Need-returns-3
-returns-3 c = by-table _ _ (c .before .if3 .taken) _ _ (c .accepts-indexed .ensures)
+returns-3 c = by-table _ _ (c .before .if3 .taken) _ _ (c .accepts-indexed .ensures (search reach-units))
 
 accepts-requires : tie.Need-accepts-requires
 accepts-requires c κs = search reach-units

@@ -1,5 +1,5 @@
 -- `report_fast::valued` meets its contract. Assumes nothing.
-use Rattle.report_fast.proofs.Laws.{by-value, nothing}
+use Rattle.report_fast_laws.specs.Laws.{by-value, nothing}
 use borrow.Author.Needs.{needs}
 use Rattle.report_fast.proofs.valued.Statement.{statement}
 use Rattle.report_fast.proofs.valued.Tie as tie

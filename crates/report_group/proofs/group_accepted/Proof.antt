@@ -1,12 +1,16 @@
 -- `report_group::group_accepted` meets its contract. Assumes nothing.
 use Prim.Native.Nat.{ℕ}
 use mathlib.Core.Path.{_≡_}
+use mathlib.Core.Bool.{true, false}
 use native.Mathlib.Omega.{arith}
 use native.Mathlib.Nat.{pos-of-ne-zero}
 use Rattle.report_group.proofs.Laws.{group-reach, group-good}
 use borrow.Author.Needs.{needs}
 use Rattle.report_group.proofs.group_accepted.Statement.{statement}
 use Rattle.report_group.proofs.group_accepted.Tie as tie
+
+no : {X : Type 0} → false ≡ true → X
+no e = absurd (let y : _≡_ {A = ℕ} 0 1 = cc in omega arith)
 
 units-requires : tie.Need-units-requires
 units-requires c κs = search needs
@@ -15,16 +19,16 @@ least-requires : tie.Need-least-requires
 least-requires c κs = search needs
 
 returns : tie.Need-returns
-returns c = λ h l K g e. absurd (let y : _≡_ {A = ℕ} 0 1 = cc in omega arith)
+returns c = λ h l K g. no
 
 sub-if2 : tie.Need-sub-if2
 sub-if2 c = search needs
 
 returns-2 : tie.Need-returns-2
-returns-2 c = λ h l K g e. absurd (let y : _≡_ {A = ℕ} 0 1 = cc in omega arith)
+returns-2 c = λ h l K g. no
 
 returns-3 : tie.Need-returns-3
-returns-3 c = λ h l K g e. absurd (let y : _≡_ {A = ℕ} 0 1 = cc in omega arith)
+returns-3 c = λ h l K g. no
 
 add-inside-accepted : tie.Need-add-inside-accepted
 add-inside-accepted c = search needs

@@ -2,7 +2,7 @@
 use mathlib.Core.Path.{_∙_}
 use native.Mathlib.Omega.{arith}
 use Rattle.format.specs.Judging.{maxDepth}
-use Rattle.report_fast.proofs.Laws.{ready-part, inside}
+use Rattle.report_fast_laws.specs.Laws.{ready-part, inside}
 use Rattle.report_group.proofs.Laws.{nest-plain, nest-rest, nest-group}
 use borrow.Author.Needs.{needs}
 use Rattle.report_group.proofs.inside_accepted.Statement.{statement}

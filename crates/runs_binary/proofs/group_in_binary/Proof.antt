@@ -1,29 +1,13 @@
 -- `runs_binary::group_in_binary` meets its contract. Assumes nothing.
 use mathlib.Core.Path.{sym, _∙_}
 use mathlib.Core.Bool.{true, false}
-use native.Mathlib.Omega.{arith}
-use borrow.Author.Needs.{needs}
 use Rattle.runs_binary.proofs.Laws.{open-unit}
+use borrow.Author.Needs.{needs}
 use Rattle.runs_binary.proofs.group_in_binary.Statement.{statement}
 use Rattle.runs_binary.proofs.group_in_binary.Tie as tie
 
-mul-i : tie.Need-mul-i
-mul-i c = search needs
-
-byte-requires : tie.Need-byte-requires
-byte-requires c κs = search needs
-
-add-byte : tie.Need-add-byte
-add-byte c = search needs
-
-byte-requires-2 : tie.Need-byte-requires-2
-byte-requires-2 c κs = search needs
-
-add-byte-2 : tie.Need-add-byte-2
-add-byte-2 c = search needs
-
-byte-requires-3 : tie.Need-byte-requires-3
-byte-requires-3 c κs = search needs
+bytes-requires : tie.Need-bytes-requires
+bytes-requires c κs = search needs
 
 mul-is-open : tie.Need-mul-is-open
 mul-is-open c = search needs
@@ -44,21 +28,21 @@ add-result-2 : tie.Need-add-result-2
 add-result-2 c = search needs
 
 returns : tie.Need-returns
-returns c = open-unit _ _ (c .before .before .before .before .before .before .pre) (λ i. omega (arith, c .before .before .before .before .before .shared-slice-known .given i)) (c .before .before .before .before .byte .ensures .0) (c .before .before .before .byte2 .ensures .0) (c .before .before .byte3 .ensures .0) true (sym (c .if1 .taken) ∙ c .before .is-open .ensures)
+returns c =
+    let t = c .before .before in
+    let o = t .before in
+    open-unit _ _ (search needs) (o .before .before .before .before .bytes .ensures) true (sym (t .if1 .taken) ∙ o .is-open .ensures)
 
 returns-2 : tie.Need-returns-2
-returns-2 c = open-unit _ _ (c .before .before .before .before .before .before .pre) (λ i. omega (arith, c .before .before .before .before .before .shared-slice-known .given i)) (c .before .before .before .before .byte .ensures .0) (c .before .before .before .byte2 .ensures .0) (c .before .before .byte3 .ensures .0) false (sym (c .if1 .left) ∙ c .before .is-open .ensures)
+returns-2 c =
+    let o = c .before in
+    open-unit _ _ (search needs) (o .before .before .before .before .bytes .ensures) false (sym (c .if1 .left) ∙ o .is-open .ensures)
 
 pub group-in-binary-spec : {M : Type 1} → statement M
 group-in-binary-spec =
     tie.close
     (tie.spec
-    mul-i
-    byte-requires
-    add-byte
-    byte-requires-2
-    add-byte-2
-    byte-requires-3
+    bytes-requires
     mul-is-open
     add-is-open
     is-open-requires

@@ -8,7 +8,7 @@ use Rattle.writing.proofs.write_binary.Reads as reads
 use Rattle.writing.proofs.write_binary.Lts as lts
 use Rattle.writing_raw.proofs.binary_item.Reads as binary-item-reads
 use Rattle.writing_plan.proofs.plan_item.Reads as plan-item-reads
-use Rattle.writing_text.proofs.text_in_binary.Reads as text-in-binary-reads
+use Rattle.writing_packed.proofs.text_in_binary.Reads as text-in-binary-reads
 
 plan-item-requires : tie.Need-plan-item-requires
 plan-item-requires c κs = search needs

@@ -4,7 +4,7 @@ use Rattle.writing_at.proofs.write_binary_at.Statement.{statement}
 use Rattle.writing_at.proofs.write_binary_at.Tie as tie
 use Rattle.writing_at.proofs.write_binary_at.Reads as reads
 use Rattle.writing_at.proofs.write_binary_at.Lts as lts
-use Rattle.writing_at.proofs.cursor_in.Reads as cursor-in-reads
+use Rattle.writing_cursor.proofs.cursor_in.Reads as cursor-in-reads
 use Rattle.writing.proofs.write_binary.Reads as write-binary-reads
 
 -- src/lib.rt:416:9

@@ -4,7 +4,7 @@ use Rattle.writing_at.proofs.write_text_at.Statement.{statement}
 use Rattle.writing_at.proofs.write_text_at.Tie as tie
 use Rattle.writing_at.proofs.write_text_at.Reads as reads
 use Rattle.writing_at.proofs.write_text_at.Lts as lts
-use Rattle.writing_at.proofs.cursor_in.Reads as cursor-in-reads
+use Rattle.writing_cursor.proofs.cursor_in.Reads as cursor-in-reads
 use Rattle.writing.proofs.write_text.Reads as write-text-reads
 
 -- src/lib.rt:430:9

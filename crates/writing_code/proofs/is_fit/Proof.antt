@@ -8,9 +8,9 @@ use Rattle.writing_code.proofs.is_fit.Statement.{statement}
 use Rattle.writing_code.proofs.is_fit.Tie as tie
 use Rattle.writing_code.proofs.is_fit.Reads as reads
 use Rattle.writing_code.proofs.is_fit.Lts as lts
-use Rattle.writing_code.proofs.raw_limit.Reads as raw-limit-reads
+use Rattle.writing_limits.proofs.raw_limit.Reads as raw-limit-reads
 use Rattle.writing_code.proofs.raw_size.Reads as raw-size-reads
-use Rattle.writing_code.proofs.text_fits.Reads as text-fits-reads
+use Rattle.writing_limits.proofs.text_fits.Reads as text-fits-reads
 use Rattle.writing_code.proofs.wide.Reads as wide-reads
 
 enum-told : tie.Need-enum-told

@@ -10,7 +10,7 @@ use Rattle.writing_code.proofs.type_of.Tie as tie
 use Rattle.writing_code.proofs.type_of.Reads as reads
 use Rattle.writing_code.proofs.type_of.Lts as lts
 use Rattle.alphabet.proofs.sextet.Reads as sextet-reads
-use Rattle.registry.proofs.is_type.Reads as is-type-reads
+use Rattle.registry_variable.proofs.is_type.Reads as is-type-reads
 
 sextet-requires : tie.Need-sextet-requires
 sextet-requires c κs = search needs

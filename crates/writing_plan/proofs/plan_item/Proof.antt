@@ -8,7 +8,7 @@ use Rattle.writing_plan.proofs.plan_item.Lts as lts
 use Rattle.writing_code.proofs.name_of.Reads as name-of-reads
 use Rattle.writing_head.proofs.head_bytes.Reads as head-bytes-reads
 use Rattle.writing_plan.proofs.planned_of.Reads as planned-of-reads
-use Rattle.writing_plan.proofs.refusal_of.Reads as refusal-of-reads
+use Rattle.writing_order.proofs.refusal_of.Reads as refusal-of-reads
 
 name-of-requires : tie.Need-name-of-requires
 name-of-requires c κs = search needs

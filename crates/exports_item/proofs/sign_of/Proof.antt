@@ -1,0 +1,72 @@
+-- `sign_of` meets its contract. Assumes nothing.
+use Rattle.format.specs.Indexed.{codeOfRow}
+use Rattle.exports_values.specs.Lent.{signOf}
+use borrow.Author.Needs.{needs}
+use Rattle.exports_item.proofs.sign_of.Statement.{statement}
+use Rattle.exports_item.proofs.sign_of.Tie as tie
+
+enum-known-kind : tie.Need-enum-known-kind
+enum-known-kind c = search needs
+
+character-of-requires : tie.Need-character-of-requires
+character-of-requires c κs = search needs
+
+enum-known-kind-2 : tie.Need-enum-known-kind-2
+enum-known-kind-2 c = search needs
+
+character-of-requires-2 : tie.Need-character-of-requires-2
+character-of-requires-2 c κs = search needs
+
+enum-known-kind-3 : tie.Need-enum-known-kind-3
+enum-known-kind-3 c = search needs
+
+character-of-requires-3 : tie.Need-character-of-requires-3
+character-of-requires-3 c κs = search needs
+
+enum-told : tie.Need-enum-told
+enum-told c = search needs
+
+enum-known-kind-4 : tie.Need-enum-known-kind-4
+enum-known-kind-4 c = search needs
+
+character-of-requires-4 : tie.Need-character-of-requires-4
+character-of-requires-4 c κs = search needs
+
+returns : tie.Need-returns
+unfolding signOf
+returns c = rw (c .before .before .kind .given .1) (c .character-of .ensures)
+
+returns-2 : tie.Need-returns-2
+unfolding signOf
+returns-2 c = rw (c .before .before .kind2 .given .1) (c .character-of2 .ensures)
+
+returns-3 : tie.Need-returns-3
+unfolding signOf
+returns-3 c = rw (c .before .before .kind3 .given .1) (c .character-of3 .ensures)
+
+returns-4 : tie.Need-returns-4
+unfolding signOf
+returns-4 c = search needs
+
+returns-5 : tie.Need-returns-5
+unfolding signOf codeOfRow
+returns-5 c = rw (c .before .before .kind4 .given .1) (c .character-of4 .ensures)
+
+pub sign-of-spec : {M : Type 1} → statement M
+sign-of-spec =
+    tie.close
+    (tie.spec
+    enum-known-kind
+    character-of-requires
+    enum-known-kind-2
+    character-of-requires-2
+    enum-known-kind-3
+    character-of-requires-3
+    enum-told
+    enum-known-kind-4
+    character-of-requires-4
+    returns
+    returns-2
+    returns-3
+    returns-4
+    returns-5)

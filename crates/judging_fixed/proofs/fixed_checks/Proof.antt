@@ -1,0 +1,70 @@
+use mathlib.Core.Path.{sym, _∙_}
+use borrow.Author.Tests.{not-true, not-false}
+use Rattle.format.specs.Judging.{andThen, unless}
+use Rattle.judging_fixed.specs.Checks.{fixedChecks}
+use borrow.Author.Needs.{needs}
+use Rattle.judging_fixed.proofs.fixed_checks.Statement.{statement}
+use Rattle.judging_fixed.proofs.fixed_checks.Tie as tie
+use Rattle.judging_fixed.proofs.fixed_checks.Reads as reads
+use Rattle.judging_fixed.proofs.fixed_checks.Lts as lts
+use Rattle.judging_header.proofs.prepad_of.Reads as prepad-of-reads
+use Rattle.judging_fixed.proofs.prepad_right.Reads as prepad-right-reads
+use Rattle.judging_fixed.proofs.wide.Reads as wide-reads
+use Rattle.judging_bits.proofs.zero_bits.Reads as zero-bits-reads
+use Rattle.judging_header.proofs.zeros_of.Reads as zeros-of-reads
+
+wide-requires : tie.Need-wide-requires
+wide-requires c κs = search needs
+
+cast-i : tie.Need-cast-i
+cast-i c = search needs
+
+zeros-of-requires : tie.Need-zeros-of-requires
+zeros-of-requires c κs = search needs
+
+zero-bits-requires : tie.Need-zero-bits-requires
+zero-bits-requires c κs = search needs
+
+returns : tie.Need-returns
+unfolding fixedChecks andThen unless
+returns c =
+    let z = c .before in
+    rw (sym (rw (z .before .before .wide .ensures .0, z .before .zeros-of .ensures) at (z .zero-bits .ensures)) ∙ not-true _ (c .if1 .taken))
+
+prepad-of-requires : tie.Need-prepad-of-requires
+prepad-of-requires c κs = search needs
+
+prepad-right-requires : tie.Need-prepad-right-requires
+prepad-right-requires c κs = search needs
+
+returns-2 : tie.Need-returns-2
+unfolding fixedChecks andThen unless
+returns-2 c =
+    let z = c .before .before .before .before in
+    rw (
+      sym (rw (z .before .before .wide .ensures .0, z .before .zeros-of .ensures) at (z .zero-bits .ensures)) ∙ not-false _ (c .before .before .before .if1 .left),
+      sym (rw (z .before .before .wide .ensures .0, c .before .before .prepad-of .ensures) at (c .before .prepad-right .ensures)) ∙ not-true _ (c .if2 .taken),
+    )
+
+returns-3 : tie.Need-returns-3
+unfolding fixedChecks andThen unless
+returns-3 c =
+    let z = c .before .before .before .before in
+    rw (
+      sym (rw (z .before .before .wide .ensures .0, z .before .zeros-of .ensures) at (z .zero-bits .ensures)) ∙ not-false _ (c .before .before .before .if1 .left),
+      sym (rw (z .before .before .wide .ensures .0, c .before .before .prepad-of .ensures) at (c .before .prepad-right .ensures)) ∙ not-false _ (c .if2 .left),
+    )
+
+pub fixed-checks-spec : {M : Type 1} → statement M
+fixed-checks-spec =
+    tie.close
+    (tie.spec
+    wide-requires
+    cast-i
+    zeros-of-requires
+    zero-bits-requires
+    returns
+    prepad-of-requires
+    prepad-right-requires
+    returns-2
+    returns-3)

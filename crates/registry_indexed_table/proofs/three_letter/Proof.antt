@@ -1,0 +1,15 @@
+-- `registry_indexed_table::three_letter` meets its contract. By place is by letter, which one computed test says. Assumes nothing.
+use mathlib.Core.Path.{_∙_}
+use Rattle.registry_indexed_table.proofs.Laws.{three-letter}
+use borrow.Author.Needs.{needs}
+use Rattle.registry_indexed_table.proofs.three_letter.Statement.{statement}
+use Rattle.registry_indexed_table.proofs.three_letter.Tie as tie
+
+indexed-from-requires : tie.Need-indexed-from-requires
+indexed-from-requires c κs = search needs
+
+returns : tie.Need-returns
+returns c = c .indexed-from .ensures ∙ three-letter (c .before .args .l) (search needs)
+
+pub three-letter-spec : {M : Type 1} → statement M
+three-letter-spec = tie.close (tie.spec indexed-from-requires returns)

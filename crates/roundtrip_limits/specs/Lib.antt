@@ -1,0 +1,4 @@
+pub mod Claims
+pub mod Limits
+pub mod Orders
+pub mod Proved

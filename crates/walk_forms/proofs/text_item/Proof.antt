@@ -1,0 +1,30 @@
+-- `walk_forms::text_item` meets its contract. Assumes nothing.
+use Rattle.walk_state.specs.Walking.{textItem}
+use borrow.Author.Needs.{needs}
+use Rattle.walk_forms.proofs.text_item.Statement.{statement}
+use Rattle.walk_forms.proofs.text_item.Tie as tie
+
+enum-known-found : tie.Need-enum-known-found
+enum-known-found c = search needs
+
+enum-known-found-2 : tie.Need-enum-known-found-2
+enum-known-found-2 c = search needs
+
+enum-told : tie.Need-enum-told
+enum-told c = search needs
+
+returns : tie.Need-returns
+unfolding textItem
+returns c = rw (c .before .found .given .1)
+
+returns-2 : tie.Need-returns-2
+unfolding textItem
+returns-2 c = rw (c .before .found2 .given .1)
+
+returns-3 : tie.Need-returns-3
+unfolding textItem
+returns-3 c = rw (c .enum-told .given .1)
+
+pub text-item-spec : {M : Type 1} → statement M
+text-item-spec =
+    tie.close (tie.spec enum-known-found enum-known-found-2 enum-told returns returns-2 returns-3)

@@ -1,0 +1,54 @@
+-- `writing_packed::text_in_binary` meets its contract: 3, or the item put into its buffer. Assumes nothing.
+use Rattle.writing_packed.proofs.Answers.{binary-none, binary-some, binary-held, text-short}
+use native.Mathlib.Omega.{arith}
+use borrow.Author.Needs.{needs}
+use Rattle.writing_packed.proofs.text_in_binary.Statement.{statement}
+use Rattle.writing_packed.proofs.text_in_binary.Tie as tie
+use Rattle.writing_packed.proofs.text_in_binary.Reads as reads
+use Rattle.writing_packed.proofs.text_in_binary.Lts as lts
+use Rattle.writing_sizes.proofs.text_count.Reads as text-count-reads
+use Rattle.writing_packed.proofs.put_binary.Reads as put-binary-reads
+
+returns : tie.Need-returns
+returns c = (λ s. absurd (omega (arith, s .header)), λ s _. absurd (omega (arith, s .header)))
+
+text-count-requires : tie.Need-text-count-requires
+text-count-requires c κs = search needs
+
+add-size : tie.Need-add-size
+add-size c = search needs
+
+mul-size : tie.Need-mul-size
+mul-size c = search needs
+
+returns-2 : tie.Need-returns-2
+returns-2 c =
+    let a = c .before .before .before .before .before .args in
+    let w = binary-none (a .header) (a .head) (a .chars .now) (a .out .now) _ (c .before .text-count .ensures .0) (c .if2 .taken) in
+    (λ _. w .0, λ _ _. w .1)
+
+put-binary-requires : tie.Need-put-binary-requires
+put-binary-requires c κs = search needs
+
+same-length : tie.Need-same-length
+same-length c = search needs
+
+returns-3 : tie.Need-returns-3
+returns-3 c =
+    let q = c .before .before .before .before in
+    let a = q .before .before .before .before .before .args in
+    let n = q .before .text-count .ensures .0 in
+    (λ _. binary-some (a .header) (a .head) (a .chars .now) (a .out .now) _ n (q .if2 .left), λ s z. binary-held (a .header) (a .head) (a .chars .now) (a .out .now) _ n _ (q .if2 .left) (c .before .before .put-binary .ensures (text-short _ _ s) z))
+
+pub text-in-binary-spec : {M : Type 1} → statement M
+text-in-binary-spec =
+    tie.close
+    (tie.spec
+    returns
+    text-count-requires
+    add-size
+    mul-size
+    returns-2
+    put-binary-requires
+    same-length
+    returns-3)
