@@ -6,6 +6,8 @@ _cesr_options() {
     judge) echo --form --manifest --all --json --report --html --junit --sarif --help ;;
     convert) echo --to --out --help ;;
     show | manifest) echo --form --help ;;
+    group) echo --form --out --help ;;
+    write) echo --form --index --ondex --raw --tag --text --out --help ;;
     compare) echo --json --help ;;
     expect) echo --form --out --help ;;
     numbers) echo --help ;;
@@ -22,7 +24,7 @@ _cesr() {
   fi
   COMPREPLY=()
   if [ "$COMP_CWORD" -eq 1 ]; then
-    words="judge convert show manifest compare expect numbers help --help --version"
+    words="judge convert show group write manifest compare expect numbers help --help --version"
   elif [[ " ${COMP_WORDS[*]:1:COMP_CWORD - 1} " = *" -- "* ]]; then
     return
   else

@@ -4,9 +4,10 @@
  * Terms. T is text, in characters of URL-safe Base64; B is binary, in bytes. A unit is 4 characters in T, 3 bytes in B. Every proved call
  * returns a number: 0 for accepted, or one of the numbers below for refused. A refused call writes to no buffer, tag, info, item or
  * state: it writes only the place behind `answer`, a comparison its five zeros and cesr_passed its 0; a walk in instalments that is
- * refused on the way has taken the items before it. An accepted call writes its answer from the buffer's start; bytes behind it stay. The
- * place is the character for 5 and 19, else the item's start; 0 for 1, 2, 3, 12, 13, 20 and for a writer's 6, 15, 16 and 18, and for a
- * writer's 5 and 19 the index among the tag characters or in the text. Places, offsets and lengths count characters in T and bytes in B.
+ * refused on the way has taken the items before it. An accepted call writes its answer from the buffer's start; bytes behind it stay.
+ * The place is the character for 5 and 19, else the item's start; 0 for 1, 2, 3, 12, 13, 20 and for a writer's 6, 15, 16 and 18, and for
+ * a writer's 5 and 19 the index among the tag characters or in the text. What a group's writer refuses in the body has its place in it,
+ * counted from the body's start. Places, offsets and lengths count characters in T and bytes in B.
  * Where 5 stands in the order of a call, the first character outside the alphabet gives 5 or 19.
  *
  * What the caller ensures: each length is that of the memory behind its pointer, which may be null where the length is 0 and is null
@@ -199,6 +200,24 @@ uint8_t cesr_write_indexed_text(uint8_t selector, uint8_t letter, size_t index, 
 /* The same as binary. */
 uint8_t cesr_write_indexed_binary(uint8_t selector, uint8_t letter, size_t index, size_t ondex, const uint8_t *raw, size_t raw_len,
                                   uint8_t *out, size_t out_len, size_t *answer);
+
+/* Puts a group around items, as text. The body, whole items one behind the other, lies at the buffer's start and is len long; letter is
+ * the group's, 'K' for -K. The header is put in front and the body moved behind it: the small code up to 4,095 units, the large one
+ * above. Refused 3 if len passes buf_len; 1 if header and body together pass the limit; 6 for a letter that is no group's; 2 for a body
+ * that isn't whole units; then what a walk of the body as this group's contents gives (-K and -L hold indexed items; a genus/version
+ * that comes first in -A, -B and -C must be AAACAA, else 7; 63 groups may stand one in the other, 64 are 11), its place counted from the
+ * body's start; 3 if buf_len is below header and body, CESR_GROUP_ROOM_TEXT(len). *answer: the size of the group, or the place, which is
+ * 0 for 1, 2, 3 and a letter's 6. An empty body is written. Refused, buf stays as it was; written, bytes behind the group stay. A group
+ * around that one takes its size for len; a group beside others is written in the rest of the buffer, buf + at, buf_len - at, before one
+ * goes around all. */
+uint8_t cesr_group_text(uint8_t letter, size_t len, uint8_t *buf, size_t buf_len, size_t *answer);
+
+/* The same as binary. */
+uint8_t cesr_group_binary(uint8_t letter, size_t len, uint8_t *buf, size_t buf_len, size_t *answer);
+
+/* Room that header and body of a group ask for, where the body is so long. */
+#define CESR_GROUP_ROOM_TEXT(length) ((size_t)(length) + ((size_t)(length) / 4 > 4095 ? 8 : 4))
+#define CESR_GROUP_ROOM_BINARY(length) ((size_t)(length) + ((size_t)(length) / 3 > 4095 ? 6 : 3))
 
 /* At most so many groups are open. */
 #define CESR_MAX_DEPTH 64

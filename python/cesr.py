@@ -100,6 +100,7 @@ _read_indexed = _Forms(
     binary=_declared("cesr_read_indexed_binary", _bytes, _size, _size, _sizes, _sizes),
 )
 _write_indexed = _both("write_indexed", _byte, _byte, _size, _size, _bytes, _size, _bytes, _size, _sizes)
+_group = _both("group", _byte, _size, _bytes, _size, _sizes)
 _walk = _both("walk", _bytes, _size, _sizes, _sizes, _sizes)
 
 
@@ -287,6 +288,22 @@ def write_indexed(form, code, index, ondex, raw):
         raise ValueError("an index or ondex is 0 or more")
     index, ondex = min(index, most), min(ondex, most)
     return _filled(_write_indexed[form], 160, selector, ord(code[-1]), index, ondex, raw, len(raw))
+
+
+# ---- groups
+
+
+def write_group(form, letter, body):
+    """Items in a group: its letter, K for -K, and the items one behind the other, which are judged as its contents."""
+    if not re.fullmatch("[!-~]", letter, re.ASCII):
+        raise ValueError(f"a group's letter is one, like K, not {letter!r}")
+    body, answer = _plain(body), _size()
+    # The largest header has two units.
+    buffer = ctypes.create_string_buffer(body, len(body) + 2 * UNIT[form])
+    number = _group[form](ord(letter), len(body), buffer, len(buffer), ctypes.byref(answer))
+    if number:
+        raise Refused(number, answer.value)
+    return buffer.raw[: answer.value]
 
 
 # ---- all depths

@@ -188,6 +188,35 @@ class Indexed(unittest.TestCase):
         self.assertRaises(ValueError, cesr.write_indexed, "text", "A", -1, 0, bytes(64))
 
 
+class Groups(unittest.TestCase):
+    def test_around_items(self):
+        self.assertEqual(cesr.write_group("text", "A", b"MAAB"), b"-AABMAAB")
+        self.assertEqual(cesr.write_group("binary", "A", b"\x30\x00\x01"), b"\xf8\x00\x01\x30\x00\x01")
+        self.assertEqual(cesr.write_group("text", "A", b""), b"-AAA")
+        body = b"1AAK" * 4095
+        self.assertEqual(cesr.write_group("text", "J", body), b"-J__" + body)
+        self.assertEqual(cesr.write_group("text", "J", body + b"1AAK"), b"--JAABAA" + body + b"1AAK")
+
+    def test_one_in_the_other(self):
+        for form in ["text", "binary"]:
+            signatures = [cesr.write_indexed(form, "A", index, 0, bytes(64)) for index in range(2)]
+            signed = cesr.write_group(form, "K", b"".join(signatures))
+            number = cesr.write(form, "M", b"\x00\x01")
+            stream = cesr.write_group(form, "C", signed + number)
+            self.assertTrue(cesr.judge(form, stream).passed)
+            depths = [(step.depth, step.code) for step in cesr.walk(form, stream)]
+            self.assertEqual(depths, [(0, "-C"), (1, "-K"), (2, "A"), (2, "A"), (1, "M")])
+
+    def test_refusals(self):
+        self.assertEqual(refused(cesr.write_group, "text", "0", b"MAAB"), (6, 0))
+        self.assertEqual(refused(cesr.write_group, "text", "A", b"MAA"), (2, 0))
+        self.assertEqual(refused(cesr.write_group, "text", "K", b"MAAB"), (6, 0))
+        self.assertEqual(refused(cesr.write_group, "text", "A", b"MAABMQAA"), (8, 4))
+        self.assertEqual(refused(cesr.write_group, "text", "A", b"1AAK" * (2**20 - 1)), (1, 0))
+        for letter in ["-K", "", "KK", "\u00e9"]:
+            self.assertRaises(ValueError, cesr.write_group, "text", letter, b"")
+
+
 class Said(unittest.TestCase):
     def test_words_are_those_of_the_list(self):
         rows = [line.split(" ", 2) for line in (HERE.parent / "include/numbers.txt").read_text().splitlines() if line[:1].isdigit()]

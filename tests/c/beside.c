@@ -107,6 +107,9 @@ static void nulls(void) {
     check(cesr_read_indexed_binary(NULL, 0, 0, info, &answer) == CESR_PAST_END, "nothing to read", "null");
     check(cesr_write_indexed_text(0, 'A', 0, 0, NULL, 0, out, sizeof out, &answer) == CESR_UNFIT_LENGTH, "no raw value", "null");
     check(cesr_write_indexed_binary(0, 'A', 0, 0, NULL, 0, NULL, 0, &answer) == CESR_UNFIT_LENGTH, "no raw value", "null");
+    check(cesr_group_text('A', 0, NULL, 0, &answer) == CESR_ROOM, "no room", "null");
+    check(cesr_group_binary('A', 9, NULL, 0, &answer) == CESR_ROOM, "no room", "null");
+    check(cesr_group_text('0', 0, NULL, 0, &answer) == CESR_UNKNOWN_CODE, "no group", "null");
     check(cesr_walk_text(NULL, 0, state, item, &answer) == CESR_END, "the end", "null");
     check(cesr_walk_binary(NULL, 0, state, item, &answer) == CESR_END, "the end", "null");
     check(cesr_walk_on_text(NULL, 0, state, 9, info, &answer) == CESR_END && info[0] == 0, "the end", "null");
@@ -131,6 +134,14 @@ static void limits(void) {
     check(cesr_text_to_binary(stream, CESR_LIMIT_TEXT, longest, CESR_TO_BINARY_ROOM(CESR_LIMIT_TEXT), &answer) == 0, "room", "limits");
     check(answer == CESR_LIMIT_BINARY && CESR_TO_TEXT_ROOM(answer) == CESR_LIMIT_TEXT, "the longest binary", "limits");
     check(CESR_REPORT_ROOM_BINARY(CESR_LIMIT_BINARY) == sizeof longest, "as many items", "limits");
+    for (size_t units = 4094; units < 4098; units++) {
+        size_t headers = units > 4095 ? 2 : 1, length = 4 * units;
+        check(CESR_GROUP_ROOM_TEXT(length) == length + 4 * headers, "room for a group", "text");
+        check(CESR_GROUP_ROOM_BINARY(3 * units) == 3 * (units + headers), "room for a group", "binary");
+        check(cesr_group_text('J', length, stream, CESR_GROUP_ROOM_TEXT(length) - 1, &answer) == CESR_ROOM, "one less", "limits");
+        check(cesr_group_text('J', length, stream, CESR_GROUP_ROOM_TEXT(length), &answer) == 0, "that room", "limits");
+        memcpy(stream, "MAABMAAB", 8);
+    }
 }
 
 static int print_words(void) {

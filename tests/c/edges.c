@@ -334,7 +334,71 @@ static void writing(void) {
     write_to(cesr_write_text, 0, 0, 0, CESR_UNKNOWN_CODE, 0);
 }
 
+/* ---- groups */
+
+typedef uint8_t grouped(uint8_t, size_t, uint8_t *, size_t, size_t *);
+
+/* Units of a body in a group, in a buffer of just this room: all of the body there, or what fits. */
+static void group_in(grouped *call, const uint8_t *body, size_t length, size_t room, uint8_t number, size_t size) {
+    size_t there = length < room ? length : room;
+    /* `-J` begins with the bits 111110 001001, `--J` with 111110 111110. */
+    uint8_t first = call == cesr_group_text ? '-' : size - length > 3 ? 0xFB : 0xF8;
+    uint8_t *buffer = exact(room);
+    size_t *answer = exact(sizeof *answer);
+    memcpy(buffer, body, there);
+    calls++;
+    check(call('J', length, buffer, room, answer) == number, "number", length);
+    if (number == 0) {
+        check(*answer == size && buffer[0] == first, "a group", length);
+        check(memcmp(buffer + size - length, body, length) == 0, "the body behind its header", length);
+        check(held(buffer, size, room), "bytes behind the group stay", length);
+    } else {
+        check(memcmp(buffer, body, there) == 0 && held(buffer, there, room), "a refused buffer stays", length);
+    }
+    free(buffer);
+    free(answer);
+}
+
+/* Just enough room, one less, none for the header, less than the body, and more. */
+static void rooms_of_a_group(grouped *call, const uint8_t *body, size_t length, size_t header) {
+    size_t size = header + length;
+    group_in(call, body, length, size, 0, size);
+    group_in(call, body, length, size + 9, 0, size);
+    group_in(call, body, length, size - 1, CESR_ROOM, 0);
+    group_in(call, body, length, length, CESR_ROOM, 0);
+    if (length > 0) {
+        group_in(call, body, length, length - 1, CESR_ROOM, 0);
+        group_in(call, body, length, 0, CESR_ROOM, 0);
+    }
+}
+
+static void grouping(void) {
+    static const size_t units[] = {0, 1, 2, 3, 7, 8, 63, 64, 4094, 4095, 4096, 4097};
+    uint8_t *text = repeated(YES, 4, 4 * 4097), *binary = repeated(YES_IN_BINARY, 3, 3 * 4097);
+    for (size_t i = 0; i < sizeof units / sizeof *units; i++) {
+        size_t headers = units[i] > 4095 ? 2 : 1;
+        rooms_of_a_group(cesr_group_text, text, 4 * units[i], 4 * headers);
+        rooms_of_a_group(cesr_group_binary, binary, 3 * units[i], 3 * headers);
+    }
+    for (size_t less = 1; less < 4; less++) {
+        group_in(cesr_group_text, text, 12 - less, 20, CESR_NOT_WHOLE_UNITS, 0);
+        group_in(cesr_group_binary, binary, 12 - less, 20, less % 3 ? CESR_NOT_WHOLE_UNITS : 0, 12);
+    }
+    free(text);
+    free(binary);
+}
+
 /* ---- the limit's length */
+
+/* A body of the most that a group holds, and a unit more. */
+static void groups_at_the_limit(const uint8_t *text, const uint8_t *binary) {
+    group_in(cesr_group_text, text, TEXT_LIMIT - 8, TEXT_LIMIT, 0, TEXT_LIMIT);
+    group_in(cesr_group_text, text, TEXT_LIMIT - 8, TEXT_LIMIT - 1, CESR_ROOM, 0);
+    group_in(cesr_group_text, text, TEXT_LIMIT - 4, TEXT_LIMIT + 4, CESR_TOO_LONG, 0);
+    group_in(cesr_group_text, text, TEXT_LIMIT + 1, TEXT_LIMIT + 1, CESR_TOO_LONG, 0);
+    group_in(cesr_group_binary, binary, BINARY_LIMIT - 6, BINARY_LIMIT, 0, BINARY_LIMIT);
+    group_in(cesr_group_binary, binary, BINARY_LIMIT - 3, BINARY_LIMIT + 3, CESR_TOO_LONG, 0);
+}
 
 /* The last unit, then the end; and a stream that is one longer. The memory is of just the length that is given. */
 static void walking_at_the_limit(const uint8_t *text, const uint8_t *binary) {
@@ -368,6 +432,7 @@ static void limits(void) {
     lend(cesr_binary_to_text, binary, BINARY_LIMIT, TEXT_LIMIT - 1, CESR_ROOM, 0);
     lend(cesr_binary_to_text, binary, BINARY_LIMIT + 1, TEXT_LIMIT, CESR_TOO_LONG, 0);
     walking_at_the_limit(text, binary);
+    groups_at_the_limit(text, binary);
     free(text);
     free(binary);
     /* The largest value: two units of header, and lead bytes before the rest. */
@@ -434,6 +499,7 @@ int main(void) {
     reading_texts();
     writing();
     limits();
+    grouping();
     comparing();
     passing();
     printf("%d calls, %d checks, %d failed\n", calls, checks, failures);

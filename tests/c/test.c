@@ -505,6 +505,73 @@ static void comparing(void) {
     malformed(LONG, sizeof LONG, TWO, sizeof TWO);
 }
 
+/* ---- groups */
+
+enum { GROUP = 512 };
+
+/* A body in a group, in a buffer with more room than that: the group, and what is behind it as it was. */
+static void grouped(uint8_t letter, const char *body, const char *told) {
+    uint8_t buffer[GROUP];
+    size_t answer = 99, length = strlen(body), size = strlen(told);
+    memset(buffer, HELD, GROUP);
+    memcpy(buffer, body, length);
+    check(cesr_group_text(letter, length, buffer, GROUP, &answer) == CESR_ACCEPTED && answer == size, "the size", told);
+    check(memcmp(buffer, told, size) == 0 && held(buffer, size, GROUP), "the group, and no more", told);
+    check(size == CESR_GROUP_ROOM_TEXT(length), "the room that it asks for", told);
+    memcpy(buffer, body, length);
+    check(cesr_group_text(letter, length, buffer, size - 1, &answer) == CESR_ROOM && answer == 0, "one less is 3", told);
+    check(memcmp(buffer, body, length) == 0, "the body stays", told);
+}
+
+/* The same refused. */
+static void not_grouped(uint8_t letter, const char *body, size_t length, uint8_t number, size_t place) {
+    uint8_t buffer[GROUP], before[GROUP];
+    size_t answer = 99;
+    memset(buffer, HELD, GROUP);
+    memcpy(buffer, body, strlen(body));
+    memcpy(before, buffer, GROUP);
+    check(cesr_group_text(letter, length, buffer, GROUP, &answer) == number && answer == place, "number and place", body);
+    check(memcmp(buffer, before, GROUP) == 0, "the buffer stays", body);
+}
+
+static void grouping(void) {
+    grouped('A', "MAAB", "-AABMAAB");
+    grouped('A', "", "-AAA");
+    grouped('J', "-AABMAAB1AAM", "-JAD-AABMAAB1AAM");
+    grouped('J', "-_AAABAA", "-JAC-_AAABAA");
+    not_grouped('A', "MAAB", GROUP + 1, CESR_ROOM, 0);
+    not_grouped('0', "MAAB", (size_t)-1, CESR_ROOM, 0);
+    not_grouped('0', "MAAB", 3, CESR_UNKNOWN_CODE, 0);
+    not_grouped('A', "MAAB", 3, CESR_NOT_WHOLE_UNITS, 0);
+    not_grouped('A', "-_AAABAA", 8, CESR_GENUS_VERSION, 0);
+    not_grouped('A', "MAABMQAA", 8, CESR_NOT_ZERO, 4);
+    not_grouped('J', "MAAB_AAA", 8, CESR_UNKNOWN_CODE, 4);
+    not_grouped('K', "MAAB", 4, CESR_UNKNOWN_CODE, 0);
+    /* 63 groups one in the other pass in a body, 64 are 11. */
+    char text[4 * CESR_MAX_DEPTH + 1], around[4 * CESR_MAX_DEPTH + 1];
+    nest(text, CESR_MAX_DEPTH - 1);
+    nest(around, CESR_MAX_DEPTH);
+    grouped('J', text, around);
+    nest(text, CESR_MAX_DEPTH);
+    not_grouped('J', text, strlen(text), CESR_TOO_DEEP, 4 * (CESR_MAX_DEPTH - 1));
+}
+
+/* Two signatures in a group, a number beside it, a group around all; in binary: 22 units each, 1 + 44 + 1 within -C. */
+static void nesting(void) {
+    uint8_t buffer[GROUP], report[CESR_REPORT_ROOM(1)], raw[64] = {0};
+    size_t at = 0, answer = 99, passed = 0;
+    for (size_t index = 0; index < 2; index++, at += answer) {
+        check(cesr_write_indexed_binary(0, 'A', index, 0, raw, 64, buffer + at, GROUP - at, &answer) == 0 && answer == 66, "66", "A");
+    }
+    check(cesr_group_binary('K', at, buffer, GROUP, &at) == 0 && at == 135, "in a group", "-K");
+    check(cesr_write_binary(1, 'M', (const uint8_t[CESR_TAG]){0}, 0, raw, 2, buffer + at, GROUP - at, &answer) == 0, "beside it", "M");
+    at += answer;
+    check(cesr_group_binary('C', at, buffer, GROUP, &at) == 0 && at == 141, "around all", "-C");
+    check(memcmp(buffer, "\xF8\x20\x2E\xF8\xA0\x2C", 6) == 0, "-CAu-KAs", "-C");
+    check(cesr_report_binary(buffer, at, report, sizeof report, &answer) == 0, "one item", "-C");
+    check(cesr_passed(report, answer, &passed) == 0 && passed == 1, "passed", "-C");
+}
+
 int main(void) {
     reports();
     binary_report();
@@ -521,6 +588,8 @@ int main(void) {
     depths();
     sizes();
     comparing();
+    grouping();
+    nesting();
     printf("%d checks, %d failed\n", checks, failures);
     return failures != 0;
 }

@@ -72,6 +72,8 @@ offered() { # WORDS.., the last one begun
 same "bash: commands" "judge" "$(offered ju)"
 same "bash: options" "--html --help" "$(offered judge --h)"
 same "bash: options of another" "--to --out --help" "$(offered convert --)"
+same "bash: options to write" "--index" "$(offered write --i)"
+same "bash: a form to write" "text" "$(offered group --form t)"
 same "bash: forms" "text binary" "$(offered judge --form '')"
 same "bash: a form behind =" "binary" "$(offered show --form = b)"
 same "bash: files are left to bash" "" "$(offered judge --all sa)"

@@ -18,6 +18,7 @@ fish_offers() { # LINE
 same "fish: commands" "judge " "$(fish_offers 'cesr ju')"
 same "fish: options" "--help --html " "$(fish_offers 'cesr judge --h')"
 same "fish: options of another" "--help --out --to " "$(fish_offers 'cesr convert --')"
+same "fish: an option to write" "--index " "$(fish_offers 'cesr write --i')"
 same "fish: forms" "binary text " "$(fish_offers 'cesr judge --form ')"
 same "fish: files" "samples/clean-binary.cesr samples/clean.cesr " "$(fish_offers 'cesr judge samples/cl')"
 
@@ -46,7 +47,7 @@ same "zsh: a file" "cesr judge samples/first" "$(zsh_completes 'cesr judge sampl
 # man finds the page, sets it without a warning, and shows it.
 said=$(MANPATH=$prefix/share/man man --warnings=w -P cat cesr 2> "$place/warnings")
 same "man: warnings" "" "$(cat "$place/warnings")"
-grep -q "cesr - judge, convert, show and compare CESR streams" <<< "$said"
+grep -q "cesr - judge, convert, show, compare and write CESR streams" <<< "$said"
 
 # pkg-config tells the version and the flags.
 version=$(sed -n 's/^#define CESR_VERSION "\(.*\)"$/\1/p' include/cesr.h)

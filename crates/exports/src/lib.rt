@@ -34,6 +34,9 @@ ghost use Rattle.exports_values.specs.Lent.{binaryStepNumber, binaryStepValue, 
 ghost use Rattle.instalments.specs.Instalments.{walkOn};
 ghost use Rattle.instalments.specs.Numbers.{pauseNumber, pausePlace};
 ghost use Rattle.exports_lent.specs.Answers.{stateBehind};
+ghost use Rattle.format.specs.declared.Form.the-variants.{Text, Binary};
+ghost use Rattle.groups.specs.Grouping.{grouped, groupLeft};
+ghost use Rattle.groups.specs.Numbers.{groupedNumber, groupedValue};
 
 // answer: the length written, or the place in the text.
 #[no_mangle]
@@ -403,4 +406,30 @@ pub extern "C" fn cesr_passed(report: &[u8], passed: &mut usize) -> u8
 {
     let outcome = passing::passed(report);
     exports_counts::passed(outcome, passed)
+}
+
+// letter: a group's, as a character; len: the length of the body, which lies at the buffer's start. answer: the size of the group, or the
+// place in the body.
+#[no_mangle]
+pub extern "C" fn cesr_group_text(letter: u8, len: usize, buf: &mut [u8], answer: &mut usize) -> u8
+    ensures { λ r. ⌜ r ≡ groupedNumber (grouped Text letter len (now (buf .entry))) ⌝ }
+    ensures { λ r. ⌜ now (answer .exit) ≡ groupedValue (grouped Text letter len (now (buf .entry))) ⌝ }
+    ensures { λ r. ⌜ now (buf .exit) ≡ groupLeft (grouped Text letter len (now (buf .entry))) Text letter len (now (buf .entry)) ⌝ }
+{
+    exports_groups::group_text(letter, len, buf, answer)
+}
+
+// The same in binary.
+#[no_mangle]
+pub extern "C" fn cesr_group_binary(
+    letter: u8,
+    len: usize,
+    buf: &mut [u8],
+    answer: &mut usize,
+) -> u8
+    ensures { λ r. ⌜ r ≡ groupedNumber (grouped Binary letter len (now (buf .entry))) ⌝ }
+    ensures { λ r. ⌜ now (answer .exit) ≡ groupedValue (grouped Binary letter len (now (buf .entry))) ⌝ }
+    ensures { λ r. ⌜ now (buf .exit) ≡ groupLeft (grouped Binary letter len (now (buf .entry))) Binary letter len (now (buf .entry)) ⌝ }
+{
+    exports_groups::group_binary(letter, len, buf, answer)
 }

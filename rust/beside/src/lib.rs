@@ -12,7 +12,7 @@ use oracle::indexed::{self, IndexedItem};
 use oracle::primitive::{self, Named};
 use oracle::registry::Indexed as Row;
 use oracle::report::write_report;
-use oracle::{convert, Form};
+use oracle::{convert, group, Form};
 use proved::{Counts, Indexed, IndexedInfo, Info, Primitive, Refusal, Tag};
 pub use walk::{walk_binary, walk_on_binary, walk_on_text, walk_text};
 
@@ -163,6 +163,14 @@ fn write_indexed(item: &Indexed, form: Form, out: &mut [u8]) -> Result<usize, Re
     };
     let (index, ondex) = (item.index as u64, item.ondex as u64);
     indexed::write(code, index, ondex, item.raw, form, out).map_err(refused)
+}
+
+pub fn group_text(letter: u8, length: usize, buffer: &mut [u8]) -> Result<usize, Refusal> {
+    group::write(letter, Form::Text, length, buffer).map_err(refused)
+}
+
+pub fn group_binary(letter: u8, length: usize, buffer: &mut [u8]) -> Result<usize, Refusal> {
+    group::write(letter, Form::Binary, length, buffer).map_err(refused)
 }
 
 pub fn compare(expected: &[u8], report: &[u8], counts: &mut Counts) -> Result<(), Refusal> {

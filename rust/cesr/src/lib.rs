@@ -14,6 +14,8 @@
 //! | write one primitive | [`write()`], [`write_into`] |
 //! | write a value by its type alone | [`write_variable`], [`write_variable_into`] |
 //! | read or write one indexed signature | [`read_indexed`], [`write_indexed`]: an [`IndexedItem`] |
+//! | put a group around items | [`write_group`], [`write_group_into`] |
+//! | write items and groups one in the other | [`Builder`] |
 //! | go through all depths | [`Walk`], an iterator |
 //! | go on later, or by so many items at once | [`State`], saved as bytes, and [`Walk::walk_on`] |
 //! | look at one item of any kind | [`item_at`] |
@@ -70,6 +72,7 @@ mod code;
 mod convert;
 mod expectation;
 mod form;
+mod group;
 mod indexed;
 mod names;
 mod primitive;
@@ -81,6 +84,7 @@ pub use code::{Chars, Code, Head, ParseCodeError};
 pub use convert::{to_binary, to_binary_into, to_text, to_text_into};
 pub use expectation::{compare, Comparison, Expectation};
 pub use form::{Form, ParseFormError};
+pub use group::{write_group, write_group_into, Builder};
 pub use indexed::{
     read_indexed, read_indexed_text_into, write_indexed, write_indexed_into, IndexedCode,
     IndexedItem, ParseIndexedCodeError,

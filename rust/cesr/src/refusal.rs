@@ -79,7 +79,8 @@ impl fmt::Display for Number {
 ///
 /// The place is the character for 5 and 19, else the item's start; 0 for 1, 2,
 /// 3, 12, 13, 20 and for a writer's 6, 15, 16 and 18, and for a writer's 5 and 19
-/// the index among the tag characters or in the text.
+/// the index among the tag characters or in the text. What a group's writer
+/// refuses in the body has its place in it, counted from the body's start.
 #[derive(Clone, Copy, Debug, PartialEq, Eq, Hash)]
 pub struct Refusal {
     /// Why.

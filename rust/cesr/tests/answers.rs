@@ -4,13 +4,14 @@
 
 use cesr::{
     compare, item_at, judge, judge_into, read, read_binary_into, read_indexed, read_text_into,
-    to_binary, to_binary_into, to_text, to_text_into, write, write_indexed, write_into,
-    write_variable, write_variable_into, Code, Expectation, Form, Number, Pause, Report, State,
-    Verdict, Walk, STATE, STATE_BYTES,
+    to_binary, to_binary_into, to_text, to_text_into, write, write_group, write_group_into,
+    write_indexed, write_into, write_variable, write_variable_into, Builder, Code, Expectation,
+    Form, IndexedCode, Number, Pause, Refusal, Report, State, Verdict, Walk, STATE, STATE_BYTES,
 };
 use streams::generate::any_deck;
 use streams::item::stream;
 use streams::noise::noise;
+use streams::table::GROUPS;
 use streams::{damage, Random};
 
 const CASES: u64 = 4_000;
@@ -528,4 +529,92 @@ fn a_reports_own_expectation() {
         assert!(found.is_as_expected(), "seed {seed} {form} {found:?}");
         assert_eq!((found.passed, found.expected()), (items, items));
     });
+}
+
+/// A group around a stream, by each of the three ways; refused, what was there
+/// stays.
+#[test]
+fn groups_around_streams() {
+    each_case(|seed, form, stream| {
+        let letter = GROUPS[seed as usize % GROUPS.len()];
+        let group = write_group(form, letter, stream);
+        let mut builder = Builder::new(form);
+        let enclosed = builder.append(stream).enclose(letter).map(drop);
+        let mut beside = Builder::new(form);
+        beside.append(b"before");
+        let within = beside.group(letter, |body| {
+            body.append(stream);
+            Ok(())
+        });
+        assert_eq!(within.map(drop), enclosed);
+        let mut buffer = [stream, &[7; 8]].concat();
+        let into = write_group_into(form, letter, stream.len(), &mut buffer);
+        match group {
+            Ok(group) => {
+                assert!(judge(form, &group).unwrap().passed());
+                assert_eq!(into, Ok(group.len()));
+                assert_eq!(buffer[..group.len()], group);
+                assert_eq!(beside.as_bytes(), [b"before", &group[..]].concat());
+                assert_eq!(builder.into_bytes(), group);
+            }
+            Err(refusal) => {
+                assert_eq!((into, enclosed), (Err(refusal), Err(refusal)));
+                assert_eq!(builder.as_bytes(), stream);
+                assert_eq!(beside.as_bytes(), b"before");
+            }
+        }
+    });
+}
+
+/// Every item that can be written, beside each other in a group of a group.
+#[test]
+fn a_builder_writes_what_the_writers_write() -> Result<(), Refusal> {
+    for form in [Form::Text, Form::Binary] {
+        let number = write(form, Code::fixed(1, b'M'), b"", &[0, 1])?;
+        let tag = write(form, Code::fixed(1, b'X'), b"abc", b"")?;
+        let value = write_variable(form, b'B', b"hello")?;
+        let code = IndexedCode::new(Some(b'2'), b'A');
+        let signature = write_indexed(form, code, 65, 2, &[9; 64])?;
+        let signed = write_group(form, b'L', &signature)?;
+        let body = [&number[..], &tag, &signed, &value].concat();
+        let mut builder = Builder::new(form);
+        builder
+            .primitive(Code::fixed(1, b'M'), b"", &[0, 1])?
+            .primitive(Code::fixed(1, b'X'), b"abc", b"")?
+            .group(b'L', |body| body.indexed(code, 65, 2, &[9; 64]).map(drop))?
+            .variable(b'B', b"hello")?;
+        assert_eq!(builder.as_bytes(), body);
+        assert_eq!(builder.form(), form);
+        builder.enclose(b'J')?.enclose(b'A')?;
+        let inner = write_group(form, b'J', &body)?;
+        assert_eq!(builder.as_bytes(), write_group(form, b'A', &inner)?);
+        // What is refused is not there.
+        let before = builder.clone();
+        assert!(builder.primitive(Code::fixed(1, b'M'), b"", &[]).is_err());
+        assert!(builder.variable(b'G', b"").is_err());
+        assert!(builder.indexed(code, 4096, 0, &[9; 64]).is_err());
+        let refused = builder.group(b'L', |_| {
+            Err(Refusal {
+                number: Number::Room,
+                place: 9,
+            })
+        });
+        assert_eq!(refused.unwrap_err().place, 9);
+        assert_eq!(builder, before);
+    }
+    Ok(())
+}
+
+/// 63 groups one in the other pass in a body, 64 are 11.
+#[test]
+fn groups_as_deep_as_they_may_be() {
+    for form in [Form::Text, Form::Binary] {
+        let mut builder = Builder::new(form);
+        for _ in 0..64 {
+            builder.enclose(b'J').unwrap();
+        }
+        let refusal = builder.enclose(b'J').unwrap_err();
+        assert_eq!(refusal.number, Number::TooDeep);
+        assert_eq!(refusal.place, 63 * form.unit());
+    }
 }

@@ -5,17 +5,28 @@ use crate::input::Source;
 use crate::name::shown;
 use crate::pages::Asked;
 use crate::standing::Standing;
+use crate::write::{Item, Values};
 use cesr::Form;
 use std::ffi::{OsStr, OsString};
 use std::path::{Path, PathBuf};
 use std::vec::IntoIter;
 
-const COMMANDS: &str = "judge, convert, show, manifest, compare, expect or numbers";
+const COMMANDS: &str = "judge, convert, show, group, write, manifest, compare, expect or numbers";
 
 #[rustfmt::skip]
 const JUDGE: &[&str] = &[
     "--form", "--manifest", "--all", "--json", "--report", "--html", "--junit", "--sarif",
 ];
+
+#[rustfmt::skip]
+const WRITE: &[&str] = &[
+    "--form", "--index", "--ondex", "--raw", "--tag", "--text", "--out", CODE,
+];
+
+/// Words that no option is: what a command asks for in front of its FILE, and
+/// may be given with the `-` of a group.
+const LETTER: &str = "LETTER";
+const CODE: &str = "CODE";
 
 /// What is asked for.
 #[derive(Debug)]
@@ -23,6 +34,8 @@ pub enum Task {
     Judge(Judge),
     Convert(Convert),
     Show(Show),
+    Group(Group),
+    Write(Write),
     Manifest(Manifest),
     Compare(Compare),
     Expect(Expect),
@@ -70,6 +83,23 @@ pub struct Show {
 }
 
 #[derive(Debug)]
+pub struct Group {
+    pub form: Form,
+    pub letter: u8,
+    pub out: Option<PathBuf>,
+    pub source: Source,
+}
+
+#[derive(Debug)]
+pub struct Write {
+    pub form: Form,
+    /// The code as it was given.
+    pub code: OsString,
+    pub item: Item,
+    pub out: Option<PathBuf>,
+}
+
+#[derive(Debug)]
 pub struct Manifest {
     pub form: Option<Form>,
     pub sources: Vec<Source>,
@@ -98,6 +128,7 @@ struct Given {
     out: Option<OsString>,
     manifest: Option<OsString>,
     pages: Vec<Asked>,
+    values: Values,
     all: bool,
     json: bool,
     report: bool,
@@ -117,6 +148,8 @@ pub fn parse(mut arguments: impl Iterator<Item = OsString>) -> Result<Task, Stri
         "judge" => (judge, JUDGE),
         "convert" => (convert, &["--to", "--out"]),
         "show" => (show, &["--form"]),
+        "group" => (group, &["--form", "--out", LETTER]),
+        "write" => (write, WRITE),
         "manifest" => (manifest, &["--form"]),
         "compare" => (compare, &["--json"]),
         "expect" => (expect, &["--form", "--out"]),
@@ -193,7 +226,8 @@ impl Given {
             None => (option, None),
         };
         if !allowed.contains(&name) {
-            return Err(no_such_option(OsStr::new(option)));
+            let said = of_a_group(option, allowed);
+            return Err(said.unwrap_or_else(|| no_such_option(OsStr::new(option))));
         }
         let mut valued = || {
             let value = value.take().or_else(|| more.next());
@@ -204,6 +238,11 @@ impl Given {
             "--to" => once(name, &mut self.to, form(valued()?)?)?,
             "--out" => once(name, &mut self.out, valued()?)?,
             "--manifest" => once(name, &mut self.manifest, valued()?)?,
+            "--index" => once(name, &mut self.values.index, valued()?)?,
+            "--ondex" => once(name, &mut self.values.ondex, valued()?)?,
+            "--raw" => once(name, &mut self.values.raw, valued()?)?,
+            "--tag" => once(name, &mut self.values.tag, valued()?)?,
+            "--text" => once(name, &mut self.values.text, valued()?)?,
             "--html" | "--junit" | "--sarif" => Asked::add(&mut self.pages, name, valued()?)?,
             "--all" => self.all = true,
             "--json" => self.json = true,
@@ -246,6 +285,22 @@ fn is_one_thing(word: &OsStr) -> Result<(), String> {
 
 fn no_such_option(option: &OsStr) -> String {
     format!("no such option here: {}", shown(option))
+}
+
+/// `-K` where `K` is asked for, or where no group is written.
+fn of_a_group(option: &str, allowed: &[&str]) -> Option<String> {
+    let letter = option.trim_start_matches('-');
+    if letter.chars().count() != 1 {
+        return None;
+    }
+    let [letter, option] = [letter, option].map(|word| shown(OsStr::new(word)));
+    match allowed.last() {
+        Some(&LETTER) => Some(format!("a group's letter is {letter}, not {option}")),
+        Some(&CODE) => Some(format!(
+            "{option} is a group's code: cesr group puts one around items"
+        )),
+        _ => None,
+    }
 }
 
 fn form(name: OsString) -> Result<Form, String> {
@@ -317,6 +372,46 @@ fn show(given: Given) -> Result<Task, String> {
         form: given.form,
         at: offset.map_err(|_| format!("no offset: {}", shown(&at)))?,
         source: at_most_one(sources)?,
+    }))
+}
+
+/// The form of what is written, which nothing tells.
+fn stated(command: &str, form: Option<Form>) -> Result<Form, String> {
+    form.ok_or_else(|| format!("{command} asks for --form text or --form binary"))
+}
+
+fn group(given: Given) -> Result<Task, String> {
+    let mut sources = given.sources.into_iter();
+    let word = match sources.next() {
+        Some(Source::File(word)) => word.into_os_string(),
+        _ => return Err("group asks for a LETTER".to_string()),
+    };
+    let [letter] = *word.as_encoded_bytes() else {
+        let word = shown(&word);
+        return Err(format!("a group has one letter, like K, not {word}"));
+    };
+    Ok(Task::Group(Group {
+        form: stated("group", given.form)?,
+        letter,
+        out: out(given.out),
+        source: at_most_one(sources)?,
+    }))
+}
+
+fn write(given: Given) -> Result<Task, String> {
+    let mut sources = given.sources.into_iter();
+    let code = match sources.next() {
+        Some(Source::File(word)) => word.into_os_string(),
+        _ => return Err("write asks for a CODE".to_string()),
+    };
+    if let Some(more) = sources.next() {
+        return Err(format!("there is no FILE for this: {}", more.name()));
+    }
+    Ok(Task::Write(Write {
+        form: stated("write", given.form)?,
+        item: given.values.item(&code)?,
+        code,
+        out: out(given.out),
     }))
 }
 

@@ -40,14 +40,32 @@ pub fn run(task: &Convert, out: &mut dyn Write) -> io::Result<Standing> {
         Form::Text => cesr::to_binary_into(&input.bytes, &mut room),
         Form::Binary => cesr::to_text_into(&input.bytes, &mut room),
     };
-    let converted = answer.map(|length| room.get(..length).unwrap_or_default());
-    match (converted, &task.out) {
-        (Err(refusal), _) => failed(&format!("{name}: {}", explained(&input, refusal))),
-        (Ok(converted), Some(path)) => to_file(path, converted),
-        (Ok(_), None) if input.form == Form::Text && io::stdout().is_terminal() => {
+    match answer {
+        Err(refusal) => {
+            let is_placed = refusal.number.is_of_a_character();
+            let said = explained(&input, refusal, is_placed, None);
+            failed(&format!("{name}: {said}"))
+        }
+        Ok(length) => {
+            let converted = room.get(..length).unwrap_or_default();
+            written(out, input.form.other(), task.out.as_deref(), converted)
+        }
+    }
+}
+
+/// What was made of this form, to a file or standard output.
+pub fn written(
+    out: &mut dyn Write,
+    form: Form,
+    path: Option<&Path>,
+    bytes: &[u8],
+) -> io::Result<Standing> {
+    match path {
+        Some(path) => to_file(path, bytes),
+        None if form == Form::Binary && io::stdout().is_terminal() => {
             failed("binary is not for a terminal: give --out FILE, or send it to a pipe")
         }
-        (Ok(converted), None) => out.write_all(converted).map(|()| Standing::Passed),
+        None => out.write_all(bytes).map(|()| Standing::Passed),
     }
 }
 
@@ -66,18 +84,20 @@ pub fn to_file(path: &Path, bytes: &[u8]) -> io::Result<Standing> {
     }
 }
 
-/// The refusal; where it has a place in the stream, with the bytes there. What
-/// makes units not whole is looked for at the end.
-fn explained(input: &Input, refusal: Refusal) -> String {
+/// The refusal; where it has a place in the stream, with the bytes there, and
+/// what is to be told of it or seen from them. What makes units not whole is
+/// looked for at the end.
+pub fn explained(input: &Input, refusal: Refusal, is_placed: bool, told: Option<String>) -> String {
     let mut text = refusal.to_string();
     let mut place = input.bytes.len().saturating_sub(1);
-    if refusal.number.is_of_a_character() {
+    if is_placed {
         place = refusal.place;
         let lines = excerpt::at(input.form, &input.bytes, 0..0, place);
         text.push('\n');
         text.push_str(lines.unwrap_or_default().trim_end());
     }
-    if let Some(note) = readable::note(input, refusal.number, place) {
+    let note = told.or_else(|| readable::note(input, refusal.number, place));
+    if let Some(note) = note {
         text.push_str(&format!("\n        {note}"));
     }
     text.push_str(&format!(

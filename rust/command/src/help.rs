@@ -4,12 +4,15 @@ use crate::hint;
 use cesr::Number;
 
 pub const HELP: &str = "\
-cesr: judges, converts, shows and compares CESR streams
+cesr: judges, converts, shows, compares and writes CESR streams
 
   cesr judge [--form text|binary] [--manifest LIST] [--all] [--json | --report]
              [--html FILE] [--junit FILE] [--sarif FILE] [--] [FILE...]
   cesr convert [--to text|binary] [--out FILE] [--] [FILE]
   cesr show [--form text|binary] OFFSET [--] [FILE]
+  cesr group --form text|binary LETTER [--out FILE] [--] [FILE]
+  cesr write CODE --form text|binary [--index N] [--ondex N]
+             [--raw HEX | --tag T | --text T] [--out FILE]
   cesr manifest [--form text|binary] [--] FILE...
   cesr compare [--json] [--] EXPECTED [REPORT]
   cesr expect [--form text|binary] [--out FILE] [--] [FILE]
@@ -35,6 +38,18 @@ show      One item at an offset, as a stream by itself: code, name, raw value in
           hexadecimal, text or tag characters; a group with the items inside; a
           signature of a group -K or -L with index and ondex. An offset where no
           item starts is said to be none, and what it lies in.
+group     The items of FILE in a group, to standard output or --out FILE. LETTER is
+          the group's, K for -K. The items are judged as its contents, those of K
+          and L as indexed items, and what is refused there is not written. An
+          empty FILE makes an empty group.
+write     One item, to standard output or --out FILE. With --index it is an indexed
+          item, for a group -K or -L, without it a primitive: both have codes A to
+          D, 0A and 0B. CODE is like M, 0H, 1AAM, 4B or 7AAB; the selector of a
+          variable value follows from its length.
+          --raw    the raw value, in hexadecimal digits
+          --tag    tag characters
+          --text   the text of type A
+          --index, --ondex   places in the current and in the next key list
 manifest  A line for each FILE: SHA256 LENGTH FORM NAME. Names in a manifest are
           relative to its folder. It looks at no codes.
 compare   An expectation file held against a report's bytes (judge --report): how
@@ -49,8 +64,8 @@ No FILE or REPORT, or -, is standard input. Behind -- every word is a file's nam
 put it before names that come from a list or a pattern. Without it a word that
 could be an option and is a file's name is an error. Without --form the form is
 detected from the first sixteen bytes (text if all are printable), and the output
-says so. Items are counted from 0. Offsets, sizes and places count characters in
-text and bytes in binary, from 0 too.
+says so; group and write guess nothing. Items are counted from 0. Offsets, sizes
+and places count characters in text and bytes in binary, from 0 too.
 
 Exit status
   0  every byte of every stream lies in an accepted item
@@ -58,10 +73,10 @@ Exit status
   2  a call was refused (a stream over the limit), a stream is empty, changed
      while it was read or is other than listed, or something could not be read
      or written
-show says so of its one item, and gives 1 where no item starts. convert, manifest
-and expect give 0 if all was written. compare gives 0 if all is as expected, 1 if
-anything is otherwise, and 2 for a file or report that is not well made, or
-nothing expected and nothing there.
+show says so of its one item, and gives 1 where no item starts. convert, group,
+write, manifest and expect give 0 if all was written. compare gives 0 if all is as
+expected, 1 if anything is otherwise, and 2 for a file or report that is not well
+made, or nothing expected and nothing there.
 --help behind a command gives 2: nothing was judged.
 ";
 

@@ -1,4 +1,5 @@
-//! The command `cesr`: judges, converts, shows and compares CESR streams.
+//! The command `cesr`: judges, converts, shows, compares and writes CESR
+//! streams.
 //!
 //! Thin over the crate of the same name: what is said of a stream comes from
 //! the proved library, and what stands here reads, prints and counts.
@@ -22,6 +23,7 @@ mod convert;
 mod excerpt;
 mod expect;
 mod expected;
+mod group;
 mod help;
 mod hint;
 mod html;
@@ -48,6 +50,7 @@ mod terminal;
 mod total;
 mod watch;
 mod words;
+mod write;
 
 use arguments::Task;
 use standing::Standing;
@@ -77,6 +80,8 @@ fn done(task: Task) -> Standing {
         Task::Convert(task) => convert::run(&task, &mut out),
         Task::Show(task) => show::run(&task, &mut out),
         Task::Manifest(task) => listing::run(&task, &mut out),
+        Task::Group(task) => group::run(&task, &mut out),
+        Task::Write(task) => write::run(&task, &mut out),
         Task::Compare(task) => compare::run(&task, &mut out),
         Task::Expect(task) => expect::run(&task, &mut out),
         Task::Say(text, standing) => out.write_all(text.as_bytes()).map(|()| standing),

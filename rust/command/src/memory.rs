@@ -11,6 +11,13 @@ pub fn zeros(length: usize) -> io::Result<Vec<u8>> {
     Ok(zeros)
 }
 
+/// So many bytes more behind those that are there, each 0.
+pub fn more(bytes: &mut Vec<u8>, length: usize) -> io::Result<()> {
+    bytes.try_reserve_exact(length).map_err(missing)?;
+    bytes.resize(bytes.len().saturating_add(length), 0);
+    Ok(())
+}
+
 fn missing(_: std::collections::TryReserveError) -> io::Error {
     ErrorKind::OutOfMemory.into()
 }

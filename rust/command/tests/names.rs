@@ -53,6 +53,9 @@ fn an_option_that_is_a_file_is_an_error_everywhere() {
         "cesr convert --to binary -",
         "cesr convert --to binary --out - a",
         "cesr show 0 -",
+        "cesr group --form text A -",
+        "cesr group --form text A --out - a",
+        "cesr write --form text 1AAM --out -",
         "cesr manifest -",
     ] {
         let ran = within(&folder, line);
@@ -167,6 +170,12 @@ fn odd_names_imitate_no_line() {
             &["convert", "--to", &name],
             &["convert", &bad, &bad],
             &["manifest", &missing],
+            &["group", "--form", "text", "A", &bad],
+            &["group", "--form", "text", "A", &missing],
+            &["group", "--form", "text", &name],
+            &["write", "--form", "text", &name],
+            &["write", "--form", "text", "M", "--raw", &name],
+            &["write", "--form", "text", "A", "--index", &name],
             &["judge", &format!("--{name}")],
             &[&name],
         ] {

@@ -155,3 +155,17 @@ for arguments in (['judge', '--report'], ['convert', '--to', 'binary']):
 ",
     );
 }
+
+/// Bytes at a terminal would be no use; characters are.
+#[test]
+fn binary_is_not_for_a_terminal() {
+    holds(
+        "
+for arguments in (['write', '1AAM'], ['group', 'A'], ['group', 'A', 'samples/clean-binary.cesr']):
+    at, _ = play(arguments + ['--form', 'binary'], True, True)
+    assert b'binary is not for a terminal' in at and b'\\xd4' not in at, at
+at, _ = play(['write', '--form', 'text', '1AAM'], True, True)
+assert at == b'1AAM', at
+",
+    );
+}

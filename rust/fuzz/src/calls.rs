@@ -67,6 +67,17 @@ pub fn one(input: &[u8]) {
                 }
             }
             Call::Compare => compare(memory, form, front, made),
+            Call::Group => {
+                let (letter, stated) = (front.byte(), front.number());
+                group(
+                    memory,
+                    form,
+                    room,
+                    letter,
+                    stated,
+                    &front.stream(form, long),
+                );
+            }
             _ => stream(memory, call, form, room, &front.stream(form, long)),
         }
     });
@@ -283,6 +294,25 @@ fn write(memory: &mut Memory, form: Form, room: Room, mut front: Front) {
     assert_eq!(answers.0, answers.1);
     assert_eq!(ours, theirs);
     assert_eq!(placed, raw);
+}
+
+/// The room asked is that of header and body; without it what fits of the body.
+/// A stated length of 0 is the body's own.
+fn group(memory: &mut Memory, form: Form, room: Room, letter: u8, stated: usize, body: &[u8]) {
+    let [proved, oracle] = match form {
+        Form::Text => [proved::group_text, beside::group_text],
+        Form::Binary => [proved::group_binary, beside::group_binary],
+    };
+    let length = if stated == 0 { body.len() } else { stated };
+    let mut theirs = [body, &[HELD; 8]].concat();
+    let asked = oracle(letter, body.len(), &mut theirs).unwrap_or(theirs.len());
+    theirs = body.to_vec();
+    theirs.resize(room.of(asked), HELD);
+    let ours = memory.out.lend(memory.edge, theirs.len(), HELD);
+    ours.copy_from_slice(&theirs);
+    let answer = proved(letter, length, ours);
+    assert_eq!(answer, oracle(letter, length, &mut theirs));
+    assert_eq!(ours, theirs);
 }
 
 /// A file with a report: both as bytes, or made of verdicts and of a stream.

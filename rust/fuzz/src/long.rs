@@ -29,7 +29,25 @@ pub fn one(call: Call, form: Form, lent_room: Room, mut front: Front) {
         }
         Call::Walk | Call::WalkFrom => walk(form, stream, front, lent_room.budget()),
         Call::Write => write(form, room, front),
-        Call::Report | Call::Convert | Call::All | Call::Compare => lent(form, stream, room),
+        Call::All => {
+            group(form, stream, front.byte());
+            lent(form, stream, room);
+        }
+        Call::Report | Call::Convert | Call::Compare | Call::Group => lent(form, stream, room),
+    }
+}
+
+/// In a buffer that has room for it, and stated to be one longer than that.
+fn group(form: Form, stream: &[u8], letter: u8) {
+    let [ours, theirs] = match form {
+        Form::Text => [proved::group_text, beside::group_text],
+        Form::Binary => [proved::group_binary, beside::group_binary],
+    };
+    let (mut buffer, mut told) = (stream.to_vec(), stream.to_vec());
+    for length in [stream.len(), stream.len() + 1] {
+        let answer = ours(letter, length, &mut buffer);
+        assert_eq!(answer, theirs(letter, length, &mut told));
+        assert_eq!(buffer, told);
     }
 }
 

@@ -2,8 +2,9 @@
 //! of damage of `streams`, or an accepted item put in; the others libFuzzer's.
 
 use crate::input::{Call, Front, LONG};
-use crate::seeds::writes;
+use crate::seeds::{long_group, writes};
 use proved::MAX_DEPTH;
+use streams::body::{body, Body};
 use streams::damage::damage;
 use streams::expectation::{file, report, spoilt, varied, verdicts, FILE, REPORT};
 use streams::form::characters;
@@ -61,6 +62,8 @@ fn changed(random: &mut Random, input: &mut [u8], size: usize) -> Option<usize> 
         Call::WalkFrom => drop(front.state()),
         Call::Read => drop(front.number()),
         Call::Compare => return another_compare(random, input, size),
+        Call::Group if random.once_in(2) => return another_group(random, form, input),
+        Call::Group => drop((front.byte(), front.number())),
         _ if random.once_in(400) => return long_stream(random, form, input),
         _ => {}
     }
@@ -124,6 +127,25 @@ fn another_compare(random: &mut Random, input: &mut [u8], size: usize) -> Option
     input[0] &= !3;
     let length = [expected.len() as u8];
     replaced(input, 2, &[&length, &expected[..], &[0], &told].concat())
+}
+
+/// Another body with its letter; its own length is stated, or another. Or a long
+/// one, around what a small code counts.
+fn another_group(random: &mut Random, form: Form, input: &mut [u8]) -> Option<usize> {
+    if random.once_in(100) {
+        *input.get_mut(1)? = LONG;
+        let (letter, units) = (*random.pick(b"ACJZ"), 4094 + random.below(5));
+        return replaced(input, 2, &long_group(form, letter, units));
+    }
+    let kind = random.number();
+    let Body { letter, bytes } = body(random, form, kind);
+    let stated = match random.below(6) {
+        0 => (bytes.len() as u16).wrapping_add(random.below(9) as u16),
+        1 => random.number() as u16,
+        _ => 0,
+    };
+    let [high, low] = stated.to_be_bytes();
+    replaced(input, 2, &[&[letter, high, low], &bytes[..]].concat())
 }
 
 /// Where an input to write has its raw value's length.

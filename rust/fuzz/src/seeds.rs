@@ -1,15 +1,17 @@
 //! Inputs to start from: the papers' streams, an item of every code, large ones
 //! for few units too and around 4,096, groups around the depth limit, streams so
 //! long that conversion goes by its tables, a primitive and an indexed item of
-//! every code to write, some states, some comparisons.
+//! every code to write, bodies of every kind and letter for a group, some states,
+//! some comparisons.
 
-use crate::input::{Call, CALLS, COMPARE, LONG};
+use crate::input::{Call, CALLS, COMPARE, GROUP, LONG};
+use streams::body::{body, Body, KINDS};
 use streams::damage::GENUS_CODES;
 use streams::expectation::{file, report};
 use streams::form::FORMS;
 use streams::generate::{large_code, nested, one_code, CODES, LARGE_CODES};
 use streams::item::{stream, Item};
-use streams::table::{Kind, FIXED, HEADS, INDEXED, TEXT, TYPES};
+use streams::table::{Kind, FIXED, GROUPS, HEADS, INDEXED, TEXT, TYPES};
 use streams::{papers, Form, Random};
 
 /// The first byte of an input.
@@ -37,6 +39,7 @@ pub fn seeds() -> Vec<Vec<u8>> {
         seeds.extend(writes(form));
         seeds.extend(indexed_writes(form));
         seeds.extend(states(form));
+        seeds.extend(groups(form));
         for header in [&b"--JAABAA"[..], b"--AAAA__", b"7AABABAA", b"9AABAA__"] {
             let made = form.of_text(&[header, b"AAAA"].concat());
             seeds.push([&[choice(Call::All, form), LONG], &made[..]].concat());
@@ -129,6 +132,39 @@ pub fn indexed_writes(form: Form) -> Vec<Vec<u8>> {
         [&start[..], &head, &tag.concat(), &[0, 0], &[0x5A]].concat()
     };
     INDEXED.iter().map(row).collect()
+}
+
+/// A letter, the body's own length, and the body: an item in a group of each
+/// letter, bodies of each kind, and long ones around what a small code counts.
+fn groups(form: Form) -> Vec<Vec<u8>> {
+    let first = GROUP | u8::from(form == Form::Binary) << 3;
+    let head = |room: u8, letter: u8| [first, room, letter, 0, 0];
+    let mut random = Random::new(4);
+    let mut seeds = Vec::new();
+    for letter in GROUPS {
+        let body = form.of_text(b"MAAB");
+        seeds.push([&head(0, *letter)[..], &body].concat());
+    }
+    for kind in 0..KINDS {
+        for _ in 0..4 {
+            let Body { letter, bytes } = body(&mut random, form, kind);
+            seeds.push([&head(0, letter)[..], &bytes].concat());
+        }
+    }
+    for letter in *b"AJK" {
+        let large = form.of_text(b"--JAABAA1AAK");
+        seeds.push([&head(LONG, letter)[..], &large].concat());
+        for units in 4094..4098 {
+            seeds.push([&[first, LONG], &long_group(form, letter, units)[..]].concat());
+        }
+    }
+    seeds
+}
+
+/// So many units of a long body, stated by its length.
+pub fn long_group(form: Form, letter: u8, units: usize) -> Vec<u8> {
+    let [high, low] = ((units * form.unit()) as u16).to_be_bytes();
+    [&[letter, high, low], &form.of_text(b"1AAK")[..]].concat()
 }
 
 /// Files and reports as bytes; verdicts with a stream's own report, right and

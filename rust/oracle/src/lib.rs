@@ -16,6 +16,7 @@ pub mod compare;
 pub mod convert;
 pub mod form;
 pub mod frame;
+pub mod group;
 pub mod indexed;
 pub mod instalments;
 pub mod judge;

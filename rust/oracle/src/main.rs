@@ -2,6 +2,7 @@
 
 use oracle::convert;
 use oracle::form::Form;
+use oracle::group;
 use oracle::indexed::{self, IndexedItem};
 use oracle::primitive::{self, Named, Primitive, Tag};
 use oracle::refusal::Refusal;
@@ -21,6 +22,9 @@ usage, with FORM = text or binary; the stream comes from standard input:
   oracle read-indexed FORM OFFSET [--room N]
                                       one line: code=C index=N ondex=N raw=HEX size=N
   oracle walk FORM                    one line an item: OFFSET SIZE DEPTH CODE
+  oracle group FORM LETTER [--length N] [--room N]
+                                      the body in a group; N characters or bytes of
+                                      it, in a buffer of N
   oracle step FORM OPEN POSITION FIRST INDEXED [END ...]
                                       one step from a given state, FIRST and
                                       INDEXED 0 or 1, up to 64 slots (the rest 0); two lines:
@@ -35,8 +39,8 @@ without a stream:
                                       the item's characters or bytes; CODE A to D,
                                       0A, 0B, 2A to 2D, 3A, 3B
 
-N is the room lent, in bytes (for read of the raw value or the text); without it
-the room is enough. In binary, read asks room for text only. Offsets and sizes are in characters
+N of --room is the room lent, in bytes (for read of the raw value or the text, for
+group of header and body); without it the room is enough. In binary, read asks room for text only. Offsets and sizes are in characters
 for text and bytes for binary. CODE names in answers: M 0A 1AAM 4B 7AAB -A --A -_
 
 exit 0: done. exit 1: refused, and `refused NUMBER PLACE` on standard error
@@ -95,6 +99,7 @@ fn run(words: &[Vec<u8>]) -> Answer {
         [b"read", name, offset] => run_read(form(name)?, number(offset)?, &options),
         [b"read-indexed", name, offset] => run_read_indexed(form(name)?, number(offset)?, &options),
         [b"write-indexed", name, code] => run_write_indexed(form(name)?, code, &options),
+        [b"group", name, letter] => run_group(form(name)?, letter, &options),
         [b"walk", name] => run_walk(form(name)?),
         [b"step", name, rest @ ..] => run_step(form(name)?, rest),
         [b"write", name, b"small", letter] => {
@@ -116,6 +121,7 @@ struct Options {
     raw: Vec<u8>,
     index: usize,
     ondex: usize,
+    length: Option<usize>,
 }
 
 impl Options {
@@ -127,6 +133,7 @@ impl Options {
             let mut given = || words.next().ok_or(Failure::Usage("a value is missing"));
             match *word {
                 b"--room" => options.room = Some(number(given()?)?),
+                b"--length" => options.length = Some(number(given()?)?),
                 b"--index" => options.index = number(given()?)?,
                 b"--ondex" => options.ondex = number(given()?)?,
                 b"--tag" => options.tag = given()?.to_vec(),
@@ -219,6 +226,20 @@ fn run_write_indexed(form: Form, code: &[u8], options: &Options) -> Answer {
     let length = indexed::write(code, index, ondex, &options.raw, form, &mut out)?;
     out.truncate(length);
     Ok(out)
+}
+
+fn run_group(form: Form, letter: &[u8], options: &Options) -> Answer {
+    let [letter] = *letter else {
+        return Err(Failure::Usage("a group's letter is one character"));
+    };
+    let mut buffer = standard_input()?;
+    let length = options.length.unwrap_or(buffer.len());
+    // The largest header has eight characters.
+    let enough = buffer.len() + 8;
+    buffer.resize(options.room.unwrap_or(enough).min(enough), 0);
+    let size = group::write(letter, form, length, &mut buffer)?;
+    buffer.truncate(size);
+    Ok(buffer)
 }
 
 fn run_write(form: Form, named: Named, options: &Options) -> Answer {

@@ -3,14 +3,17 @@
 mod common;
 
 use common::{around, binary, nested};
-use oracle::convert::{to_binary, to_text};
+use oracle::alphabet::character;
+use oracle::convert::{to_binary, to_text, unit_to_bytes};
 use oracle::form::Form;
 use oracle::frame::frame_top_level;
+use oracle::group::write as write_group;
 use oracle::judge::{judge, MOST_GROUPS};
 use oracle::primitive::{read_binary, read_text, write, Named, Primitive, Tag};
 use oracle::registry::{Code, FIXED, INDEXED, VARIABLE};
 use oracle::report::{report, write_report, Report};
 use oracle::walk::{step, Found, Walk};
+use oracle::Refusal;
 
 /// Accepted and refused items, and what cannot be framed.
 #[rustfmt::skip]
@@ -97,6 +100,7 @@ fn try_every_call(noise: &mut Noise, stream: &[u8]) {
         let _ = write_report(stream, form, &mut out);
         check_report(stream, form);
         check_walk(stream, form);
+        check_group(noise, stream, form);
         let mut state = Walk::start();
         for end in state.ends.iter_mut().take(3) {
             *end = noise.below(stream.len() + 2);
@@ -173,6 +177,35 @@ fn check_walk(stream: &[u8], form: Form) {
             assert!(matches!(last, Found::Refused { number, .. } if number == rest.number))
         }
         (None, None) => assert_eq!((last, top_level.len()), (Found::End, rows.len())),
+    }
+}
+
+/// A body is put into a group exactly if the header and the body, judged as a
+/// stream, are one accepted item; else the refusal is that of the body, counted
+/// on.
+fn check_group(noise: &mut Noise, stream: &[u8], form: Form) {
+    let letter = b"ABCDJKLZac"[noise.below(10)];
+    let body = &stream[..stream.len() - stream.len() % form.unit()];
+    let units = body.len() / form.unit();
+    let digits = [units / 64, units % 64].map(|digit| character(digit as u8));
+    let header = [b'-', letter, digits[0], digits[1]];
+    let header = match form {
+        Form::Text => header.to_vec(),
+        Form::Binary => unit_to_bytes(header).unwrap().to_vec(),
+    };
+    assert!(units < 4096, "the noise is short");
+    let group = [&header, body].concat();
+    let judged = report(&group, form).unwrap();
+    assert_eq!((judged.items.len(), judged.remainder), (1, None));
+    let mut buffer = [body, &header].concat();
+    let answer = write_group(letter, form, body.len(), &mut buffer);
+    match judged.refusals.first() {
+        None => assert_eq!((answer, buffer), (Ok(group.len()), group)),
+        Some(row) => {
+            let refused = Refusal::new(row.number, row.place - header.len());
+            assert_eq!(answer, Err(refused));
+            assert_eq!(buffer, [body, &header].concat());
+        }
     }
 }
 

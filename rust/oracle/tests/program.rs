@@ -182,11 +182,35 @@ fn indexed_items() {
 }
 
 #[test]
+fn groups() {
+    answered(&["group", "text", "A"], b"MAAB", b"-AABMAAB");
+    answered(&["group", "text", "A"], b"", b"-AAA");
+    let binary = hex("F80001 300001");
+    answered(&["group", "binary", "A"], &binary[3..], &binary);
+    answered(&["group", "text", "A", "--room", "8"], b"MAAB", b"-AABMAAB");
+    let part = ["group", "text", "J", "--length", "4"];
+    answered(&part, b"MAAB!!!!", b"-JABMAAB");
+    for (more, body, error) in [
+        (["--room", "7"], "MAAB", "3 0"),
+        (["--length", "13"], "MAAB", "3 0"),
+        (["--length", "3"], "MAAB", "2 0"),
+        (["--length", "4"], "MAA!", "5 3"),
+        (["--length", "8"], "MAABMQAA", "8 4"),
+    ] {
+        let words = [&["group", "text", "A"][..], &more].concat();
+        refused(&words, body.as_bytes(), "", error);
+    }
+    refused(&["group", "text", "0"], b"MAAB", "", "6 0");
+    refused(&["group", "text", "K"], b"MAAB", "", "6 0");
+}
+
+#[test]
 fn help_and_wrong_usage() {
     let (status, help, _) = run(&["--help"], b"");
     assert_eq!(status, 0);
     assert!(String::from_utf8_lossy(&help).contains("oracle report FORM"));
-    let calls: [&[&str]; 6] = [
+    let calls: [&[&str]; 7] = [
+        &["group", "text", "-A"],
         &[],
         &["report", "word"],
         &["read", "text", "x"],

@@ -35,6 +35,9 @@ pub type Write = unsafe extern "C" fn(
 pub type WriteIndexed =
     unsafe extern "C" fn(u8, u8, usize, usize, *const u8, usize, *mut u8, usize, *mut usize) -> u8;
 
+/// Letter, the body's length, the buffer that it lies in, and answer.
+pub type Group = unsafe extern "C" fn(u8, usize, *mut u8, usize, *mut usize) -> u8;
+
 /// Stream, its length, state, item and answer.
 pub type Walk = unsafe extern "C" fn(*const u8, usize, *mut State, *mut Item, *mut usize) -> u8;
 
@@ -148,6 +151,20 @@ extern "C" {
         raw: *const u8,
         length: usize,
         out: *mut u8,
+        room: usize,
+        answer: *mut usize,
+    ) -> u8;
+    pub fn cesr_group_text(
+        letter: u8,
+        length: usize,
+        buffer: *mut u8,
+        room: usize,
+        answer: *mut usize,
+    ) -> u8;
+    pub fn cesr_group_binary(
+        letter: u8,
+        length: usize,
+        buffer: *mut u8,
         room: usize,
         answer: *mut usize,
     ) -> u8;

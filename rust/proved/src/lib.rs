@@ -9,11 +9,13 @@
 
 mod compare;
 mod declared;
+mod group;
 mod indexed;
 mod passed;
 mod walk;
 
 pub use compare::{compare, Counts};
+pub use group::{group_binary, group_text};
 pub use indexed::{
     read_indexed_binary, read_indexed_text, write_indexed_binary, write_indexed_text, Indexed,
     IndexedInfo, INDEXED, INDEXED_RAW, INDEXED_START,

@@ -185,7 +185,7 @@ pub fn any_signatures_deck(random: &mut Random) -> Vec<Item> {
 
 /// Indexed items of so many units in all. Where no such items add up to it, it
 /// is anything.
-fn filled_indexed(random: &mut Random, units: usize) -> Vec<Item> {
+pub fn filled_indexed(random: &mut Random, units: usize) -> Vec<Item> {
     // 22 and 23 units: so many of them, and of these as many as are left.
     let adds_up = |units: usize| units % 22 <= units / 22;
     if !adds_up(units) {
@@ -275,7 +275,7 @@ pub fn large_code(random: &mut Random, index: usize, units: usize) -> Item {
 }
 
 /// Primitives of so many units in all.
-fn filled(random: &mut Random, units: usize) -> Vec<Item> {
+pub fn filled(random: &mut Random, units: usize) -> Vec<Item> {
     let mut items = Vec::new();
     let mut left = units;
     while left > 0 {

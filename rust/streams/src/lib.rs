@@ -4,6 +4,7 @@
 //! nesting, and such that only their spelling, the fill of a text or the indexed
 //! items of a signature group may be refused; `decks` the long streams that are timed; `damage` changes a stream in
 //! the ways that streams go wrong; `noise` makes streams that were never right;
+//! `body` makes what a group is put around, with its letter;
 //! `expectation` makes expected verdicts and reports to compare them with;
 //! `papers` are the papers' own; `shrink` makes a failing stream small.
 //! The codes are typed in from 003 (`table`), so nothing here is shared with
@@ -13,6 +14,7 @@
 
 #![forbid(unsafe_code)]
 
+pub mod body;
 pub mod damage;
 pub mod decks;
 pub mod expectation;

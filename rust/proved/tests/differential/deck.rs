@@ -81,3 +81,32 @@ pub const REPORT: (&str, [u8; 39], usize) = (
     ],
     53,
 );
+
+/// A letter, a body, and the group in text, or number and place in units.
+pub type Group = (u8, &'static str, Result<&'static str, (u8, usize)>);
+
+/// 02 e by 01's deck: the body, taken out of a group there, in the group again;
+/// what 01 and 02 a say of the same contents refuses it, at the same place
+/// without the header.
+#[rustfmt::skip]
+pub const GROUPS: &[Group] = &[
+    (b'A', "", Ok("-AAA")),
+    (b'K', "", Ok("-KAA")),
+    (b'A', "MAAB", Ok("-AABMAAB")),
+    (b'J', "-_AAABAA", Ok("-JAC-_AAABAA")),
+    (b'A', "-_AAABAA", Err((7, 0))),
+    (b'A', "MAAB-_AAABAA", Ok("-AADMAAB-_AAABAA")),
+    (b'A', "-_AAACAA", Ok("-AAC-_AAACAA")),
+    (b'A', "0AAA", Err((4, 0))),
+    (b'A', "MAAB0AAA", Err((4, 1))),
+    (b'J', "-AAC-_AAABAA", Err((7, 1))),
+    (b'A', "4AABAAAA", Err((16, 0))),
+    (b'J', "--JAAAAA", Err((18, 0))),
+    (b'J', "MAAB_AAA", Err((6, 1))),
+    (b'K', "MAAB", Err((6, 0))),
+    (b'K', "-KAA", Err((6, 0))),
+    (b'K', "-_AAACAA", Err((6, 0))),
+    (b'0', "MAAB", Err((6, 0))),
+    (b'-', "", Err((6, 0))),
+    (b'd', "_AAA", Err((6, 0))),
+];

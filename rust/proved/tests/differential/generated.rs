@@ -1,6 +1,6 @@
 //! Generated streams and primitives, as many as asked for.
 
-use crate::{compares, demand, demands, judges, say, setting, walks, writes};
+use crate::{compares, demand, demands, groups, judges, say, setting, walks, writes};
 use std::panic::{catch_unwind, resume_unwind, AssertUnwindSafe};
 use std::sync::atomic::{AtomicU64, Ordering};
 use streams::damage::{cross, damage};
@@ -134,6 +134,15 @@ fn generated_indexed_writes() {
         if let Err(why) = writes::any_indexed(&mut Random::new(first + case)) {
             panic!("{why}");
         }
+    });
+}
+
+#[test]
+fn generated_groups() {
+    let first = (setting("SEED", 1) << 40) + 0xE0E0;
+    each("groups written", |case| {
+        let mut random = Random::new(first + case);
+        groups::one(&mut random, FORMS[(case % 2) as usize], case / 2);
     });
 }
 

@@ -1,7 +1,8 @@
 //! One stream before both judges, by every call that takes a stream. What they
 //! answer and what they leave in the buffers must be the same.
 
-use crate::walks;
+use crate::{groups, walks};
+use streams::table::GROUPS;
 use streams::{Form, Random};
 
 /// Nothing, or which call differs and how.
@@ -61,10 +62,14 @@ pub fn lent(
     Ok(())
 }
 
-/// Every call on one stream.
+/// Every call on one stream, which is a body too: of a group that may override
+/// the genus/version, of one that may not, and of one of indexed items.
 pub fn alike(stream: &[u8], form: Form) -> Check {
     report(stream, form)?;
     conversion(stream, form)?;
+    for letter in *b"CJL" {
+        groups::around(letter, stream, form)?;
+    }
     let step = 1 + stream.len() / SMALL;
     let offsets = (0..stream.len()).step_by(step);
     reads(stream, form, offsets.chain(past(stream)))?;
@@ -72,10 +77,13 @@ pub fn alike(stream: &[u8], form: Form) -> Check {
 }
 
 /// Every call on one stream of very many: it is read where its items stand,
-/// where the walk stopped, at some other offsets, and past its end.
+/// where the walk stopped, at some other offsets, and past its end, and is the
+/// body of one group.
 pub fn alike_in_short(stream: &[u8], form: Form, seed: u64) -> Check {
     report(stream, form)?;
     conversion(stream, form)?;
+    let letter = GROUPS[seed as usize % GROUPS.len()];
+    groups::around(letter, stream, form)?;
     let items = walks::from_the_start(stream, form)?;
     let step = 1 + items.len() / SMALL;
     let places = items.iter().copied().step_by(step);

@@ -4,12 +4,15 @@
 //!
 //! Seeded and repeatable. `CASES=1000000 cargo test --release --test
 //! differential generated -- --nocapture` judges so many generated streams,
-//! writes so many primitives and indexed items and compares so many expectations; `SEED=7` others; `THREADS=2` on two cores.
+//! writes so many primitives and indexed items, puts a group around so many
+//! bodies and compares so many expectations; `SEED=7` others; `THREADS=2` on two
+//! cores.
 
 mod compares;
 mod deck;
 mod demands;
 mod generated;
+mod groups;
 mod judges;
 mod limits;
 mod lookup;

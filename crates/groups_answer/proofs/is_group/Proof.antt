@@ -1,0 +1,12 @@
+-- `groups_answer::is_group` meets its contract. Assumes nothing.
+use mathlib.Core.Path.{refl}
+use Rattle.format.specs.Registry.{isGroup}
+use Rattle.groups_answer.proofs.is_group.Statement.{statement}
+use Rattle.groups_answer.proofs.is_group.Tie as tie
+
+returns : tie.Need-returns
+unfolding isGroup
+returns c = refl
+
+pub is-group-spec : {M : Type 1} → statement M
+is-group-spec = tie.close (tie.spec returns)

@@ -1,0 +1,46 @@
+-- `groups_answer::room_for` meets its contract: by the pause. Assumes nothing.
+use Rattle.groups_answer.proofs.Laws.{no-room, has-room, no-walk, spent}
+use borrow.Author.Needs.{needs}
+use Rattle.groups_answer.proofs.room_for.Statement.{statement}
+use Rattle.groups_answer.proofs.room_for.Tie as tie
+
+enum-told : tie.Need-enum-told
+enum-told c = search needs
+
+refused-requires : tie.Need-refused-requires
+refused-requires c κs = search needs
+
+enum-known-pause : tie.Need-enum-known-pause
+enum-known-pause c = search needs
+
+enum-told-2 : tie.Need-enum-told-2
+enum-told-2 c = search needs
+
+refused-requires-2 : tie.Need-refused-requires-2
+refused-requires-2 c κs = search needs
+
+returns : tie.Need-returns
+returns c = no-room _ _ _ _ (c .refused .ensures) (c .before .before .enum-told .given .1) (search needs)
+
+returns-2 : tie.Need-returns-2
+returns-2 c = has-room _ _ _ (c .before .enum-told .given .1) (search needs)
+
+returns-3 : tie.Need-returns-3
+returns-3 c = no-walk _ _ _ _ _ (c .before .pause .given .1)
+
+returns-4 : tie.Need-returns-4
+returns-4 c = spent _ _ _ _ (c .refused2 .ensures) (c .before .enum-told2 .given .1)
+
+pub room-for-spec : {M : Type 1} → statement M
+room-for-spec =
+    tie.close
+    (tie.spec
+    enum-told
+    refused-requires
+    enum-known-pause
+    enum-told-2
+    refused-requires-2
+    returns
+    returns-2
+    returns-3
+    returns-4)

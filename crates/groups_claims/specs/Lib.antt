@@ -1,0 +1,9 @@
+pub mod Words
+pub mod Claims
+pub mod Shift
+pub mod Inside
+pub mod Heads
+pub mod Calls
+pub mod Reads
+pub mod Judged
+pub mod Proved

@@ -1,0 +1,44 @@
+-- `groups_writing::put_front` meets its contract: what two turns and a copy leave. Assumes nothing.
+use denote.Ref.{now}
+use Rattle.groups_writing.proofs.Laws.{fronted}
+use native.Mathlib.Omega.{arith}
+use lib.Seq.{length-take-le}
+use borrow.Author.Needs.{needs}
+use Rattle.groups_writing.proofs.put_front.Statement.{statement}
+use Rattle.groups_writing.proofs.put_front.Tie as tie
+
+reverse-requires : tie.Need-reverse-requires
+reverse-requires c κs = search needs
+
+reverse-requires-2 : tie.Need-reverse-requires-2
+reverse-requires-2 c κs = search needs
+
+array-share-prefix-head : tie.Need-array-share-prefix-head
+array-share-prefix-head c = search needs
+
+slice-aggregate-copy : tie.Need-slice-aggregate-copy
+slice-aggregate-copy c = omega (arith, length-take-le (c .before .before .before .before .before .before .before .before .before .before .args .h) (c .before .before .before .before .before .before .before .before .before .before .args .t2) (search needs))
+
+copy-requires : tie.Need-copy-requires
+copy-requires c κs =
+    omega (arith, length-take-le (c .before .before .before .before .before .before .before .before .before .before .before .args .h) (c .before .before .before .before .before .before .before .before .before .before .before .args .t2) (search needs), c .before .before .before .before .reverse2 .kept .0, c .before .before .before .before .before .before .before .before .reverse .kept .0)
+
+same-length : tie.Need-same-length
+same-length c = search needs
+
+returns : tie.Need-returns
+returns c =
+    fronted (now (c .before .before .before .before .before .before .before .before .before .before .before .before .before .before .args .buf)) (c .before .before .before .before .before .before .before .before .before .before .before .before .before .before .args .t2) (c .before .before .before .before .before .before .before .before .before .before .before .before .before .before .args .h) (c .before .before .before .before .before .before .before .before .before .before .before .before .before .before .args .size) (search needs) (search needs) (search needs) (search needs) _ _ _
+    (c .before .before .before .before .before .before .before .before .before .before .before .reverse .ensures) (c .before .before .before .before .before .before .before .reverse2 .ensures) (c .before .before .copy .ensures .1)
+
+pub put-front-spec : {M : Type 1} → statement M
+put-front-spec =
+    tie.close
+    (tie.spec
+    reverse-requires
+    reverse-requires-2
+    array-share-prefix-head
+    slice-aggregate-copy
+    copy-requires
+    same-length
+    returns)
