@@ -39,22 +39,34 @@ refused-requires-3 : tie.Need-refused-requires-3
 refused-requires-3 c κs = search needs
 
 returns-3 : tie.Need-returns-3
-returns-3 c = no-letter (c .before .before .before .before .before .before .before .before .before .args .form) (c .before .before .before .before .before .before .before .before .before .args .letter) (c .before .before .before .before .before .before .before .before .before .args .len) (now (c .before .before .before .before .before .before .before .before .before .args .buf)) _ (search needs) _ _ (c .before .before .before .before .before .before .head-size .ensures) (c .before .before .before .before .before .limit .ensures) (c .before .before .before .before .if2 .left) _ (c .before .before .before .sextet .ensures) _ (c .before .before .is-group .ensures) (not-true _ (c .before .if3 .taken)) (c .refused3 .ensures)
+returns-3 c =
+    let w = c .before .before .before .before .before .before in
+    let a = w .before .before .before .args in
+    no-letter (a .form) (a .letter) (a .len) (now (a .buf)) _ (search needs) _ _ (c .before .before .before .before .before .before .head-size .ensures) (c .before .before .before .before .before .limit .ensures) (c .before .before .before .before .if2 .left) _ (c .before .before .before .sextet .ensures) _ (c .before .before .is-group .ensures) (not-true _ (c .before .if3 .taken)) (c .refused3 .ensures)
 
 unit-requires : tie.Need-unit-requires
 unit-requires c κs = search needs
 
 rem-if4 : tie.Need-rem-if4
-rem-if4 c = unit-some (c .before .before .before .before .before .before .before .before .before .args .form) _ (c .unit .ensures)
+rem-if4 c =
+    let w = c .before .before .before .before .before .before in
+    let a = w .before .before .before .args in
+    unit-some (a .form) _ (c .unit .ensures)
 
 refused-requires-4 : tie.Need-refused-requires-4
 refused-requires-4 c κs = search needs
 
 returns-4 : tie.Need-returns-4
-returns-4 c = not-whole (c .before .before .before .before .before .before .before .before .before .before .before .args .form) (c .before .before .before .before .before .before .before .before .before .before .before .args .letter) (c .before .before .before .before .before .before .before .before .before .before .before .args .len) (now (c .before .before .before .before .before .before .before .before .before .before .before .args .buf)) _ (search needs) _ _ (c .before .before .before .before .before .before .before .before .head-size .ensures) (c .before .before .before .before .before .before .before .limit .ensures) (c .before .before .before .before .before .before .if2 .left) _ (c .before .before .before .before .before .sextet .ensures) _ (c .before .before .before .before .is-group .ensures) (not-false _ (c .before .before .before .if3 .left)) _ (c .before .before .unit .ensures) (c .before .if4 .taken) (c .refused4 .ensures)
+returns-4 c =
+    let w = c .before .before .before .before .before .before in
+    let a = w .before .before .before .before .before .args in
+    not-whole (a .form) (a .letter) (a .len) (now (a .buf)) _ (search needs) _ _ (w .before .before .head-size .ensures) (w .before .limit .ensures) (c .before .before .before .before .before .before .if2 .left) _ (c .before .before .before .before .before .sextet .ensures) _ (c .before .before .before .before .is-group .ensures) (not-false _ (c .before .before .before .if3 .left)) _ (c .before .before .unit .ensures) (c .before .if4 .taken) (c .refused4 .ensures)
 
 slice-aggregate-walk-body : tie.Need-slice-aggregate-walk-body
-slice-aggregate-walk-body c = sym (length-take-le (c .before .before .before .before .before .before .before .before .before .before .before .args .len) (now (c .before .before .before .before .before .before .before .before .before .before .before .args .buf)) (search needs))
+slice-aggregate-walk-body c =
+    let w = c .before .before .before .before .before .before in
+    let a = w .before .before .before .before .before .args in
+    sym (length-take-le (a .len) (now (a .buf)) (search needs))
 
 walk-body-requires : tie.Need-walk-body-requires
 walk-body-requires c κs = search needs
@@ -66,7 +78,11 @@ room-for-requires : tie.Need-room-for-requires
 room-for-requires c κs = search needs
 
 returns-5 : tie.Need-returns-5
-returns-5 c = by-walk (c .before .before .before .before .before .before .before .before .before .before .before .before .before .args .form) (c .before .before .before .before .before .before .before .before .before .before .before .before .before .args .letter) (c .before .before .before .before .before .before .before .before .before .before .before .before .before .args .len) (now (c .before .before .before .before .before .before .before .before .before .before .before .before .before .args .buf)) _ (search needs) _ _ (c .before .before .before .before .before .before .before .before .before .before .head-size .ensures) (c .before .before .before .before .before .before .before .before .before .limit .ensures) (c .before .before .before .before .before .before .before .before .if2 .left) _ (c .before .before .before .before .before .before .before .sextet .ensures) _ (c .before .before .before .before .before .before .is-group .ensures) (not-false _ (c .before .before .before .before .before .if3 .left)) _ (c .before .before .before .before .unit .ensures) (c .before .before .before .if4 .left) _ (c .before .walk-body .ensures) (c .room-for .ensures)
+returns-5 c =
+    let w = c .before .before .before .before .before .before in
+    let v = w .before .before .before .before .before .before in
+    let a = v .before .args in
+    by-walk (a .form) (a .letter) (a .len) (now (a .buf)) _ (search needs) _ _ (w .before .before .before .before .head-size .ensures) (w .before .before .before .limit .ensures) (w .before .before .if2 .left) _ (w .before .sextet .ensures) _ (c .before .before .before .before .before .before .is-group .ensures) (not-false _ (c .before .before .before .before .before .if3 .left)) _ (c .before .before .before .before .unit .ensures) (c .before .before .before .if4 .left) _ (c .before .walk-body .ensures) (c .room-for .ensures)
 
 pub answer-spec : {M : Type 1} → statement M
 answer-spec =

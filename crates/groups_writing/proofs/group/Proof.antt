@@ -15,7 +15,10 @@ sextet-requires : tie.Need-sextet-requires
 sextet-requires c κs = search needs
 
 put-group-requires : tie.Need-put-group-requires
-put-group-requires c κs = sized (c .before .before .before .before .before .before .before .before .args .form) (c .before .before .before .before .before .before .before .before .args .letter) (c .before .before .before .before .before .before .before .before .args .len) (now (c .before .before .before .before .before .before .before .before .args .buf)) _ (c .before .before .before .before .before .answer .ensures) _ (c .before .before .before .answer2 .given .1)
+put-group-requires c κs =
+    let w = c .before .before .before .before .before .before in
+    let a = w .before .before .args in
+    sized (a .form) (a .letter) (a .len) (now (a .buf)) _ (c .before .before .before .before .before .answer .ensures) _ (c .before .before .before .answer2 .given .1)
 
 enum-told : tie.Need-enum-told
 enum-told c = search needs
@@ -24,7 +27,10 @@ same-length : tie.Need-same-length
 same-length c = search needs
 
 returns : tie.Need-returns
-returns c = is-written (c .before .before .before .before .before .before .before .before .before .before .before .args .form) (c .before .before .before .before .before .before .before .before .before .before .before .args .letter) (c .before .before .before .before .before .before .before .before .before .before .before .args .len) (now (c .before .before .before .before .before .before .before .before .before .before .before .args .buf)) _ (c .before .before .before .before .before .before .before .before .answer .ensures) _ (c .before .before .before .before .before .before .answer2 .given .1) _ _ (c .before .before .before .before .sextet .ensures) (c .before .before .put-group .ensures)
+returns c =
+    let w = c .before .before .before .before .before .before in
+    let a = w .before .before .before .before .before .args in
+    is-written (a .form) (a .letter) (a .len) (now (a .buf)) _ (w .before .before .answer .ensures) _ (c .before .before .before .before .before .before .answer2 .given .1) _ _ (c .before .before .before .before .sextet .ensures) (c .before .before .put-group .ensures)
 
 same-length-2 : tie.Need-same-length-2
 same-length-2 c = search needs

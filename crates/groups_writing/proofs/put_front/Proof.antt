@@ -17,19 +17,26 @@ array-share-prefix-head : tie.Need-array-share-prefix-head
 array-share-prefix-head c = search needs
 
 slice-aggregate-copy : tie.Need-slice-aggregate-copy
-slice-aggregate-copy c = omega (arith, length-take-le (c .before .before .before .before .before .before .before .before .before .before .args .h) (c .before .before .before .before .before .before .before .before .before .before .args .t2) (search needs))
+slice-aggregate-copy c =
+    let w = c .before .before .before .before .before .before in
+    let a = w .before .before .before .before .args in
+    omega (arith, length-take-le (a .h) (a .t2) (search needs))
 
 copy-requires : tie.Need-copy-requires
 copy-requires c κs =
-    omega (arith, length-take-le (c .before .before .before .before .before .before .before .before .before .before .before .args .h) (c .before .before .before .before .before .before .before .before .before .before .before .args .t2) (search needs), c .before .before .before .before .reverse2 .kept .0, c .before .before .before .before .before .before .before .before .reverse .kept .0)
+    let w = c .before .before .before .before .before .before in
+    let a = w .before .before .before .before .before .args in
+    omega (arith, length-take-le (a .h) (a .t2) (search needs), c .before .before .before .before .reverse2 .kept .0, w .before .before .reverse .kept .0)
 
 same-length : tie.Need-same-length
 same-length c = search needs
 
 returns : tie.Need-returns
 returns c =
-    fronted (now (c .before .before .before .before .before .before .before .before .before .before .before .before .before .before .args .buf)) (c .before .before .before .before .before .before .before .before .before .before .before .before .before .before .args .t2) (c .before .before .before .before .before .before .before .before .before .before .before .before .before .before .args .h) (c .before .before .before .before .before .before .before .before .before .before .before .before .before .before .args .size) (search needs) (search needs) (search needs) (search needs) _ _ _
-    (c .before .before .before .before .before .before .before .before .before .before .before .reverse .ensures) (c .before .before .before .before .before .before .before .reverse2 .ensures) (c .before .before .copy .ensures .1)
+    let w = c .before .before .before .before .before .before in
+    let v = w .before .before .before .before .before .before in
+    let a = v .before .before .args in
+    fronted (now (a .buf)) (a .t2) (a .h) (a .size) (search needs) (search needs) (search needs) (search needs) _ _ _ (w .before .before .before .before .before .reverse .ensures) (w .before .reverse2 .ensures) (c .before .before .copy .ensures .1)
 
 pub put-front-spec : {M : Type 1} → statement M
 put-front-spec =

@@ -21,7 +21,10 @@ same-length : tie.Need-same-length
 same-length c = search needs
 
 returns : tie.Need-returns
-returns c = is-group (c .before .before .before .before .before .before .before .args .form) (c .before .before .before .before .before .before .before .args .letter) (c .before .before .before .before .before .before .before .args .len) (now (c .before .before .before .before .before .before .before .args .buf)) (c .before .before .before .before .before .before .before .args .size) (search needs, search needs) _ _ _ (c .before .before .before .before .before .units .ensures) (c .before .before .before .before .header .ensures) (c .before .before .put-front .ensures)
+returns c =
+    let w = c .before .before .before .before .before .before in
+    let a = w .before .args in
+    is-group (a .form) (a .letter) (a .len) (now (a .buf)) (a .size) (search needs, search needs) _ _ _ (c .before .before .before .before .before .units .ensures) (c .before .before .before .before .header .ensures) (c .before .before .put-front .ensures)
 
 pub put-group-spec : {M : Type 1} → statement M
 put-group-spec =
