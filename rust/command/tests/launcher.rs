@@ -14,10 +14,13 @@ use std::thread;
 /// system's.
 fn prepared(programs: &[(&str, &str)]) -> Folder {
     let folder = Folder::new();
-    let script = fs::read(top().join("cesr")).expect("the script");
-    folder.file("cesr", &script);
-    for made in ["bin", "crates"] {
+    for made in ["bin", "crates", "tools"] {
         fs::create_dir(folder.path().join(made)).expect("a folder");
+    }
+    for name in ["cesr", "tools/scratch"] {
+        let script = fs::read(top().join(name)).expect("the script");
+        let path = folder.file(name, &script);
+        fs::set_permissions(path, Permissions::from_mode(0o755)).expect("a program");
     }
     folder.file("crates.txt", b"");
     for (name, body) in programs {
