@@ -10,13 +10,7 @@ use Rattle.alphabet.proofs.character.Lts as lts
 use Rattle.alphabet.proofs.characters.Reads as characters-reads
 
 -- src/lib.rt:362:21
-characters-requires : tie.Need-characters-requires
-characters-requires c κs = search needs
-
 -- src/lib.rt:363:9
-array-read-result : tie.Need-array-read-result
-array-read-result c = search needs
-
 -- src/lib.rt:358:1
 returns : tie.Need-returns
 unfolding characterTable
@@ -27,4 +21,5 @@ returns-2 : tie.Need-returns-2
 returns-2 c = sym (char-past (c .before .args .v) (search needs))
 
 pub character-spec : {M : Type 1} → statement M
-character-spec = tie.close (tie.spec characters-requires array-read-result returns returns-2)
+character-spec =
+    tie.close (tie.spec (λ c κs. search needs) (λ c. search needs) returns returns-2)

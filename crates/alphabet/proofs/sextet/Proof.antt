@@ -6,14 +6,9 @@ use Rattle.alphabet.proofs.sextet.Lts as lts
 use Rattle.alphabet.proofs.sextets.Reads as sextets-reads
 use Rattle.alphabet.proofs.value.Reads as value-reads
 
-sextets-requires : tie.Need-sextets-requires
-sextets-requires c κs = search needs
-
-value-requires : tie.Need-value-requires
-value-requires c κs = search needs
-
 returns : tie.Need-returns
 returns c = c .value .ensures .1 (search needs)
 
 pub sextet-spec : {M : Type 1} → statement M
-sextet-spec = tie.close (tie.spec sextets-requires value-requires returns)
+sextet-spec =
+    tie.close (tie.spec (λ c κs. search needs) (λ c κs. search needs) returns)

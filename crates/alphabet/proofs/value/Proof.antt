@@ -6,12 +6,10 @@ use Rattle.alphabet.proofs.value.Tie as tie
 use Rattle.alphabet.proofs.value.Reads as reads
 use Rattle.alphabet.proofs.value.Lts as lts
 
-element-copy-out-result : tie.Need-element-copy-out-result
-element-copy-out-result c = search needs
-
 returns : tie.Need-returns
 unfolding sextetTable
 returns c = (search needs, λ e. rw e (getD-table sextetOf 256 (c .before .args .c) (search needs)))
 
 pub value-spec : {M : Type 1} → statement M
-value-spec = tie.close (tie.spec element-copy-out-result returns)
+value-spec =
+    tie.close (tie.spec (λ c. search needs) returns)

@@ -8,15 +8,6 @@ use Rattle.alphabet_numbers.proofs.number_at.Lts as lts
 use Rattle.alphabet.proofs.sextet.Reads as sextet-reads
 use Rattle.alphabet_numbers.proofs.stranger_number.Reads as stranger-number-reads
 
-shared-slice-read-sextet : tie.Need-shared-slice-read-sextet
-shared-slice-read-sextet c = search needs
-
-sextet-requires : tie.Need-sextet-requires
-sextet-requires c κs = search needs
-
-stranger-number-requires : tie.Need-stranger-number-requires
-stranger-number-requires c κs = search needs
-
 returns : tie.Need-returns
 returns c = rw (c .stranger-number .ensures, c .before .sextet .ensures)
 
@@ -26,5 +17,4 @@ returns-2 c = let a = c .before .before .args in rw (List·getD-eq-default (a .s
 
 pub number-at-spec : {M : Type 1} → statement M
 number-at-spec =
-    tie.close
-    (tie.spec shared-slice-read-sextet sextet-requires stranger-number-requires returns returns-2)
+    tie.close (tie.spec (λ c. search needs) (λ c κs. search needs) (λ c κs. search needs) returns returns-2)

@@ -11,14 +11,8 @@ use borrow.Author.Needs.{needs}
 use Rattle.convert.proofs.binary_to_text.Statement.{statement}
 use Rattle.convert.proofs.binary_to_text.Tie as tie
 
-in-text-requires : tie.Need-in-text-requires
-in-text-requires c κs = search needs
-
 enum-told : tie.Need-enum-told
 enum-told c = search needs
-
-enum-known-size : tie.Need-enum-known-size
-enum-known-size c = search needs
 
 returns : tie.Need-returns
 unfolding textLeft
@@ -33,15 +27,9 @@ returns-2 c =
     let size = ap (λ (t : TextOffset). t .0) (at .1) in
     (sym (binary-no-room _ _ (at .0) (omega arith) (omega (arith, size))), refl)
 
-to-text-requires : tie.Need-to-text-requires
-to-text-requires c κs = search needs
-
 returns-3 : tie.Need-returns-3
 unfolding textLeft
 returns-3 c = (sym (binary-long _ _ (in-text-past _ (c .before .before .in-text .ensures) (c .enum-told .given .1))), refl)
-
-same-length : tie.Need-same-length
-same-length c = search needs
 
 returns-4 : tie.Need-returns-4
 unfolding textLeft
@@ -57,12 +45,4 @@ pub binary-to-text-spec : {M : Type 1} → statement M
 binary-to-text-spec =
     tie.close
     (tie.spec
-    in-text-requires
-    enum-told
-    enum-known-size
-    returns
-    returns-2
-    to-text-requires
-    returns-3
-    same-length
-    returns-4)
+    (λ c κs. search needs) enum-told (λ c. search needs) returns returns-2 (λ c κs. search needs) returns-3 (λ c. search needs) returns-4)

@@ -21,15 +21,6 @@ returns-2 : tie.Need-returns-2
 unfolding binaryLeft
 returns-2 c = (sym (text-torn _ _ (omega arith) (omega arith)), refl)
 
-to-binary-requires : tie.Need-to-binary-requires
-to-binary-requires c κs = search needs
-
-number-at-requires : tie.Need-number-at-requires
-number-at-requires c κs = search needs
-
-same-length : tie.Need-same-length
-same-length c = search needs
-
 returns-3 : tie.Need-returns-3
 unfolding binaryLeft
 returns-3 c =
@@ -37,12 +28,6 @@ returns-3 c =
       ap (λ (m : ℕ). B.Refused m (textOffset (b .result))) (c .number-at .ensures) ∙ sym (text-stranger _ _ (omega arith) (omega arith) _ (b .ensures .0) (omega arith)),
       b .ensures .1 ∙ stranger-left _ _ (omega arith),
     )
-
-in-binary-requires : tie.Need-in-binary-requires
-in-binary-requires c κs = search needs
-
-same-length-2 : tie.Need-same-length-2
-same-length-2 c = search needs
 
 returns-4 : tie.Need-returns-4
 unfolding binaryLeft
@@ -52,9 +37,6 @@ returns-4 c =
       sym (text-no-room _ _ (omega arith) (omega arith) _ (b .ensures .0) (omega arith) (omega (arith, size))),
       b .ensures .1 ∙ no-room-left _ _ (omega arith) (omega (arith, size)),
     )
-
-same-length-3 : tie.Need-same-length-3
-same-length-3 c = search needs
 
 returns-5 : tie.Need-returns-5
 unfolding binaryLeft offsetInBinary
@@ -69,14 +51,5 @@ pub text-to-binary-spec : {M : Type 1} → statement M
 text-to-binary-spec =
     tie.close
     (tie.spec
-    returns
-    returns-2
-    to-binary-requires
-    number-at-requires
-    same-length
-    returns-3
-    in-binary-requires
-    same-length-2
-    returns-4
-    same-length-3
-    returns-5)
+    returns returns-2 (λ c κs. search needs) (λ c κs. search needs) (λ c. search needs) returns-3 (λ c κs. search needs) (λ c. search needs)
+    returns-4 (λ c. search needs) returns-5)

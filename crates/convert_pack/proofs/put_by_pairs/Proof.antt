@@ -6,23 +6,8 @@ use borrow.Author.Needs.{needs}
 use Rattle.convert_pack.proofs.put_by_pairs.Statement.{statement}
 use Rattle.convert_pack.proofs.put_by_pairs.Tie as tie
 
-mul-quadlet-at : tie.Need-mul-quadlet-at
-mul-quadlet-at c = search needs
-
-quadlet-at-requires : tie.Need-quadlet-at-requires
-quadlet-at-requires c κs = search needs
-
 triplet-requires : tie.Need-triplet-requires
 triplet-requires c κs = let a = c .before .before .before in (a .pre .0, rw (c .quadlet-at .ensures) (unit-known (a .args .src .now) (4 * a .args .i) (a .pre .2)))
-
-mul-put-triplet : tie.Need-mul-put-triplet
-mul-put-triplet c = search needs
-
-put-triplet-requires : tie.Need-put-triplet-requires
-put-triplet-requires c κs = search needs
-
-same-length : tie.Need-same-length
-same-length c = search needs
 
 returns : tie.Need-returns
 returns c = rw (c .before .before .before .before .triplet .ensures, c .before .before .before .before .before .quadlet-at .ensures) at (c .before .before .put-triplet .ensures)
@@ -31,10 +16,4 @@ pub put-by-pairs-spec : {M : Type 1} → statement M
 put-by-pairs-spec =
     tie.close
     (tie.spec
-    mul-quadlet-at
-    quadlet-at-requires
-    triplet-requires
-    mul-put-triplet
-    put-triplet-requires
-    same-length
-    returns)
+    (λ c. search needs) (λ c κs. search needs) triplet-requires (λ c. search needs) (λ c κs. search needs) (λ c. search needs) returns)

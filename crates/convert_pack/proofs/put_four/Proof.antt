@@ -6,30 +6,6 @@ use borrow.Author.Needs.{needs}
 use Rattle.convert_pack.proofs.put_four.Statement.{statement}
 use Rattle.convert_pack.proofs.put_four.Tie as tie
 
-put-by-pairs-requires : tie.Need-put-by-pairs-requires
-put-by-pairs-requires c κs = search needs
-
-add-put-by-pairs : tie.Need-add-put-by-pairs
-add-put-by-pairs c = search needs
-
-put-by-pairs-requires-2 : tie.Need-put-by-pairs-requires-2
-put-by-pairs-requires-2 c κs = search needs
-
-add-put-by-pairs-2 : tie.Need-add-put-by-pairs-2
-add-put-by-pairs-2 c = search needs
-
-put-by-pairs-requires-3 : tie.Need-put-by-pairs-requires-3
-put-by-pairs-requires-3 c κs = search needs
-
-add-put-by-pairs-3 : tie.Need-add-put-by-pairs-3
-add-put-by-pairs-3 c = search needs
-
-put-by-pairs-requires-4 : tie.Need-put-by-pairs-requires-4
-put-by-pairs-requires-4 c κs = search needs
-
-same-length : tie.Need-same-length
-same-length c = search needs
-
 returns : tie.Need-returns
 returns c =
     let u4 = c .before .before in
@@ -43,12 +19,5 @@ pub put-four-spec : {M : Type 1} → statement M
 put-four-spec =
     tie.close
     (tie.spec
-    put-by-pairs-requires
-    add-put-by-pairs
-    put-by-pairs-requires-2
-    add-put-by-pairs-2
-    put-by-pairs-requires-3
-    add-put-by-pairs-3
-    put-by-pairs-requires-4
-    same-length
-    returns)
+    (λ c κs. search needs) (λ c. search needs) (λ c κs. search needs) (λ c. search needs) (λ c κs. search needs) (λ c. search needs)
+    (λ c κs. search needs) (λ c. search needs) returns)

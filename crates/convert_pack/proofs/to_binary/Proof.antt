@@ -7,9 +7,6 @@ use borrow.Author.Needs.{needs}
 use Rattle.convert_pack.proofs.to_binary.Statement.{statement}
 use Rattle.convert_pack.proofs.to_binary.Tie as tie
 
-first-stranger-requires : tie.Need-first-stranger-requires
-first-stranger-requires c κs = search needs
-
 returns : tie.Need-returns
 returns c = (search needs, sym (stranger-left _ _ (omega arith)))
 
@@ -19,13 +16,9 @@ returns-2 c = (search needs, sym (no-room-left _ _ (omega arith) (omega arith)))
 pack-requires : tie.Need-pack-requires
 pack-requires c κs = (omega arith, all-known _ (omega arith), omega arith)
 
-same-length : tie.Need-same-length
-same-length c = search needs
-
 returns-3 : tie.Need-returns-3
 returns-3 c = (search needs, packed-left _ _ (omega arith) (omega arith) _ (c .before .before .pack .ensures))
 
 pub to-binary-spec : {M : Type 1} → statement M
 to-binary-spec =
-    tie.close
-    (tie.spec first-stranger-requires returns returns-2 pack-requires same-length returns-3)
+    tie.close (tie.spec (λ c κs. search needs) returns returns-2 pack-requires (λ c. search needs) returns-3)

@@ -5,14 +5,9 @@ use borrow.Author.Needs.{needs}
 use Rattle.convert_unpack.proofs.to_text.Statement.{statement}
 use Rattle.convert_unpack.proofs.to_text.Tie as tie
 
-first-units-requires : tie.Need-first-units-requires
-first-units-requires c κs = search needs
-
-same-length : tie.Need-same-length
-same-length c = search needs
-
 returns : tie.Need-returns
 returns c = c .before .before .first-units .ensures ∙ all-first _ _
 
 pub to-text-spec : {M : Type 1} → statement M
-to-text-spec = tie.close (tie.spec first-units-requires same-length returns)
+to-text-spec =
+    tie.close (tie.spec (λ c κs. search needs) (λ c. search needs) returns)

@@ -11,14 +11,9 @@ returns c = sym (too-few _ _ _ (search needs))
 returns-2 : tie.Need-returns-2
 returns-2 c = sym (no-room _ _ _ (search needs) (search needs))
 
-unpack-requires : tie.Need-unpack-requires
-unpack-requires c κs = search needs
-
-same-length : tie.Need-same-length
-same-length c = search needs
-
 returns-3 : tie.Need-returns-3
 returns-3 c = c .before .before .unpack .ensures ∙ sym (written _ _ _ (search needs) (search needs))
 
 pub first-units-spec : {M : Type 1} → statement M
-first-units-spec = tie.close (tie.spec returns returns-2 unpack-requires same-length returns-3)
+first-units-spec =
+    tie.close (tie.spec returns returns-2 (λ c κs. search needs) (λ c. search needs) returns-3)

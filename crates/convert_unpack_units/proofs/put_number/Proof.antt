@@ -3,21 +3,6 @@ use borrow.Author.Needs.{needs}
 use Rattle.convert_unpack_units.proofs.put_number.Statement.{statement}
 use Rattle.convert_unpack_units.proofs.put_number.Tie as tie
 
-bytes-of-requires : tie.Need-bytes-of-requires
-bytes-of-requires c κs = search needs
-
-quadlet-requires : tie.Need-quadlet-requires
-quadlet-requires c κs = search needs
-
-mul-put-quadlet : tie.Need-mul-put-quadlet
-mul-put-quadlet c = search needs
-
-put-quadlet-requires : tie.Need-put-quadlet-requires
-put-quadlet-requires c κs = search needs
-
-same-length : tie.Need-same-length
-same-length c = search needs
-
 returns : tie.Need-returns
 returns c =
     let q = c .before .before .before .before in
@@ -27,9 +12,4 @@ pub put-number-spec : {M : Type 1} → statement M
 put-number-spec =
     tie.close
     (tie.spec
-    bytes-of-requires
-    quadlet-requires
-    mul-put-quadlet
-    put-quadlet-requires
-    same-length
-    returns)
+    (λ c κs. search needs) (λ c κs. search needs) (λ c. search needs) (λ c κs. search needs) (λ c. search needs) returns)

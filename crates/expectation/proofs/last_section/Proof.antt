@@ -4,15 +4,6 @@ use borrow.Author.Needs.{needs}
 use Rattle.expectation.proofs.last_section.Statement.{statement}
 use Rattle.expectation.proofs.last_section.Tie as tie
 
-section-at-requires : tie.Need-section-at-requires
-section-at-requires c κs = search needs
-
-enum-told : tie.Need-enum-told
-enum-told c = search needs
-
-enum-known-laid : tie.Need-enum-known-laid
-enum-known-laid c = search needs
-
 returns : tie.Need-returns
 returns c = search bytes-left
 
@@ -38,13 +29,5 @@ pub last-section-spec : {M : Type 1} → statement M
 last-section-spec =
     tie.close
     (tie.spec
-    section-at-requires
-    enum-told
-    enum-known-laid
-    returns
-    returns-2
-    returns-3
-    sub-t9
-    shared-slice-read-t12
-    returns-4
+    (λ c κs. search needs) (λ c. search needs) (λ c. search needs) returns returns-2 returns-3 sub-t9 shared-slice-read-t12 returns-4
     returns-5)

@@ -4,15 +4,6 @@ use borrow.Author.Needs.{needs}
 use Rattle.expectation.proofs.of_file.Statement.{statement}
 use Rattle.expectation.proofs.of_file.Tie as tie
 
-section-at-requires : tie.Need-section-at-requires
-section-at-requires c κs = search needs
-
-enum-told : tie.Need-enum-told
-enum-told c = search needs
-
-enum-known-laid : tie.Need-enum-known-laid
-enum-known-laid c = search needs
-
 last-section-requires : tie.Need-last-section-requires
 last-section-requires c κs = search (file-within, needs)
 
@@ -24,11 +15,4 @@ returns-2 c = search file-says
 
 pub of-file-spec : {M : Type 1} → statement M
 of-file-spec =
-    tie.close
-    (tie.spec
-    section-at-requires
-    enum-told
-    enum-known-laid
-    last-section-requires
-    returns
-    returns-2)
+    tie.close (tie.spec (λ c κs. search needs) (λ c. search needs) (λ c. search needs) last-section-requires returns returns-2)

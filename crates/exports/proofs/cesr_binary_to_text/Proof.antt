@@ -3,15 +3,6 @@ use borrow.Author.Needs.{needs}
 use Rattle.exports.proofs.cesr_binary_to_text.Statement.{statement}
 use Rattle.exports.proofs.cesr_binary_to_text.Tie as tie
 
-binary-to-text-requires : tie.Need-binary-to-text-requires
-binary-to-text-requires c κs = search needs
-
-to-text-requires : tie.Need-to-text-requires
-to-text-requires c κs = search needs
-
-same-length : tie.Need-same-length
-same-length c = search needs
-
 returns : tie.Need-returns
 returns c =
     let t = c .before .before .before .before .binary-to-text in
@@ -19,4 +10,4 @@ returns c =
 
 pub cesr-binary-to-text-spec : {M : Type 1} → statement M
 cesr-binary-to-text-spec =
-    tie.close (tie.spec binary-to-text-requires to-text-requires same-length returns)
+    tie.close (tie.spec (λ c κs. search needs) (λ c κs. search needs) (λ c. search needs) returns)

@@ -3,15 +3,6 @@ use borrow.Author.Needs.{needs}
 use Rattle.exports.proofs.cesr_report_binary.Statement.{statement}
 use Rattle.exports.proofs.cesr_report_binary.Tie as tie
 
-report-binary-requires : tie.Need-report-binary-requires
-report-binary-requires c κs = search needs
-
-reported-requires : tie.Need-reported-requires
-reported-requires c κs = search needs
-
-same-length : tie.Need-same-length
-same-length c = search needs
-
 returns : tie.Need-returns
 returns c =
     let t = c .before .before .before .before .report-binary in
@@ -19,4 +10,4 @@ returns c =
 
 pub cesr-report-binary-spec : {M : Type 1} → statement M
 cesr-report-binary-spec =
-    tie.close (tie.spec report-binary-requires reported-requires same-length returns)
+    tie.close (tie.spec (λ c κs. search needs) (λ c κs. search needs) (λ c. search needs) returns)

@@ -3,15 +3,6 @@ use borrow.Author.Needs.{needs}
 use Rattle.exports.proofs.cesr_report_text.Statement.{statement}
 use Rattle.exports.proofs.cesr_report_text.Tie as tie
 
-report-text-requires : tie.Need-report-text-requires
-report-text-requires c κs = search needs
-
-reported-requires : tie.Need-reported-requires
-reported-requires c κs = search needs
-
-same-length : tie.Need-same-length
-same-length c = search needs
-
 returns : tie.Need-returns
 returns c =
     let t = c .before .before .before .before .report-text in
@@ -19,4 +10,4 @@ returns c =
 
 pub cesr-report-text-spec : {M : Type 1} → statement M
 cesr-report-text-spec =
-    tie.close (tie.spec report-text-requires reported-requires same-length returns)
+    tie.close (tie.spec (λ c κs. search needs) (λ c κs. search needs) (λ c. search needs) returns)

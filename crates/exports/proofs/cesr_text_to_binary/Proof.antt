@@ -3,15 +3,6 @@ use borrow.Author.Needs.{needs}
 use Rattle.exports.proofs.cesr_text_to_binary.Statement.{statement}
 use Rattle.exports.proofs.cesr_text_to_binary.Tie as tie
 
-text-to-binary-requires : tie.Need-text-to-binary-requires
-text-to-binary-requires c κs = search needs
-
-to-binary-requires : tie.Need-to-binary-requires
-to-binary-requires c κs = search needs
-
-same-length : tie.Need-same-length
-same-length c = search needs
-
 returns : tie.Need-returns
 returns c =
     let t = c .before .before .before .before .text-to-binary in
@@ -19,4 +10,4 @@ returns c =
 
 pub cesr-text-to-binary-spec : {M : Type 1} → statement M
 cesr-text-to-binary-spec =
-    tie.close (tie.spec text-to-binary-requires to-binary-requires same-length returns)
+    tie.close (tie.spec (λ c κs. search needs) (λ c κs. search needs) (λ c. search needs) returns)

@@ -4,24 +4,6 @@ use borrow.Author.Needs.{needs}
 use Rattle.exports.proofs.cesr_walk_binary.Statement.{statement}
 use Rattle.exports.proofs.cesr_walk_binary.Tie as tie
 
-place-of-requires : tie.Need-place-of-requires
-place-of-requires c κs = search needs
-
-move-in-requires : tie.Need-move-in-requires
-move-in-requires c κs = search needs
-
-enum-known-found : tie.Need-enum-known-found
-enum-known-found c = search needs
-
-item-of-requires : tie.Need-item-of-requires
-item-of-requires c κs = search needs
-
-put-place-requires : tie.Need-put-place-requires
-put-place-requires c κs = search needs
-
-enum-known-found-2 : tie.Need-enum-known-found-2
-enum-known-found-2 c = search needs
-
 enum-told : tie.Need-enum-told
 enum-told c = search needs
 
@@ -48,13 +30,5 @@ pub cesr-walk-binary-spec : {M : Type 1} → statement M
 cesr-walk-binary-spec =
     tie.close
     (tie.spec
-    place-of-requires
-    move-in-requires
-    enum-known-found
-    item-of-requires
-    put-place-requires
-    enum-known-found-2
-    enum-told
-    returns
-    returns-2
-    returns-3)
+    (λ c κs. search needs) (λ c κs. search needs) (λ c. search needs) (λ c κs. search needs) (λ c κs. search needs) (λ c. search needs)
+    enum-told returns returns-2 returns-3)

@@ -3,18 +3,6 @@ use borrow.Author.Needs.{needs}
 use Rattle.exports.proofs.cesr_write_binary.Statement.{statement}
 use Rattle.exports.proofs.cesr_write_binary.Tie as tie
 
-code-from-requires : tie.Need-code-from-requires
-code-from-requires c κs = search needs
-
-write-binary-requires : tie.Need-write-binary-requires
-write-binary-requires c κs = search needs
-
-binary-written-requires : tie.Need-binary-written-requires
-binary-written-requires c κs = search needs
-
-same-length : tie.Need-same-length
-same-length c = search needs
-
 returns : tie.Need-returns
 returns c =
     let t = c .before .before .before .before .write-binary in
@@ -22,5 +10,4 @@ returns c =
 
 pub cesr-write-binary-spec : {M : Type 1} → statement M
 cesr-write-binary-spec =
-    tie.close
-    (tie.spec code-from-requires write-binary-requires binary-written-requires same-length returns)
+    tie.close (tie.spec (λ c κs. search needs) (λ c κs. search needs) (λ c κs. search needs) (λ c. search needs) returns)

@@ -4,18 +4,6 @@ use borrow.Author.Needs.{needs}
 use Rattle.exports_codes.proofs.chars_of.Statement.{statement}
 use Rattle.exports_codes.proofs.chars_of.Tie as tie
 
-enum-known-code : tie.Need-enum-known-code
-enum-known-code c = search needs
-
-wide-requires : tie.Need-wide-requires
-wide-requires c κs = search needs
-
-enum-told : tie.Need-enum-told
-enum-told c = search needs
-
-enum-told-2 : tie.Need-enum-told-2
-enum-told-2 c = search needs
-
 returns : tie.Need-returns
 unfolding charsOf
 returns c = search needs
@@ -30,5 +18,4 @@ returns-3 c = search needs
 
 pub chars-of-spec : {M : Type 1} → statement M
 chars-of-spec =
-    tie.close
-    (tie.spec enum-known-code wide-requires enum-told enum-told-2 returns returns-2 returns-3)
+    tie.close (tie.spec (λ c. search needs) (λ c κs. search needs) (λ c. search needs) (λ c. search needs) returns returns-2 returns-3)

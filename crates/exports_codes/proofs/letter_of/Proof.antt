@@ -4,24 +4,6 @@ use borrow.Author.Needs.{needs}
 use Rattle.exports_codes.proofs.letter_of.Statement.{statement}
 use Rattle.exports_codes.proofs.letter_of.Tie as tie
 
-enum-known-code : tie.Need-enum-known-code
-enum-known-code c = search needs
-
-wide-requires : tie.Need-wide-requires
-wide-requires c κs = search needs
-
-enum-known-code-2 : tie.Need-enum-known-code-2
-enum-known-code-2 c = search needs
-
-wide-requires-2 : tie.Need-wide-requires-2
-wide-requires-2 c κs = search needs
-
-enum-known-code-3 : tie.Need-enum-known-code-3
-enum-known-code-3 c = search needs
-
-wide-requires-3 : tie.Need-wide-requires-3
-wide-requires-3 c κs = search needs
-
 returns : tie.Need-returns
 unfolding letterOf
 returns c = search needs
@@ -38,12 +20,5 @@ pub letter-of-spec : {M : Type 1} → statement M
 letter-of-spec =
     tie.close
     (tie.spec
-    enum-known-code
-    wide-requires
-    enum-known-code-2
-    wide-requires-2
-    enum-known-code-3
-    wide-requires-3
-    returns
-    returns-2
-    returns-3)
+    (λ c. search needs) (λ c κs. search needs) (λ c. search needs) (λ c κs. search needs) (λ c. search needs) (λ c κs. search needs) returns
+    returns-2 returns-3)

@@ -4,12 +4,10 @@ use borrow.Author.Needs.{needs}
 use Rattle.exports_counts.proofs.counts_of.Statement.{statement}
 use Rattle.exports_counts.proofs.counts_of.Tie as tie
 
-mark-of-requires : tie.Need-mark-of-requires
-mark-of-requires c κs = search needs
-
 returns : tie.Need-returns
 unfolding countsOf
 returns c = search needs
 
 pub counts-of-spec : {M : Type 1} → statement M
-counts-of-spec = tie.close (tie.spec mark-of-requires returns)
+counts-of-spec =
+    tie.close (tie.spec (λ c κs. search needs) returns)

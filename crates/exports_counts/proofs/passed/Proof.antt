@@ -3,11 +3,9 @@ use borrow.Author.Needs.{needs}
 use Rattle.exports_counts.proofs.passed.Statement.{statement}
 use Rattle.exports_counts.proofs.passed.Tie as tie
 
-mark-of-requires : tie.Need-mark-of-requires
-mark-of-requires c κs = search needs
-
 returns : tie.Need-returns
 returns c = (search needs, c .mark-of .ensures)
 
 pub passed-spec : {M : Type 1} → statement M
-passed-spec = tie.close (tie.spec mark-of-requires returns)
+passed-spec =
+    tie.close (tie.spec (λ c κs. search needs) returns)

@@ -5,19 +5,11 @@ use borrow.Author.Needs.{needs}
 use Rattle.exports_groups.proofs.group.Statement.{statement}
 use Rattle.exports_groups.proofs.group.Tie as tie
 
-group-requires : tie.Need-group-requires
-group-requires c κs = search needs
-
-told-requires : tie.Need-told-requires
-told-requires c κs = search needs
-
-same-length : tie.Need-same-length
-same-length c = search needs
-
 returns : tie.Need-returns
 returns c =
     let t = c .before .before .before .before .group in
     (c .told .ensures .0 ∙ ap groupedNumber (t .ensures .0), (c .told .ensures .1 ∙ ap groupedValue (t .ensures .0), t .ensures .1))
 
 pub group-spec : {M : Type 1} → statement M
-group-spec = tie.close (tie.spec group-requires told-requires same-length returns)
+group-spec =
+    tie.close (tie.spec (λ c κs. search needs) (λ c κs. search needs) (λ c. search needs) returns)

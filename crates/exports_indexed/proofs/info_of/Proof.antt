@@ -7,15 +7,10 @@ use Rattle.exports_indexed.proofs.info_of.Reads as reads
 use Rattle.exports_indexed.proofs.info_of.Lts as lts
 use Rattle.exports_values.proofs.wide.Reads as wide-reads
 
-wide-requires : tie.Need-wide-requires
-wide-requires c κs = search needs
-
-wide-requires-2 : tie.Need-wide-requires-2
-wide-requires-2 c κs = search needs
-
 returns : tie.Need-returns
 unfolding infoOf
 returns c = rw (c .before .wide .ensures, c .wide2 .ensures)
 
 pub info-of-spec : {M : Type 1} → statement M
-info-of-spec = tie.close (tie.spec wide-requires wide-requires-2 returns)
+info-of-spec =
+    tie.close (tie.spec (λ c κs. search needs) (λ c κs. search needs) returns)

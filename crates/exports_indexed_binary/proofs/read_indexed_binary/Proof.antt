@@ -8,18 +8,6 @@ use Rattle.exports_indexed_binary.proofs.read_indexed_binary.Lts as lts
 use Rattle.exports_indexed.proofs.info_of.Reads as info-of-reads
 use Rattle.indexed_binary.proofs.read_indexed_binary.Reads as read-indexed-binary-reads
 
-read-indexed-binary-requires : tie.Need-read-indexed-binary-requires
-read-indexed-binary-requires c κs = search needs
-
-enum-known-read : tie.Need-enum-known-read
-enum-known-read c = search needs
-
-info-of-requires : tie.Need-info-of-requires
-info-of-requires c κs = search needs
-
-enum-known-read-2 : tie.Need-enum-known-read-2
-enum-known-read-2 c = search needs
-
 returns : tie.Need-returns
 unfolding binaryNumber binaryValue binaryInfo
 returns c =
@@ -35,11 +23,4 @@ returns-2 c =
 
 pub read-indexed-binary-spec : {M : Type 1} → statement M
 read-indexed-binary-spec =
-    tie.close
-    (tie.spec
-    read-indexed-binary-requires
-    enum-known-read
-    info-of-requires
-    enum-known-read-2
-    returns
-    returns-2)
+    tie.close (tie.spec (λ c κs. search needs) (λ c. search needs) (λ c κs. search needs) (λ c. search needs) returns returns-2)

@@ -8,21 +8,6 @@ use Rattle.exports_indexed_text.proofs.read_indexed_text.Lts as lts
 use Rattle.exports_indexed.proofs.info_of.Reads as info-of-reads
 use Rattle.indexed_text.proofs.read_indexed_text.Reads as read-indexed-text-reads
 
-read-indexed-text-requires : tie.Need-read-indexed-text-requires
-read-indexed-text-requires c κs = search needs
-
-enum-known-read : tie.Need-enum-known-read
-enum-known-read c = search needs
-
-info-of-requires : tie.Need-info-of-requires
-info-of-requires c κs = search needs
-
-enum-known-read-2 : tie.Need-enum-known-read-2
-enum-known-read-2 c = search needs
-
-same-length : tie.Need-same-length
-same-length c = search needs
-
 returns : tie.Need-returns
 unfolding textNumber textValue textInfo
 returns c =
@@ -30,9 +15,6 @@ returns c =
     let t = k .before .before .before .before .read-indexed-text in
     let g = k .read .given .1 in
     rw (← (t .ensures .0)) (rw g, (rw g, (t .ensures .1, rw g (c .info-of .ensures))))
-
-same-length-2 : tie.Need-same-length-2
-same-length-2 c = search needs
 
 returns-2 : tie.Need-returns-2
 unfolding textNumber textValue textInfo
@@ -45,11 +27,5 @@ pub read-indexed-text-spec : {M : Type 1} → statement M
 read-indexed-text-spec =
     tie.close
     (tie.spec
-    read-indexed-text-requires
-    enum-known-read
-    info-of-requires
-    enum-known-read-2
-    same-length
-    returns
-    same-length-2
+    (λ c κs. search needs) (λ c. search needs) (λ c κs. search needs) (λ c. search needs) (λ c. search needs) returns (λ c. search needs)
     returns-2)

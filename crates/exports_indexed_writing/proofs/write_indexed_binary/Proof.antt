@@ -3,19 +3,11 @@ use borrow.Author.Needs.{needs}
 use Rattle.exports_indexed_writing.proofs.write_indexed_binary.Statement.{statement}
 use Rattle.exports_indexed_writing.proofs.write_indexed_binary.Tie as tie
 
-write-indexed-binary-requires : tie.Need-write-indexed-binary-requires
-write-indexed-binary-requires c κs = search needs
-
-binary-written-requires : tie.Need-binary-written-requires
-binary-written-requires c κs = search needs
-
-same-length : tie.Need-same-length
-same-length c = search needs
-
 returns : tie.Need-returns
 returns c =
     let t = c .before .before .before .before .write-indexed-binary in
     rw (← (t .ensures .0)) (c .binary-written .ensures .0, (c .binary-written .ensures .1, t .ensures .1))
 
 pub write-indexed-binary-spec : {M : Type 1} → statement M
-write-indexed-binary-spec = tie.close (tie.spec write-indexed-binary-requires binary-written-requires same-length returns)
+write-indexed-binary-spec =
+    tie.close (tie.spec (λ c κs. search needs) (λ c κs. search needs) (λ c. search needs) returns)

@@ -3,19 +3,11 @@ use borrow.Author.Needs.{needs}
 use Rattle.exports_indexed_writing.proofs.write_indexed_text.Statement.{statement}
 use Rattle.exports_indexed_writing.proofs.write_indexed_text.Tie as tie
 
-write-indexed-text-requires : tie.Need-write-indexed-text-requires
-write-indexed-text-requires c κs = search needs
-
-text-written-requires : tie.Need-text-written-requires
-text-written-requires c κs = search needs
-
-same-length : tie.Need-same-length
-same-length c = search needs
-
 returns : tie.Need-returns
 returns c =
     let t = c .before .before .before .before .write-indexed-text in
     rw (← (t .ensures .0)) (c .text-written .ensures .0, (c .text-written .ensures .1, t .ensures .1))
 
 pub write-indexed-text-spec : {M : Type 1} → statement M
-write-indexed-text-spec = tie.close (tie.spec write-indexed-text-requires text-written-requires same-length returns)
+write-indexed-text-spec =
+    tie.close (tie.spec (λ c κs. search needs) (λ c κs. search needs) (λ c. search needs) returns)

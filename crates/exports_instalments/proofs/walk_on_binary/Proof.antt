@@ -3,11 +3,9 @@ use borrow.Author.Needs.{needs}
 use Rattle.exports_instalments.proofs.walk_on_binary.Statement.{statement}
 use Rattle.exports_instalments.proofs.walk_on_binary.Tie as tie
 
-walk-on-requires : tie.Need-walk-on-requires
-walk-on-requires c κs = search needs
-
 returns : tie.Need-returns
 returns c = c .walk-on .ensures
 
 pub walk-on-binary-spec : {M : Type 1} → statement M
-walk-on-binary-spec = tie.close (tie.spec walk-on-requires returns)
+walk-on-binary-spec =
+    tie.close (tie.spec (λ c κs. search needs) returns)

@@ -3,11 +3,9 @@ use borrow.Author.Needs.{needs}
 use Rattle.exports_instalments.proofs.walk_on_text.Statement.{statement}
 use Rattle.exports_instalments.proofs.walk_on_text.Tie as tie
 
-walk-on-requires : tie.Need-walk-on-requires
-walk-on-requires c κs = search needs
-
 returns : tie.Need-returns
 returns c = c .walk-on .ensures
 
 pub walk-on-text-spec : {M : Type 1} → statement M
-walk-on-text-spec = tie.close (tie.spec walk-on-requires returns)
+walk-on-text-spec =
+    tie.close (tie.spec (λ c κs. search needs) returns)

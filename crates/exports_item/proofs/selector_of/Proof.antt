@@ -9,12 +9,10 @@ returns : tie.Need-returns
 unfolding codeOfRow
 returns c = rw (eq-eqb _ _ (c .if1 .taken))
 
-character-of-requires : tie.Need-character-of-requires
-character-of-requires c κs = search needs
-
 returns-2 : tie.Need-returns-2
 unfolding codeOfRow
 returns-2 c = rw (ne-eqb _ _ (c .before .if1 .left)) (c .character-of .ensures)
 
 pub selector-of-spec : {M : Type 1} → statement M
-selector-of-spec = tie.close (tie.spec returns character-of-requires returns-2)
+selector-of-spec =
+    tie.close (tie.spec returns (λ c κs. search needs) returns-2)

@@ -5,33 +5,6 @@ use borrow.Author.Needs.{needs}
 use Rattle.exports_item.proofs.sign_of.Statement.{statement}
 use Rattle.exports_item.proofs.sign_of.Tie as tie
 
-enum-known-kind : tie.Need-enum-known-kind
-enum-known-kind c = search needs
-
-character-of-requires : tie.Need-character-of-requires
-character-of-requires c κs = search needs
-
-enum-known-kind-2 : tie.Need-enum-known-kind-2
-enum-known-kind-2 c = search needs
-
-character-of-requires-2 : tie.Need-character-of-requires-2
-character-of-requires-2 c κs = search needs
-
-enum-known-kind-3 : tie.Need-enum-known-kind-3
-enum-known-kind-3 c = search needs
-
-character-of-requires-3 : tie.Need-character-of-requires-3
-character-of-requires-3 c κs = search needs
-
-enum-told : tie.Need-enum-told
-enum-told c = search needs
-
-enum-known-kind-4 : tie.Need-enum-known-kind-4
-enum-known-kind-4 c = search needs
-
-character-of-requires-4 : tie.Need-character-of-requires-4
-character-of-requires-4 c κs = search needs
-
 returns : tie.Need-returns
 unfolding signOf
 returns c = rw (c .before .before .kind .given .1) (c .character-of .ensures)
@@ -56,17 +29,5 @@ pub sign-of-spec : {M : Type 1} → statement M
 sign-of-spec =
     tie.close
     (tie.spec
-    enum-known-kind
-    character-of-requires
-    enum-known-kind-2
-    character-of-requires-2
-    enum-known-kind-3
-    character-of-requires-3
-    enum-told
-    enum-known-kind-4
-    character-of-requires-4
-    returns
-    returns-2
-    returns-3
-    returns-4
-    returns-5)
+    (λ c. search needs) (λ c κs. search needs) (λ c. search needs) (λ c κs. search needs) (λ c. search needs) (λ c κs. search needs)
+    (λ c. search needs) (λ c. search needs) (λ c κs. search needs) returns returns-2 returns-3 returns-4 returns-5)

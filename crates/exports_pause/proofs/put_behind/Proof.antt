@@ -7,11 +7,9 @@ use Rattle.exports_pause.proofs.put_behind.Tie as tie
 returns : tie.Need-returns
 returns c = rw (eq-eqb _ _ (c .if1 .taken))
 
-put-place-requires : tie.Need-put-place-requires
-put-place-requires c κs = search needs
-
 returns-2 : tie.Need-returns-2
 returns-2 c = rw (ne-eqb _ _ (c .before .before .if1 .left)) (c .put-place .ensures (search needs))
 
 pub put-behind-spec : {M : Type 1} → statement M
-put-behind-spec = tie.close (tie.spec returns put-place-requires returns-2)
+put-behind-spec =
+    tie.close (tie.spec returns (λ c κs. search needs) returns-2)

@@ -9,26 +9,11 @@ use Rattle.exports_place.proofs.put_place.Tie as tie
 returns : tie.Need-returns
 returns c = λ l. absurd (omega arith)
 
-slice-write-s : tie.Need-slice-write-s
-slice-write-s c = search needs
-
 slice-write-s-2 : tie.Need-slice-write-s-2
 slice-write-s-2 c = simp length-set (omega arith)
 
-mark-of-requires : tie.Need-mark-of-requires
-mark-of-requires c κs = search needs
-
 slice-write-s-3 : tie.Need-slice-write-s-3
 slice-write-s-3 c = simp length-set (omega arith)
-
-mark-of-requires-2 : tie.Need-mark-of-requires-2
-mark-of-requires-2 c κs = search needs
-
-slice-write-s-4 : tie.Need-slice-write-s-4
-slice-write-s-4 c = search needs
-
-same-length : tie.Need-same-length
-same-length c = search needs
 
 returns-2 : tie.Need-returns-2
 returns-2 c = λ l. rw (c .before .mark-of .ensures, c .mark-of2 .ensures) (numbers-put (c .before .before .before .before .args .s .now) l _ _ _ _)
@@ -37,12 +22,5 @@ pub put-place-spec : {M : Type 1} → statement M
 put-place-spec =
     tie.close
     (tie.spec
-    returns
-    slice-write-s
-    slice-write-s-2
-    mark-of-requires
-    slice-write-s-3
-    mark-of-requires-2
-    slice-write-s-4
-    same-length
-    returns-2)
+    returns (λ c. search needs) slice-write-s-2 (λ c κs. search needs) slice-write-s-3 (λ c κs. search needs) (λ c. search needs)
+    (λ c. search needs) returns-2)

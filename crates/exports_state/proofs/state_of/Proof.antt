@@ -8,23 +8,8 @@ use borrow.Author.Needs.{needs}
 use Rattle.exports_state.proofs.state_of.Statement.{statement}
 use Rattle.exports_state.proofs.state_of.Tie as tie
 
-slice-aggregate-copy-slots : tie.Need-slice-aggregate-copy-slots
-slice-aggregate-copy-slots c = search needs
-
-slice-aggregate-copy-slots-2 : tie.Need-slice-aggregate-copy-slots-2
-slice-aggregate-copy-slots-2 c = search needs
-
 copy-slots-requires : tie.Need-copy-slots-requires
 copy-slots-requires c κs = let l : length (c .before .before .before .args .w .ends) ≡ maxDepth = search needs in (omega arith, search needs)
-
-slice-aggregate-put-place : tie.Need-slice-aggregate-put-place
-slice-aggregate-put-place c = search needs
-
-place-requires : tie.Need-place-requires
-place-requires c κs = search needs
-
-put-place-requires : tie.Need-put-place-requires
-put-place-requires c κs = search needs
 
 returns : tie.Need-returns
 returns c =
@@ -35,10 +20,4 @@ pub state-of-spec : {M : Type 1} → statement M
 state-of-spec =
     tie.close
     (tie.spec
-    slice-aggregate-copy-slots
-    slice-aggregate-copy-slots-2
-    copy-slots-requires
-    slice-aggregate-put-place
-    place-requires
-    put-place-requires
-    returns)
+    (λ c. search needs) (λ c. search needs) copy-slots-requires (λ c. search needs) (λ c κs. search needs) (λ c κs. search needs) returns)

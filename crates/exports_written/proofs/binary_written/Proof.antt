@@ -4,12 +4,6 @@ use borrow.Author.Needs.{needs}
 use Rattle.exports_written.proofs.binary_written.Statement.{statement}
 use Rattle.exports_written.proofs.binary_written.Tie as tie
 
-enum-known-outcome : tie.Need-enum-known-outcome
-enum-known-outcome c = search needs
-
-enum-known-outcome-2 : tie.Need-enum-known-outcome-2
-enum-known-outcome-2 c = search needs
-
 returns : tie.Need-returns
 unfolding binaryWrittenNumber binaryWrittenValue
 returns c =
@@ -24,4 +18,4 @@ returns-2 c =
 
 pub binary-written-spec : {M : Type 1} → statement M
 binary-written-spec =
-    tie.close (tie.spec enum-known-outcome enum-known-outcome-2 returns returns-2)
+    tie.close (tie.spec (λ c. search needs) (λ c. search needs) returns returns-2)

@@ -4,12 +4,6 @@ use borrow.Author.Needs.{needs}
 use Rattle.framing.proofs.frame_next_head.Statement.{statement}
 use Rattle.framing.proofs.frame_next_head.Tie as tie
 
-frame-ruled-head-requires : tie.Need-frame-ruled-head-requires
-frame-ruled-head-requires c κs = search needs
-
-frame-head-requires : tie.Need-frame-head-requires
-frame-head-requires c κs = search needs
-
 returns : tie.Need-returns
 unfolding nextBy
 returns c = rw (c .before .if1 .taken) (c .frame-ruled-head .ensures)
@@ -20,4 +14,4 @@ returns-2 c = rw (c .before .if1 .left) (c .frame-head .ensures)
 
 pub frame-next-head-spec : {M : Type 1} → statement M
 frame-next-head-spec =
-    tie.close (tie.spec frame-ruled-head-requires frame-head-requires returns returns-2)
+    tie.close (tie.spec (λ c κs. search needs) (λ c κs. search needs) returns returns-2)

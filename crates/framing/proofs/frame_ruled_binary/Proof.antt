@@ -7,16 +7,10 @@ use borrow.Author.Needs.{needs}
 use Rattle.framing.proofs.frame_ruled_binary.Statement.{statement}
 use Rattle.framing.proofs.frame_ruled_binary.Tie as tie
 
-binary-head-requires : tie.Need-binary-head-requires
-binary-head-requires c κs = search needs
-
-frame-ruled-head-requires : tie.Need-frame-ruled-head-requires
-frame-ruled-head-requires c κs = search needs
-
 returns : tie.Need-returns
 unfolding frameRuled frame
 returns c = rw (binary-units) (by-ruled-head false (binarySextets (c .before .before .before .args .s .now)) _ _ _ (c .before .binary-head .ensures) (c .frame-ruled-head .ensures))
 
 pub frame-ruled-binary-spec : {M : Type 1} → statement M
 frame-ruled-binary-spec =
-    tie.close (tie.spec binary-head-requires frame-ruled-head-requires returns)
+    tie.close (tie.spec (λ c κs. search needs) (λ c κs. search needs) returns)

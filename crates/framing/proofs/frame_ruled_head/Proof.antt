@@ -5,32 +5,8 @@ use borrow.Author.Needs.{needs}
 use Rattle.framing.proofs.frame_ruled_head.Statement.{statement}
 use Rattle.framing.proofs.frame_ruled_head.Tie as tie
 
-frame-head-requires : tie.Need-frame-head-requires
-frame-head-requires c κs = search needs
-
-enum-known-framed : tie.Need-enum-known-framed
-enum-known-framed c = search needs
-
 enum-told : tie.Need-enum-told
 enum-told c = search needs
-
-enum-told-2 : tie.Need-enum-told-2
-enum-told-2 c = search needs
-
-enum-told-3 : tie.Need-enum-told-3
-enum-told-3 c = search needs
-
-enum-told-4 : tie.Need-enum-told-4
-enum-told-4 c = search needs
-
-is-ours-requires : tie.Need-is-ours-requires
-is-ours-requires c κs = search needs
-
-enum-told-5 : tie.Need-enum-told-5
-enum-told-5 c = search needs
-
-enum-told-6 : tie.Need-enum-told-6
-enum-told-6 c = search needs
 
 returns : tie.Need-returns
 returns c = rw (← (c .before .before .before .before .before .frame-head .ensures), c .before .before .before .framed .given .1) (ruled-fixed _ _ _ _ _ (c .enum-told .given .1))
@@ -57,19 +33,5 @@ pub frame-ruled-head-spec : {M : Type 1} → statement M
 frame-ruled-head-spec =
     tie.close
     (tie.spec
-    frame-head-requires
-    enum-known-framed
-    enum-told
-    enum-told-2
-    enum-told-3
-    enum-told-4
-    is-ours-requires
-    enum-told-5
-    enum-told-6
-    returns
-    returns-2
-    returns-3
-    returns-4
-    returns-5
-    returns-6
-    returns-7)
+    (λ c κs. search needs) (λ c. search needs) enum-told (λ c. search needs) (λ c. search needs) (λ c. search needs) (λ c κs. search needs)
+    (λ c. search needs) (λ c. search needs) returns returns-2 returns-3 returns-4 returns-5 returns-6 returns-7)

@@ -7,15 +7,10 @@ use borrow.Author.Needs.{needs}
 use Rattle.framing.proofs.frame_ruled_text.Statement.{statement}
 use Rattle.framing.proofs.frame_ruled_text.Tie as tie
 
-text-head-requires : tie.Need-text-head-requires
-text-head-requires c κs = search needs
-
-frame-ruled-head-requires : tie.Need-frame-ruled-head-requires
-frame-ruled-head-requires c κs = search needs
-
 returns : tie.Need-returns
 unfolding frameRuled frame
 returns c = rw (text-units) (by-ruled-head false (textSextets (c .before .before .before .args .s .now)) _ _ _ (c .before .text-head .ensures) (c .frame-ruled-head .ensures))
 
 pub frame-ruled-text-spec : {M : Type 1} → statement M
-frame-ruled-text-spec = tie.close (tie.spec text-head-requires frame-ruled-head-requires returns)
+frame-ruled-text-spec =
+    tie.close (tie.spec (λ c κs. search needs) (λ c κs. search needs) returns)

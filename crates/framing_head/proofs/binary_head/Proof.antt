@@ -8,18 +8,6 @@ use Rattle.framing_head.proofs.binary_head.Lts as lts
 use Rattle.framing_head.proofs.binary_unit.Reads as binary-unit-reads
 use Rattle.framing_head.proofs.join.Reads as join-reads
 
-binary-unit-requires : tie.Need-binary-unit-requires
-binary-unit-requires c κs = search needs
-
-binary-unit-requires-2 : tie.Need-binary-unit-requires-2
-binary-unit-requires-2 c κs = search needs
-
-binary-unit-requires-3 : tie.Need-binary-unit-requires-3
-binary-unit-requires-3 c κs = search needs
-
-join-requires : tie.Need-join-requires
-join-requires c κs = search needs
-
 returns : tie.Need-returns
 returns c =
     head-join (binarySextets (c .before .before .before .before .before .args .s .now)) _ _ _ _ (c .join .ensures) (c .before .before .before .binary-unit .ensures)
@@ -27,10 +15,4 @@ returns c =
 
 pub binary-head-spec : {M : Type 1} → statement M
 binary-head-spec =
-    tie.close
-    (tie.spec
-    binary-unit-requires
-    binary-unit-requires-2
-    binary-unit-requires-3
-    join-requires
-    returns)
+    tie.close (tie.spec (λ c κs. search needs) (λ c κs. search needs) (λ c κs. search needs) (λ c κs. search needs) returns)

@@ -7,30 +7,6 @@ use Rattle.framing_head.proofs.binary_unit.Reads as reads
 use Rattle.framing_head.proofs.binary_unit.Lts as lts
 use Rattle.units.proofs.unpack.Reads as unpack-reads
 
-mul-at : tie.Need-mul-at
-mul-at c = search needs
-
-add-if1 : tie.Need-add-if1
-add-if1 c = search needs
-
-shared-slice-read-t9 : tie.Need-shared-slice-read-t9
-shared-slice-read-t9 c = search needs
-
-add-t10 : tie.Need-add-t10
-add-t10 c = search needs
-
-shared-slice-read-t12 : tie.Need-shared-slice-read-t12
-shared-slice-read-t12 c = search needs
-
-add-t13 : tie.Need-add-t13
-add-t13 c = search needs
-
-shared-slice-read-t15 : tie.Need-shared-slice-read-t15
-shared-slice-read-t15 c = search needs
-
-unpack-requires : tie.Need-unpack-requires
-unpack-requires c κs = search needs
-
 returns : tie.Need-returns
 returns c =
     let a = c .before .before .before .before .before .before in
@@ -43,13 +19,5 @@ pub binary-unit-spec : {M : Type 1} → statement M
 binary-unit-spec =
     tie.close
     (tie.spec
-    mul-at
-    add-if1
-    shared-slice-read-t9
-    add-t10
-    shared-slice-read-t12
-    add-t13
-    shared-slice-read-t15
-    unpack-requires
-    returns
-    returns-2)
+    (λ c. search needs) (λ c. search needs) (λ c. search needs) (λ c. search needs) (λ c. search needs) (λ c. search needs)
+    (λ c. search needs) (λ c κs. search needs) returns returns-2)

@@ -9,21 +9,6 @@ use Rattle.alphabet.proofs.sextets.Reads as sextets-reads
 use Rattle.framing_head.proofs.join.Reads as join-reads
 use Rattle.framing_head.proofs.text_unit.Reads as text-unit-reads
 
-sextets-requires : tie.Need-sextets-requires
-sextets-requires c κs = search needs
-
-text-unit-requires : tie.Need-text-unit-requires
-text-unit-requires c κs = search needs
-
-text-unit-requires-2 : tie.Need-text-unit-requires-2
-text-unit-requires-2 c κs = search needs
-
-text-unit-requires-3 : tie.Need-text-unit-requires-3
-text-unit-requires-3 c κs = search needs
-
-join-requires : tie.Need-join-requires
-join-requires c κs = search needs
-
 returns : tie.Need-returns
 returns c =
     head-join (textSextets (c .before .before .before .before .before .before .before .before .before .args .s .now)) _ _ _ _ (c .join .ensures) (c .before .before .before .before .before .text-unit .ensures) (c .before .before .before .text-unit2 .ensures)
@@ -33,9 +18,4 @@ pub text-head-spec : {M : Type 1} → statement M
 text-head-spec =
     tie.close
     (tie.spec
-    sextets-requires
-    text-unit-requires
-    text-unit-requires-2
-    text-unit-requires-3
-    join-requires
-    returns)
+    (λ c κs. search needs) (λ c κs. search needs) (λ c κs. search needs) (λ c κs. search needs) (λ c κs. search needs) returns)

@@ -7,9 +7,6 @@ use Rattle.framing_head.proofs.text_sextet.Tie as tie
 use Rattle.framing_head.proofs.text_sextet.Reads as reads
 use Rattle.framing_head.proofs.text_sextet.Lts as lts
 
-shared-slice-read-c : tie.Need-shared-slice-read-c
-shared-slice-read-c c = search needs
-
 cast-result : tie.Need-cast-result
 cast-result c = omega (arith, c .shared-slice-known .given (c .before .before .args .i))
 
@@ -27,4 +24,4 @@ returns-2 c = text-past (c .before .args .s .now) (c .before .args .i) (search n
 
 pub text-sextet-spec : {M : Type 1} → statement M
 text-sextet-spec =
-    tie.close (tie.spec shared-slice-read-c cast-result element-copy-out-result returns returns-2)
+    tie.close (tie.spec (λ c. search needs) cast-result element-copy-out-result returns returns-2)

@@ -13,13 +13,11 @@ unfolding second
 returns c = simp (lt-ltb _ _ (c .if1 .taken))
 
 -- src/lib.rt:149:5
-known-second-requires : tie.Need-known-second-requires
-known-second-requires c κs = search needs
-
 -- src/lib.rt:140:1
 returns-2 : tie.Need-returns-2
 unfolding second
 returns-2 c = simp (le-ltb _ _ (c .before .if1 .left)) (c .known-second .ensures)
 
 pub seconded-spec : {M : Type 1} → statement M
-seconded-spec = tie.close (tie.spec returns known-second-requires returns-2)
+seconded-spec =
+    tie.close (tie.spec returns (λ c κs. search needs) returns-2)

@@ -4,9 +4,6 @@ use borrow.Author.Needs.{needs}
 use Rattle.framing_within.proofs.within_sextet.Statement.{statement}
 use Rattle.framing_within.proofs.within_sextet.Tie as tie
 
-array-read-result : tie.Need-array-read-result
-array-read-result c = search needs
-
 returns : tie.Need-returns
 returns c = part-in _ _ _ (c .if2 .taken)
 
@@ -17,4 +14,5 @@ returns-3 : tie.Need-returns-3
 returns-3 c = part-past (c .before .args .t1) (c .before .args .n) (c .before .args .i) (search needs)
 
 pub within-sextet-spec : {M : Type 1} → statement M
-within-sextet-spec = tie.close (tie.spec array-read-result returns returns-2 returns-3)
+within-sextet-spec =
+    tie.close (tie.spec (λ c. search needs) returns returns-2 returns-3)

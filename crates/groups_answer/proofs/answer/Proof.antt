@@ -8,35 +8,14 @@ use borrow.Author.Needs.{needs}
 use Rattle.groups_answer.proofs.answer.Statement.{statement}
 use Rattle.groups_answer.proofs.answer.Tie as tie
 
-refused-requires : tie.Need-refused-requires
-refused-requires c κs = search needs
-
 returns : tie.Need-returns
 returns c = too-short _ _ _ _ _ (search needs) (c .refused .ensures)
-
-head-size-requires : tie.Need-head-size-requires
-head-size-requires c κs = search needs
-
-limit-requires : tie.Need-limit-requires
-limit-requires c κs = search needs
 
 sub-if2 : tie.Need-sub-if2
 sub-if2 c = within-limit (c .before .before .before .before .args .form) _ _ (c .before .head-size .ensures .1) (c .limit .ensures)
 
-refused-requires-2 : tie.Need-refused-requires-2
-refused-requires-2 c κs = search needs
-
 returns-2 : tie.Need-returns-2
 returns-2 c = too-long (c .before .before .before .before .before .before .args .form) (c .before .before .before .before .before .before .args .letter) (c .before .before .before .before .before .before .args .len) (now (c .before .before .before .before .before .before .args .buf)) _ (search needs) _ _ (c .before .before .before .head-size .ensures) (c .before .before .limit .ensures) (c .before .if2 .taken) (c .refused2 .ensures)
-
-sextet-requires : tie.Need-sextet-requires
-sextet-requires c κs = search needs
-
-is-group-requires : tie.Need-is-group-requires
-is-group-requires c κs = search needs
-
-refused-requires-3 : tie.Need-refused-requires-3
-refused-requires-3 c κs = search needs
 
 returns-3 : tie.Need-returns-3
 returns-3 c =
@@ -44,17 +23,11 @@ returns-3 c =
     let a = w .before .before .before .args in
     no-letter (a .form) (a .letter) (a .len) (now (a .buf)) _ (search needs) _ _ (c .before .before .before .before .before .before .head-size .ensures) (c .before .before .before .before .before .limit .ensures) (c .before .before .before .before .if2 .left) _ (c .before .before .before .sextet .ensures) _ (c .before .before .is-group .ensures) (not-true _ (c .before .if3 .taken)) (c .refused3 .ensures)
 
-unit-requires : tie.Need-unit-requires
-unit-requires c κs = search needs
-
 rem-if4 : tie.Need-rem-if4
 rem-if4 c =
     let w = c .before .before .before .before .before .before in
     let a = w .before .before .before .args in
     unit-some (a .form) _ (c .unit .ensures)
-
-refused-requires-4 : tie.Need-refused-requires-4
-refused-requires-4 c κs = search needs
 
 returns-4 : tie.Need-returns-4
 returns-4 c =
@@ -68,15 +41,6 @@ slice-aggregate-walk-body c =
     let a = w .before .before .before .before .before .args in
     sym (length-take-le (a .len) (now (a .buf)) (search needs))
 
-walk-body-requires : tie.Need-walk-body-requires
-walk-body-requires c κs = search needs
-
-add-room-for : tie.Need-add-room-for
-add-room-for c = search needs
-
-room-for-requires : tie.Need-room-for-requires
-room-for-requires c κs = search needs
-
 returns-5 : tie.Need-returns-5
 returns-5 c =
     let w = c .before .before .before .before .before .before in
@@ -88,23 +52,6 @@ pub answer-spec : {M : Type 1} → statement M
 answer-spec =
     tie.close
     (tie.spec
-    refused-requires
-    returns
-    head-size-requires
-    limit-requires
-    sub-if2
-    refused-requires-2
-    returns-2
-    sextet-requires
-    is-group-requires
-    refused-requires-3
-    returns-3
-    unit-requires
-    rem-if4
-    refused-requires-4
-    returns-4
-    slice-aggregate-walk-body
-    walk-body-requires
-    add-room-for
-    room-for-requires
-    returns-5)
+    (λ c κs. search needs) returns (λ c κs. search needs) (λ c κs. search needs) sub-if2 (λ c κs. search needs) returns-2
+    (λ c κs. search needs) (λ c κs. search needs) (λ c κs. search needs) returns-3 (λ c κs. search needs) rem-if4 (λ c κs. search needs)
+    returns-4 slice-aggregate-walk-body (λ c κs. search needs) (λ c. search needs) (λ c κs. search needs) returns-5)

@@ -6,15 +6,6 @@ use borrow.Author.Needs.{needs}
 use Rattle.groups_answer.proofs.head_size.Statement.{statement}
 use Rattle.groups_answer.proofs.head_size.Tie as tie
 
-units-requires : tie.Need-units-requires
-units-requires c κs = search needs
-
-head-units-requires : tie.Need-head-units-requires
-head-units-requires c κs = search needs
-
-unit-requires : tie.Need-unit-requires
-unit-requires c κs = search needs
-
 mul-result : tie.Need-mul-result
 mul-result c = head-fits (c .before .before .before .args .form) _ _ _ (c .before .head-units .ensures ∙ ap headUnits (c .before .before .units .ensures)) (c .unit .ensures)
 
@@ -23,4 +14,4 @@ returns c = head-sized (c .before .before .before .args .form) _ _ _ (c .before 
 
 pub head-size-spec : {M : Type 1} → statement M
 head-size-spec =
-    tie.close (tie.spec units-requires head-units-requires unit-requires mul-result returns)
+    tie.close (tie.spec (λ c κs. search needs) (λ c κs. search needs) (λ c κs. search needs) mul-result returns)

@@ -7,18 +7,6 @@ use Rattle.groups_answer.proofs.room_for.Tie as tie
 enum-told : tie.Need-enum-told
 enum-told c = search needs
 
-refused-requires : tie.Need-refused-requires
-refused-requires c κs = search needs
-
-enum-known-pause : tie.Need-enum-known-pause
-enum-known-pause c = search needs
-
-enum-told-2 : tie.Need-enum-told-2
-enum-told-2 c = search needs
-
-refused-requires-2 : tie.Need-refused-requires-2
-refused-requires-2 c κs = search needs
-
 returns : tie.Need-returns
 returns c = no-room _ _ _ _ (c .refused .ensures) (c .before .before .enum-told .given .1) (search needs)
 
@@ -35,12 +23,4 @@ pub room-for-spec : {M : Type 1} → statement M
 room-for-spec =
     tie.close
     (tie.spec
-    enum-told
-    refused-requires
-    enum-known-pause
-    enum-told-2
-    refused-requires-2
-    returns
-    returns-2
-    returns-3
-    returns-4)
+    enum-told (λ c κs. search needs) (λ c. search needs) (λ c. search needs) (λ c κs. search needs) returns returns-2 returns-3 returns-4)

@@ -4,21 +4,12 @@ use borrow.Author.Needs.{needs}
 use Rattle.groups_answer.proofs.walk_body.Statement.{statement}
 use Rattle.groups_answer.proofs.walk_body.Tie as tie
 
-units-requires : tie.Need-units-requires
-units-requires c κs = search needs
-
-within-requires : tie.Need-within-requires
-within-requires c κs = search needs
-
 add-walk-on : tie.Need-add-walk-on
 add-walk-on c = budget-fits (c .before .before .before .args .form) _ _ (c .before .units .ensures) (search needs)
-
-walk-on-requires : tie.Need-walk-on-requires
-walk-on-requires c κs = search needs
 
 returns : tie.Need-returns
 returns c = walked (c .before .before .before .before .args .form) _ _ _ _ _ (c .before .before .units .ensures) (c .before .within .ensures) (c .walk-on .ensures)
 
 pub walk-body-spec : {M : Type 1} → statement M
 walk-body-spec =
-    tie.close (tie.spec units-requires within-requires add-walk-on walk-on-requires returns)
+    tie.close (tie.spec (λ c κs. search needs) (λ c κs. search needs) add-walk-on (λ c κs. search needs) returns)

@@ -4,47 +4,8 @@ use borrow.Author.Needs.{needs}
 use Rattle.groups_header.proofs.binary_header.Statement.{statement}
 use Rattle.groups_header.proofs.binary_header.Tie as tie
 
-first-unit-requires : tie.Need-first-unit-requires
-first-unit-requires c κs = search needs
-
-pack-requires : tie.Need-pack-requires
-pack-requires c κs = search needs
-
-array-read-t10 : tie.Need-array-read-t10
-array-read-t10 c = search needs
-
-array-read-t13 : tie.Need-array-read-t13
-array-read-t13 c = search needs
-
-array-read-t16 : tie.Need-array-read-t16
-array-read-t16 c = search needs
-
 returns : tie.Need-returns
 returns c = binary-small _ _ _ _ (search needs) (c .before .before .first-unit .ensures) (c .before .pack .ensures)
-
-second-unit-requires : tie.Need-second-unit-requires
-second-unit-requires c κs = search needs
-
-pack-requires-2 : tie.Need-pack-requires-2
-pack-requires-2 c κs = search needs
-
-array-read-t19 : tie.Need-array-read-t19
-array-read-t19 c = search needs
-
-array-read-t22 : tie.Need-array-read-t22
-array-read-t22 c = search needs
-
-array-read-t25 : tie.Need-array-read-t25
-array-read-t25 c = search needs
-
-array-read-t28 : tie.Need-array-read-t28
-array-read-t28 c = search needs
-
-array-read-t31 : tie.Need-array-read-t31
-array-read-t31 c = search needs
-
-array-read-t34 : tie.Need-array-read-t34
-array-read-t34 c = search needs
 
 returns-2 : tie.Need-returns-2
 returns-2 c =
@@ -55,18 +16,6 @@ pub binary-header-spec : {M : Type 1} → statement M
 binary-header-spec =
     tie.close
     (tie.spec
-    first-unit-requires
-    pack-requires
-    array-read-t10
-    array-read-t13
-    array-read-t16
-    returns
-    second-unit-requires
-    pack-requires-2
-    array-read-t19
-    array-read-t22
-    array-read-t25
-    array-read-t28
-    array-read-t31
-    array-read-t34
-    returns-2)
+    (λ c κs. search needs) (λ c κs. search needs) (λ c. search needs) (λ c. search needs) (λ c. search needs) returns (λ c κs. search needs)
+    (λ c κs. search needs) (λ c. search needs) (λ c. search needs) (λ c. search needs) (λ c. search needs) (λ c. search needs)
+    (λ c. search needs) returns-2)

@@ -7,15 +7,6 @@ use Rattle.groups_header.proofs.header.Tie as tie
 enum-told : tie.Need-enum-told
 enum-told c = search needs
 
-text-header-requires : tie.Need-text-header-requires
-text-header-requires c κs = search needs
-
-enum-told-2 : tie.Need-enum-told-2
-enum-told-2 c = search needs
-
-binary-header-requires : tie.Need-binary-header-requires
-binary-header-requires c κs = search needs
-
 returns : tie.Need-returns
 returns c = c .text-header .ensures ∙ rw (c .before .enum-told .given .1)
 
@@ -24,5 +15,4 @@ returns-2 c = c .binary-header .ensures ∙ rw (c .before .enum-told2 .given .1)
 
 pub header-spec : {M : Type 1} → statement M
 header-spec =
-    tie.close
-    (tie.spec enum-told text-header-requires enum-told-2 binary-header-requires returns returns-2)
+    tie.close (tie.spec enum-told (λ c κs. search needs) (λ c. search needs) (λ c κs. search needs) returns returns-2)

@@ -5,15 +5,6 @@ use borrow.Author.Needs.{needs}
 use Rattle.groups_writing.proofs.group.Statement.{statement}
 use Rattle.groups_writing.proofs.group.Tie as tie
 
-answer-requires : tie.Need-answer-requires
-answer-requires c κs = search needs
-
-enum-known-answer : tie.Need-enum-known-answer
-enum-known-answer c = search needs
-
-sextet-requires : tie.Need-sextet-requires
-sextet-requires c κs = search needs
-
 put-group-requires : tie.Need-put-group-requires
 put-group-requires c κs =
     let w = c .before .before .before .before .before .before in
@@ -23,17 +14,11 @@ put-group-requires c κs =
 enum-told : tie.Need-enum-told
 enum-told c = search needs
 
-same-length : tie.Need-same-length
-same-length c = search needs
-
 returns : tie.Need-returns
 returns c =
     let w = c .before .before .before .before .before .before in
     let a = w .before .before .before .before .before .args in
     is-written (a .form) (a .letter) (a .len) (now (a .buf)) _ (w .before .before .answer .ensures) _ (c .before .before .before .before .before .before .answer2 .given .1) _ _ (c .before .before .before .before .sextet .ensures) (c .before .before .put-group .ensures)
-
-same-length-2 : tie.Need-same-length-2
-same-length-2 c = search needs
 
 returns-2 : tie.Need-returns-2
 returns-2 c = is-refused (c .before .before .before .before .before .args .form) (c .before .before .before .before .before .args .letter) (c .before .before .before .before .before .args .len) (now (c .before .before .before .before .before .args .buf)) _ (c .before .before .answer .ensures) _ _ (c .enum-told .given .1)
@@ -42,12 +27,5 @@ pub group-spec : {M : Type 1} → statement M
 group-spec =
     tie.close
     (tie.spec
-    answer-requires
-    enum-known-answer
-    sextet-requires
-    put-group-requires
-    enum-told
-    same-length
-    returns
-    same-length-2
-    returns-2)
+    (λ c κs. search needs) (λ c. search needs) (λ c κs. search needs) put-group-requires enum-told (λ c. search needs) returns
+    (λ c. search needs) returns-2)

@@ -7,15 +7,6 @@ use borrow.Author.Needs.{needs}
 use Rattle.groups_writing.proofs.put_front.Statement.{statement}
 use Rattle.groups_writing.proofs.put_front.Tie as tie
 
-reverse-requires : tie.Need-reverse-requires
-reverse-requires c κs = search needs
-
-reverse-requires-2 : tie.Need-reverse-requires-2
-reverse-requires-2 c κs = search needs
-
-array-share-prefix-head : tie.Need-array-share-prefix-head
-array-share-prefix-head c = search needs
-
 slice-aggregate-copy : tie.Need-slice-aggregate-copy
 slice-aggregate-copy c =
     let w = c .before .before .before .before .before .before in
@@ -28,9 +19,6 @@ copy-requires c κs =
     let a = w .before .before .before .before .before .args in
     omega (arith, length-take-le (a .h) (a .t2) (search needs), c .before .before .before .before .reverse2 .kept .0, w .before .before .reverse .kept .0)
 
-same-length : tie.Need-same-length
-same-length c = search needs
-
 returns : tie.Need-returns
 returns c =
     let w = c .before .before .before .before .before .before in
@@ -42,10 +30,4 @@ pub put-front-spec : {M : Type 1} → statement M
 put-front-spec =
     tie.close
     (tie.spec
-    reverse-requires
-    reverse-requires-2
-    array-share-prefix-head
-    slice-aggregate-copy
-    copy-requires
-    same-length
-    returns)
+    (λ c κs. search needs) (λ c κs. search needs) (λ c. search needs) slice-aggregate-copy copy-requires (λ c. search needs) returns)

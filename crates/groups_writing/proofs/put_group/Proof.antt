@@ -5,20 +5,11 @@ use borrow.Author.Needs.{needs}
 use Rattle.groups_writing.proofs.put_group.Statement.{statement}
 use Rattle.groups_writing.proofs.put_group.Tie as tie
 
-units-requires : tie.Need-units-requires
-units-requires c κs = search needs
-
-header-requires : tie.Need-header-requires
-header-requires c κs = search needs
-
 sub-put-front : tie.Need-sub-put-front
 sub-put-front c = not-less (c .before .before .before .before .args .form) (c .before .before .before .before .args .letter) (c .before .before .before .before .args .len) (now (c .before .before .before .before .args .buf)) (c .before .before .before .before .args .size) (search needs, search needs)
 
 put-front-requires : tie.Need-put-front-requires
 put-front-requires c κs = fits-front (c .before .before .before .before .args .form) (c .before .before .before .before .args .letter) (c .before .before .before .before .args .len) (now (c .before .before .before .before .args .buf)) (c .before .before .before .before .args .size) (search needs, search needs)
-
-same-length : tie.Need-same-length
-same-length c = search needs
 
 returns : tie.Need-returns
 returns c =
@@ -28,5 +19,4 @@ returns c =
 
 pub put-group-spec : {M : Type 1} → statement M
 put-group-spec =
-    tie.close
-    (tie.spec units-requires header-requires sub-put-front put-front-requires same-length returns)
+    tie.close (tie.spec (λ c κs. search needs) (λ c κs. search needs) sub-put-front put-front-requires (λ c. search needs) returns)

@@ -9,15 +9,6 @@ use Rattle.framing_head.proofs.binary_head.Reads as binary-head-reads
 use Rattle.framing_head.proofs.within.Reads as within-reads
 use Rattle.indexed_item.proofs.item_of.Reads as item-of-reads
 
-binary-head-requires : tie.Need-binary-head-requires
-binary-head-requires c κs = search needs
-
-within-requires : tie.Need-within-requires
-within-requires c κs = search needs
-
-item-of-requires : tie.Need-item-of-requires
-item-of-requires c κs = search needs
-
 returns : tie.Need-returns
 returns c =
     let s = c .before .before .before .before in
@@ -25,4 +16,4 @@ returns c =
 
 pub binary-found-spec : {M : Type 1} → statement M
 binary-found-spec =
-    tie.close (tie.spec binary-head-requires within-requires item-of-requires returns)
+    tie.close (tie.spec (λ c κs. search needs) (λ c κs. search needs) (λ c κs. search needs) returns)

@@ -16,33 +16,6 @@ returns c = binary-long _ _ (search needs)
 returns-2 : tie.Need-returns-2
 returns-2 c = binary-past _ _ (search needs) (search needs)
 
-sub-part : tie.Need-sub-part
-sub-part c = search needs
-
-part-part-start : tie.Need-part-part-start
-part-part-start c = search needs
-
-part-part-end : tie.Need-part-part-end
-part-part-end c = search needs
-
-of-binary-requires : tie.Need-of-binary-requires
-of-binary-requires c κs = search needs
-
-enum-known-number : tie.Need-enum-known-number
-enum-known-number c = search needs
-
-mul-t19 : tie.Need-mul-t19
-mul-t19 c = search needs
-
-add-t21 : tie.Need-add-t21
-add-t21 c = search needs
-
-add-t22 : tie.Need-add-t22
-add-t22 c = search needs
-
-enum-known-kind : tie.Need-enum-known-kind
-enum-known-kind c = search needs
-
 binary-found-requires : tie.Need-binary-found-requires
 binary-found-requires c κs = sym (c .before .before .before .of-binary .ensures) ∙ c .before .kind .given .1
 
@@ -63,17 +36,5 @@ pub read-indexed-binary-spec : {M : Type 1} → statement M
 read-indexed-binary-spec =
     tie.close
     (tie.spec
-    returns
-    returns-2
-    sub-part
-    part-part-start
-    part-part-end
-    of-binary-requires
-    enum-known-number
-    mul-t19
-    add-t21
-    add-t22
-    enum-known-kind
-    binary-found-requires
-    returns-3
-    returns-4)
+    returns returns-2 (λ c. search needs) (λ c. search needs) (λ c. search needs) (λ c κs. search needs) (λ c. search needs)
+    (λ c. search needs) (λ c. search needs) (λ c. search needs) (λ c. search needs) binary-found-requires returns-3 returns-4)

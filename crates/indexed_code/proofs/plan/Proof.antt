@@ -10,17 +10,8 @@ use Rattle.indexed_code.proofs.plan.Lts as lts
 use Rattle.indexed_name.proofs.name_of.Reads as name-of-reads
 use Rattle.indexed_code.proofs.plan_row.Reads as plan-row-reads
 
-name-of-requires : tie.Need-name-of-requires
-name-of-requires c κs = search needs
-
 enum-told : tie.Need-enum-told
 enum-told c = search needs
-
-enum-known-named : tie.Need-enum-known-named
-enum-known-named c = search needs
-
-plan-row-requires : tie.Need-plan-row-requires
-plan-row-requires c κs = search needs
 
 returns : tie.Need-returns
 unfolding asNamed
@@ -34,5 +25,4 @@ returns-2 c =
 
 pub plan-spec : {M : Type 1} → statement M
 plan-spec =
-    tie.close
-    (tie.spec name-of-requires enum-told enum-known-named plan-row-requires returns returns-2)
+    tie.close (tie.spec (λ c κs. search needs) enum-told (λ c. search needs) (λ c κs. search needs) returns returns-2)

@@ -10,14 +10,8 @@ use Rattle.indexed_code.proofs.plan_row.Lts as lts
 use Rattle.indexed_fit.proofs.is_fit.Reads as is-fit-reads
 use Rattle.indexed_fit.proofs.ondex_right.Reads as ondex-right-reads
 
-is-fit-requires : tie.Need-is-fit-requires
-is-fit-requires c κs = search needs
-
 returns : tie.Need-returns
 returns c = λ few. unfit _ _ _ _ (sym (c .before .is-fit .ensures few) ∙ not-true _ (c .if1 .taken))
-
-ondex-right-requires : tie.Need-ondex-right-requires
-ondex-right-requires c κs = search needs
 
 returns-2 : tie.Need-returns-2
 returns-2 c = λ few.
@@ -31,4 +25,4 @@ returns-3 c = λ few.
 
 pub plan-row-spec : {M : Type 1} → statement M
 plan-row-spec =
-    tie.close (tie.spec is-fit-requires returns ondex-right-requires returns-2 returns-3)
+    tie.close (tie.spec (λ c κs. search needs) returns (λ c κs. search needs) returns-2 returns-3)

@@ -11,15 +11,6 @@ use Rattle.indexed_digits.proofs.at_most.Reads as at-most-reads
 use Rattle.indexed_digits.proofs.number.Reads as number-reads
 use Rattle.indexed_digits.proofs.wide.Reads as wide-reads
 
-wide-requires : tie.Need-wide-requires
-wide-requires c κs = search needs
-
-at-most-requires : tie.Need-at-most-requires
-at-most-requires c κs = search needs
-
-number-requires : tie.Need-number-requires
-number-requires c κs = search needs
-
 returns : tie.Need-returns
 unfolding indexOf
 returns c = λ p.
@@ -29,4 +20,5 @@ returns c = λ p.
     rw from at (c .number .ensures (p .index))
 
 pub index-of-spec : {M : Type 1} → statement M
-index-of-spec = tie.close (tie.spec wide-requires at-most-requires number-requires returns)
+index-of-spec =
+    tie.close (tie.spec (λ c κs. search needs) (λ c κs. search needs) (λ c κs. search needs) returns)

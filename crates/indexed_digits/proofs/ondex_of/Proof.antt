@@ -12,21 +12,6 @@ use Rattle.indexed_digits.proofs.at_most.Reads as at-most-reads
 use Rattle.indexed_digits.proofs.number.Reads as number-reads
 use Rattle.indexed_digits.proofs.wide.Reads as wide-reads
 
-wide-requires : tie.Need-wide-requires
-wide-requires c κs = search needs
-
-wide-requires-2 : tie.Need-wide-requires-2
-wide-requires-2 c κs = search needs
-
-add-at-most : tie.Need-add-at-most
-add-at-most c = search needs
-
-at-most-requires : tie.Need-at-most-requires
-at-most-requires c κs = search needs
-
-number-requires : tie.Need-number-requires
-number-requires c κs = search needs
-
 returns : tie.Need-returns
 unfolding ondexOf
 returns c = λ p.
@@ -39,4 +24,5 @@ returns c = λ p.
 pub ondex-of-spec : {M : Type 1} → statement M
 ondex-of-spec =
     tie.close
-    (tie.spec wide-requires wide-requires-2 add-at-most at-most-requires number-requires returns)
+    (tie.spec
+    (λ c κs. search needs) (λ c κs. search needs) (λ c. search needs) (λ c κs. search needs) (λ c κs. search needs) returns)

@@ -8,21 +8,12 @@ use Rattle.indexed_fit.proofs.is_fit.Lts as lts
 use Rattle.indexed_fit.proofs.limit.Reads as limit-reads
 use Rattle.indexed_fit.proofs.raw_size.Reads as raw-size-reads
 
-raw-size-requires : tie.Need-raw-size-requires
-raw-size-requires c κs = search needs
-
 returns : tie.Need-returns
 returns c = λ few. other-raw _ _ _ _ _ (c .before .raw-size .ensures) (c .if1 .taken)
-
-limit-requires : tie.Need-limit-requires
-limit-requires c κs = search needs
 
 returns-2 : tie.Need-returns-2
 returns-2 c = λ few.
     past-index _ _ _ _ _ (c .before .before .before .raw-size .ensures) (c .before .before .if1 .left) _ (c .before .limit .ensures (few .0)) (c .if2 .taken)
-
-limit-requires-2 : tie.Need-limit-requires-2
-limit-requires-2 c κs = search needs
 
 returns-3 : tie.Need-returns-3
 returns-3 c = λ few.
@@ -32,5 +23,4 @@ returns-3 c = λ few.
 
 pub is-fit-spec : {M : Type 1} → statement M
 is-fit-spec =
-    tie.close
-    (tie.spec raw-size-requires returns limit-requires returns-2 limit-requires-2 returns-3)
+    tie.close (tie.spec (λ c κs. search needs) returns (λ c κs. search needs) returns-2 (λ c κs. search needs) returns-3)

@@ -10,18 +10,6 @@ use Rattle.indexed_fit.proofs.raw_size.Lts as lts
 use Rattle.indexed_fit.proofs.units_of.Reads as units-of-reads
 use Rattle.reading_start.proofs.indexed_start.Reads as indexed-start-reads
 
-indexed-start-requires : tie.Need-indexed-start-requires
-indexed-start-requires c κs = search needs
-
-units-of-requires : tie.Need-units-of-requires
-units-of-requires c κs = search needs
-
-mul-full : tie.Need-mul-full
-mul-full c = search needs
-
-sub-result : tie.Need-sub-result
-sub-result c = search needs
-
 returns : tie.Need-returns
 unfolding indexedRawSize rawStart
 returns c = rw (c .before .units-of .ensures .0, c .before .before .indexed-start .ensures .0)
@@ -35,5 +23,4 @@ returns-2 c =
 
 pub raw-size-spec : {M : Type 1} → statement M
 raw-size-spec =
-    tie.close
-    (tie.spec indexed-start-requires units-of-requires mul-full sub-result returns returns-2)
+    tie.close (tie.spec (λ c κs. search needs) (λ c κs. search needs) (λ c. search needs) (λ c. search needs) returns returns-2)

@@ -8,18 +8,9 @@ use Rattle.indexed_head.proofs.first_unit.Reads as reads
 use Rattle.indexed_head.proofs.first_unit.Lts as lts
 use Rattle.indexed_head.proofs.digit.Reads as digit-reads
 
-digit-requires : tie.Need-digit-requires
-digit-requires c κs = search needs
-
 returns : tie.Need-returns
 unfolding firstUnit
 returns c = rw (c .before .if1 .taken, c .digit .ensures .0)
-
-digit-requires-2 : tie.Need-digit-requires-2
-digit-requires-2 c κs = search needs
-
-digit-requires-3 : tie.Need-digit-requires-3
-digit-requires-3 c κs = search needs
 
 returns-2 : tie.Need-returns-2
 unfolding firstUnit
@@ -27,24 +18,12 @@ returns-2 c =
     let two = c .before .before in
     rw (ne-eqb _ _ (two .before .before .if1 .left), two .if2 .taken, c .before .digit2 .ensures .0, c .digit3 .ensures .0)
 
-digit-requires-4 : tie.Need-digit-requires-4
-digit-requires-4 c κs = search needs
-
-digit-requires-5 : tie.Need-digit-requires-5
-digit-requires-5 c κs = search needs
-
 returns-3 : tie.Need-returns-3
 unfolding firstUnit
 returns-3 c =
     let three = c .before .before in
     let two = three .before .before in
     rw (ne-eqb _ _ (two .before .before .if1 .left), ne-eqb _ _ (two .if2 .left), three .if3 .taken, c .before .digit4 .ensures .0, c .digit5 .ensures .0)
-
-digit-requires-6 : tie.Need-digit-requires-6
-digit-requires-6 c κs = search needs
-
-digit-requires-7 : tie.Need-digit-requires-7
-digit-requires-7 c κs = search needs
 
 returns-4 : tie.Need-returns-4
 unfolding firstUnit
@@ -63,14 +42,5 @@ pub first-unit-spec : {M : Type 1} → statement M
 first-unit-spec =
     tie.close
     (tie.spec
-    digit-requires
-    returns
-    digit-requires-2
-    digit-requires-3
-    returns-2
-    digit-requires-4
-    digit-requires-5
-    returns-3
-    digit-requires-6
-    digit-requires-7
-    returns-4)
+    (λ c κs. search needs) returns (λ c κs. search needs) (λ c κs. search needs) returns-2 (λ c κs. search needs) (λ c κs. search needs)
+    returns-3 (λ c κs. search needs) (λ c κs. search needs) returns-4)

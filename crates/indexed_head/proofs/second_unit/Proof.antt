@@ -12,29 +12,11 @@ returns : tie.Need-returns
 unfolding secondUnit
 returns c = rw (c .if1 .taken)
 
-digit-requires : tie.Need-digit-requires
-digit-requires c κs = search needs
-
-digit-requires-2 : tie.Need-digit-requires-2
-digit-requires-2 c κs = search needs
-
 returns-2 : tie.Need-returns-2
 unfolding secondUnit
 returns-2 c =
     let two = c .before .before in
     rw (ne-eqb _ _ (two .before .before .if1 .left), two .if2 .taken, c .before .digit .ensures .0, c .digit2 .ensures .0)
-
-digit-requires-3 : tie.Need-digit-requires-3
-digit-requires-3 c κs = search needs
-
-digit-requires-4 : tie.Need-digit-requires-4
-digit-requires-4 c κs = search needs
-
-digit-requires-5 : tie.Need-digit-requires-5
-digit-requires-5 c κs = search needs
-
-digit-requires-6 : tie.Need-digit-requires-6
-digit-requires-6 c κs = search needs
 
 returns-3 : tie.Need-returns-3
 unfolding secondUnit
@@ -53,12 +35,5 @@ pub second-unit-spec : {M : Type 1} → statement M
 second-unit-spec =
     tie.close
     (tie.spec
-    returns
-    digit-requires
-    digit-requires-2
-    returns-2
-    digit-requires-3
-    digit-requires-4
-    digit-requires-5
-    digit-requires-6
-    returns-3)
+    returns (λ c κs. search needs) (λ c κs. search needs) returns-2 (λ c κs. search needs) (λ c κs. search needs) (λ c κs. search needs)
+    (λ c κs. search needs) returns-3)

@@ -8,19 +8,14 @@ use Rattle.indexed_item.proofs.code_of.Reads as reads
 use Rattle.indexed_item.proofs.code_of.Lts as lts
 use Rattle.alphabet.proofs.character.Reads as character-reads
 
-character-requires : tie.Need-character-requires
-character-requires c κs = search needs
-
 returns : tie.Need-returns
 unfolding codeOfRow
 returns c = rw (c .if1 .taken, c .before .before .character .ensures)
-
-character-requires-2 : tie.Need-character-requires-2
-character-requires-2 c κs = search needs
 
 returns-2 : tie.Need-returns-2
 unfolding codeOfRow
 returns-2 c = rw (ne-eqb _ _ (c .before .if1 .left), c .character2 .ensures, c .before .before .before .character .ensures)
 
 pub code-of-spec : {M : Type 1} → statement M
-code-of-spec = tie.close (tie.spec character-requires returns character-requires-2 returns-2)
+code-of-spec =
+    tie.close (tie.spec (λ c κs. search needs) returns (λ c κs. search needs) returns-2)

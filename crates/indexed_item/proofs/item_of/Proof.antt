@@ -7,35 +7,8 @@ use Rattle.indexed_item.proofs.item_of.Lts as lts
 use Rattle.indexed_item.proofs.no_item.Reads as no-item-reads
 use Rattle.indexed_item.proofs.row_item.Reads as row-item-reads
 
-enum-known-kind : tie.Need-enum-known-kind
-enum-known-kind c = search needs
-
-row-item-requires : tie.Need-row-item-requires
-row-item-requires c κs = search needs
-
 enum-told : tie.Need-enum-told
 enum-told c = search needs
-
-no-item-requires : tie.Need-no-item-requires
-no-item-requires c κs = search needs
-
-enum-told-2 : tie.Need-enum-told-2
-enum-told-2 c = search needs
-
-no-item-requires-2 : tie.Need-no-item-requires-2
-no-item-requires-2 c κs = search needs
-
-enum-told-3 : tie.Need-enum-told-3
-enum-told-3 c = search needs
-
-no-item-requires-3 : tie.Need-no-item-requires-3
-no-item-requires-3 c κs = search needs
-
-enum-told-4 : tie.Need-enum-told-4
-enum-told-4 c = search needs
-
-no-item-requires-4 : tie.Need-no-item-requires-4
-no-item-requires-4 c κs = search needs
 
 returns : tie.Need-returns
 returns c = rw (c .before .before .kind .given .1) (c .row-item .ensures)
@@ -56,18 +29,5 @@ pub item-of-spec : {M : Type 1} → statement M
 item-of-spec =
     tie.close
     (tie.spec
-    enum-known-kind
-    row-item-requires
-    enum-told
-    no-item-requires
-    enum-told-2
-    no-item-requires-2
-    enum-told-3
-    no-item-requires-3
-    enum-told-4
-    no-item-requires-4
-    returns
-    returns-2
-    returns-3
-    returns-4
-    returns-5)
+    (λ c. search needs) (λ c κs. search needs) enum-told (λ c κs. search needs) (λ c. search needs) (λ c κs. search needs)
+    (λ c. search needs) (λ c κs. search needs) (λ c. search needs) (λ c κs. search needs) returns returns-2 returns-3 returns-4 returns-5)

@@ -7,12 +7,6 @@ use Rattle.indexed_item.proofs.raw_size.Reads as reads
 use Rattle.indexed_item.proofs.raw_size.Lts as lts
 use Rattle.indexed_item.proofs.at_most.Reads as at-most-reads
 
-at-most-requires : tie.Need-at-most-requires
-at-most-requires c κs = search needs
-
-mul-total : tie.Need-mul-total
-mul-total c = search needs
-
 returns : tie.Need-returns
 returns c = λ l. let e = c .before .at-most .ensures .0 l in omega arith
 
@@ -20,4 +14,5 @@ returns-2 : tie.Need-returns-2
 returns-2 c = λ l. let e = c .before .at-most .ensures .0 l in omega arith
 
 pub raw-size-spec : {M : Type 1} → statement M
-raw-size-spec = tie.close (tie.spec at-most-requires mul-total returns returns-2)
+raw-size-spec =
+    tie.close (tie.spec (λ c κs. search needs) (λ c. search needs) returns returns-2)

@@ -11,21 +11,6 @@ use Rattle.indexed_digits.proofs.ondex_of.Reads as ondex-of-reads
 use Rattle.indexed_item.proofs.raw_size.Reads as raw-size-reads
 use Rattle.reading_start.proofs.indexed_start.Reads as indexed-start-reads
 
-code-of-requires : tie.Need-code-of-requires
-code-of-requires c κs = search needs
-
-indexed-start-requires : tie.Need-indexed-start-requires
-indexed-start-requires c κs = search needs
-
-raw-size-requires : tie.Need-raw-size-requires
-raw-size-requires c κs = search needs
-
-index-of-requires : tie.Need-index-of-requires
-index-of-requires c κs = search needs
-
-ondex-of-requires : tie.Need-ondex-of-requires
-ondex-of-requires c κs = search needs
-
 returns : tie.Need-returns
 unfolding indexedOf
 returns c = λ p l.
@@ -42,9 +27,4 @@ pub row-item-spec : {M : Type 1} → statement M
 row-item-spec =
     tie.close
     (tie.spec
-    code-of-requires
-    indexed-start-requires
-    raw-size-requires
-    index-of-requires
-    ondex-of-requires
-    returns)
+    (λ c κs. search needs) (λ c κs. search needs) (λ c κs. search needs) (λ c κs. search needs) (λ c κs. search needs) returns)

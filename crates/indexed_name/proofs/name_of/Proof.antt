@@ -11,18 +11,6 @@ use Rattle.indexed_name.proofs.row_in.Reads as row-in-reads
 use Rattle.indexed_name.proofs.selector_of.Reads as selector-of-reads
 use Rattle.registry_indexed.proofs.indexed.Reads as indexed-reads
 
-selector-of-requires : tie.Need-selector-of-requires
-selector-of-requires c κs = search needs
-
-sextet-requires : tie.Need-sextet-requires
-sextet-requires c κs = search needs
-
-indexed-requires : tie.Need-indexed-requires
-indexed-requires c κs = search needs
-
-row-in-requires : tie.Need-row-in-requires
-row-in-requires c κs = search needs
-
 returns : tie.Need-returns
 returns c =
     let selector = c .before .before .before .selector-of .ensures in
@@ -31,5 +19,4 @@ returns c =
 
 pub name-of-spec : {M : Type 1} → statement M
 name-of-spec =
-    tie.close
-    (tie.spec selector-of-requires sextet-requires indexed-requires row-in-requires returns)
+    tie.close (tie.spec (λ c κs. search needs) (λ c κs. search needs) (λ c κs. search needs) (λ c κs. search needs) returns)

@@ -12,9 +12,6 @@ returns : tie.Need-returns
 unfolding selectorOf
 returns c = rw (c .if1 .taken)
 
-sextet-requires : tie.Need-sextet-requires
-sextet-requires c κs = search needs
-
 returns-2 : tie.Need-returns-2
 unfolding selectorOf
 returns-2 c = rw (← (c .before .sextet .ensures), eq-eqb _ _ (c .if2 .taken), ne-eqb _ _ (c .before .before .if1 .left))
@@ -24,4 +21,5 @@ unfolding selectorOf
 returns-3 c = rw (ne-eqb _ _ (c .before .before .if1 .left), ← (c .before .sextet .ensures), ne-eqb _ _ (c .if2 .left))
 
 pub selector-of-spec : {M : Type 1} → statement M
-selector-of-spec = tie.close (tie.spec returns sextet-requires returns-2 returns-3)
+selector-of-spec =
+    tie.close (tie.spec returns (λ c κs. search needs) returns-2 returns-3)

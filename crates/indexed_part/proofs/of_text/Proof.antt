@@ -4,32 +4,11 @@ use borrow.Author.Needs.{needs}
 use Rattle.indexed_part.proofs.of_text.Statement.{statement}
 use Rattle.indexed_part.proofs.of_text.Tie as tie
 
-text-head-requires : tie.Need-text-head-requires
-text-head-requires c κs = search needs
-
-frame-head-requires : tie.Need-frame-head-requires
-frame-head-requires c κs = search needs
-
-enum-told : tie.Need-enum-told
-enum-told c = search needs
-
-enum-known-framed : tie.Need-enum-known-framed
-enum-known-framed c = search needs
-
-within-requires : tie.Need-within-requires
-within-requires c κs = search needs
-
 mul-end : tie.Need-mul-end
 mul-end c = search text-size-fits
 
 slice-aggregate-own-text : tie.Need-slice-aggregate-own-text
 slice-aggregate-own-text c = search text-long
-
-own-text-requires : tie.Need-own-text-requires
-own-text-requires c κs = search needs
-
-told-requires : tie.Need-told-requires
-told-requires c κs = search needs
 
 returns : tie.Need-returns
 returns c = search text-unframed
@@ -41,14 +20,5 @@ pub of-text-spec : {M : Type 1} → statement M
 of-text-spec =
     tie.close
     (tie.spec
-    text-head-requires
-    frame-head-requires
-    enum-told
-    enum-known-framed
-    within-requires
-    mul-end
-    slice-aggregate-own-text
-    own-text-requires
-    told-requires
-    returns
-    returns-2)
+    (λ c κs. search needs) (λ c κs. search needs) (λ c. search needs) (λ c. search needs) (λ c κs. search needs) mul-end
+    slice-aggregate-own-text (λ c κs. search needs) (λ c κs. search needs) returns returns-2)

@@ -13,17 +13,8 @@ use Rattle.indexed_raw.proofs.raw_indexed_binary.Reads as reads
 use Rattle.indexed_raw.proofs.raw_indexed_binary.Lts as lts
 use Rattle.indexed_binary.proofs.read_indexed_binary.Reads as read-indexed-binary-reads
 
-read-indexed-binary-requires : tie.Need-read-indexed-binary-requires
-read-indexed-binary-requires c κs = search needs
-
 enum-told : tie.Need-enum-told
 enum-told c = search needs
-
-slice-aggregate-result : tie.Need-slice-aggregate-result
-slice-aggregate-result c = search needs
-
-enum-known-read : tie.Need-enum-known-read
-enum-known-read c = search needs
 
 add-start : tie.Need-add-start
 add-start c =
@@ -36,12 +27,6 @@ add-end c =
     let q = c .before .before .before .before .before in
     let a = q .before .before .args in
     omega (arith, found-inside (a .s .now) (a .at .0) _ (sym (q .read-indexed-binary .ensures) ∙ c .before .before .before .read .given .1))
-
-sub-result : tie.Need-sub-result
-sub-result c = search needs
-
-part-result-start : tie.Need-part-result-start
-part-result-start c = search needs
 
 part-result-end : tie.Need-part-result-end
 part-result-end c =
@@ -71,14 +56,5 @@ pub raw-indexed-binary-spec : {M : Type 1} → statement M
 raw-indexed-binary-spec =
     tie.close
     (tie.spec
-    read-indexed-binary-requires
-    enum-told
-    slice-aggregate-result
-    enum-known-read
-    add-start
-    add-end
-    sub-result
-    part-result-start
-    part-result-end
-    returns
-    returns-2)
+    (λ c κs. search needs) enum-told (λ c. search needs) (λ c. search needs) add-start add-end (λ c. search needs) (λ c. search needs)
+    part-result-end returns returns-2)

@@ -20,29 +20,11 @@ returns-2 : tie.Need-returns-2
 unfolding indexedLeft
 returns-2 c = (text-past _ _ _ (search needs) (search needs), refl)
 
-sub-part : tie.Need-sub-part
-sub-part c = search needs
-
-part-part-start : tie.Need-part-part-start
-part-part-start c = search needs
-
-part-part-end : tie.Need-part-part-end
-part-part-end c = search needs
-
-of-text-requires : tie.Need-of-text-requires
-of-text-requires c κs = search needs
-
-enum-known-number : tie.Need-enum-known-number
-enum-known-number c = search needs
-
 add-t19 : tie.Need-add-t19
 add-t19 c =
     let q = c .before .before .before in
     let a = q .before .before .before .before .before .before .args in
     omega (arith, text-place (a .s .now) (a .at .0) _ _ (rw (to-end (a .s .now) (a .at .0)) at (sym (q .of-text .ensures) ∙ c .before .number .given .1)))
-
-enum-known-kind : tie.Need-enum-known-kind
-enum-known-kind c = search needs
 
 text-found-requires : tie.Need-text-found-requires
 text-found-requires c κs = (sym (c .before .before .before .before .of-text .ensures) ∙ c .before .before .kind .given .1, search needs)
@@ -54,9 +36,6 @@ returns-3 c =
     let a = q .before .before .before .before .before .before .args in
     let e = rw (to-end (a .s .now) (a .at .0)) at (sym (q .of-text .ensures) ∙ c .before .number .given .1) in
     (text-refused (a .s .now) (a .at .0) _ (search needs) _ _ e, refl)
-
-same-length : tie.Need-same-length
-same-length c = search needs
 
 returns-4 : tie.Need-returns-4
 returns-4 c =
@@ -71,16 +50,5 @@ pub read-indexed-text-spec : {M : Type 1} → statement M
 read-indexed-text-spec =
     tie.close
     (tie.spec
-    returns
-    returns-2
-    sub-part
-    part-part-start
-    part-part-end
-    of-text-requires
-    enum-known-number
-    add-t19
-    enum-known-kind
-    text-found-requires
-    returns-3
-    same-length
-    returns-4)
+    returns returns-2 (λ c. search needs) (λ c. search needs) (λ c. search needs) (λ c κs. search needs) (λ c. search needs) add-t19
+    (λ c. search needs) text-found-requires returns-3 (λ c. search needs) returns-4)

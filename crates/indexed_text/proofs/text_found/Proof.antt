@@ -12,9 +12,6 @@ use Rattle.indexed_text.proofs.text_found.Lts as lts
 use Rattle.indexed_text.proofs.text_item.Reads as text-item-reads
 use Rattle.reading_raw.proofs.copy_raw.Reads as copy-raw-reads
 
-text-item-requires : tie.Need-text-item-requires
-text-item-requires c κs = search needs
-
 returns : tie.Need-returns
 unfolding indexedLeft
 returns c =
@@ -32,12 +29,6 @@ slice-aggregate-copy-raw c =
     let s = c .before .before .before .before .before .before in
     sym (length-take-le _ _ (item-room (s .args .part .now) _ _ _ (s .pre .0) (s .pre .1)))
 
-copy-raw-requires : tie.Need-copy-raw-requires
-copy-raw-requires c κs = search needs
-
-same-length : tie.Need-same-length
-same-length c = search needs
-
 returns-2 : tie.Need-returns-2
 returns-2 c =
     let r = c .before .before .before .before .before in
@@ -52,10 +43,4 @@ pub text-found-spec : {M : Type 1} → statement M
 text-found-spec =
     tie.close
     (tie.spec
-    text-item-requires
-    returns
-    mul-end
-    slice-aggregate-copy-raw
-    copy-raw-requires
-    same-length
-    returns-2)
+    (λ c κs. search needs) returns mul-end slice-aggregate-copy-raw (λ c κs. search needs) (λ c. search needs) returns-2)

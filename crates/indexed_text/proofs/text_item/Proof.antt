@@ -9,19 +9,11 @@ use Rattle.framing_head.proofs.text_head.Reads as text-head-reads
 use Rattle.framing_head.proofs.within.Reads as within-reads
 use Rattle.indexed_item.proofs.item_of.Reads as item-of-reads
 
-text-head-requires : tie.Need-text-head-requires
-text-head-requires c κs = search needs
-
-within-requires : tie.Need-within-requires
-within-requires c κs = search needs
-
-item-of-requires : tie.Need-item-of-requires
-item-of-requires c κs = search needs
-
 returns : tie.Need-returns
 returns c =
     let s = c .before .before .before .before in
     item-told (s .args .part .now) _ _ _ (s .pre) _ _ (c .before .before .text-head .ensures) (c .before .within .ensures) _ (c .item-of .ensures)
 
 pub text-item-spec : {M : Type 1} → statement M
-text-item-spec = tie.close (tie.spec text-head-requires within-requires item-of-requires returns)
+text-item-spec =
+    tie.close (tie.spec (λ c κs. search needs) (λ c κs. search needs) (λ c κs. search needs) returns)

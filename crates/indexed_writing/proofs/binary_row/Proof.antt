@@ -8,18 +8,6 @@ use Rattle.indexed_fit.proofs.units_of.Reads as units-of-reads
 use Rattle.indexed_head.proofs.head_bytes.Reads as head-bytes-reads
 use Rattle.writing_raw.proofs.binary_item.Reads as binary-item-reads
 
-units-of-requires : tie.Need-units-of-requires
-units-of-requires c κs = search needs
-
-head-bytes-requires : tie.Need-head-bytes-requires
-head-bytes-requires c κs = search needs
-
-binary-item-requires : tie.Need-binary-item-requires
-binary-item-requires c κs = search needs
-
-same-length : tie.Need-same-length
-same-length c = search needs
-
 returns : tie.Need-returns
 returns c =
     let w = c .before .before .binary-item .ensures in
@@ -28,5 +16,4 @@ returns c =
 
 pub binary-row-spec : {M : Type 1} → statement M
 binary-row-spec =
-    tie.close
-    (tie.spec units-of-requires head-bytes-requires binary-item-requires same-length returns)
+    tie.close (tie.spec (λ c κs. search needs) (λ c κs. search needs) (λ c κs. search needs) (λ c. search needs) returns)

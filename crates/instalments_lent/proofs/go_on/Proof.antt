@@ -7,41 +7,17 @@ use borrow.Author.Needs.{needs}
 use Rattle.instalments_lent.proofs.go_on.Statement.{statement}
 use Rattle.instalments_lent.proofs.go_on.Tie as tie
 
-measured-requires : tie.Need-measured-requires
-measured-requires c κs = search needs
-
-halted-requires : tie.Need-halted-requires
-halted-requires c κs = search needs
-
 returns : tie.Need-returns
 returns c = λ l. absurd (omega arith)
 
-halted-requires-2 : tie.Need-halted-requires-2
-halted-requires-2 c κs = search needs
-
 returns-2 : tie.Need-returns-2
 returns-2 c = λ l. too-long _ _ _ (c .before .before .before .measured .ensures) _ _ _ (c .before .if2 .taken) (c .halted2 .ensures)
-
-is-fit-requires : tie.Need-is-fit-requires
-is-fit-requires c κs = search needs
-
-halted-requires-3 : tie.Need-halted-requires-3
-halted-requires-3 c κs = search needs
-
-same-length : tie.Need-same-length
-same-length c = search needs
 
 returns-3 : tie.Need-returns-3
 returns-3 c =
     let t = c .before .before in
     let m = t .before .before .before .before in
     λ l. unfit _ _ _ (m .measured .ensures) _ _ _ (t .before .before .if2 .left) (sym (t .is-fit .ensures l) ∙ not-true _ (c .before .if3 .taken)) (c .halted3 .ensures)
-
-go-requires : tie.Need-go-requires
-go-requires c κs = search needs
-
-same-length-2 : tie.Need-same-length-2
-same-length-2 c = search needs
 
 returns-4 : tie.Need-returns-4
 returns-4 c =
@@ -56,15 +32,5 @@ pub go-on-spec : {M : Type 1} → statement M
 go-on-spec =
     tie.close
     (tie.spec
-    measured-requires
-    halted-requires
-    returns
-    halted-requires-2
-    returns-2
-    is-fit-requires
-    halted-requires-3
-    same-length
-    returns-3
-    go-requires
-    same-length-2
-    returns-4)
+    (λ c κs. search needs) (λ c κs. search needs) returns (λ c κs. search needs) returns-2 (λ c κs. search needs) (λ c κs. search needs)
+    (λ c. search needs) returns-3 (λ c κs. search needs) (λ c. search needs) returns-4)

@@ -7,12 +7,6 @@ use Rattle.instalments_walk.proofs.binary_pause.Tie as tie
 enum-told : tie.Need-enum-told
 enum-told c = search needs
 
-enum-told-2 : tie.Need-enum-told-2
-enum-told-2 c = search needs
-
-enum-known-pause : tie.Need-enum-known-pause
-enum-known-pause c = search needs
-
 returns : tie.Need-returns
 unfolding binaryPause
 returns c = rw (c .enum-told .given .1)
@@ -26,4 +20,5 @@ unfolding binaryPause
 returns-3 c = rw (c .before .pause .given .1)
 
 pub binary-pause-spec : {M : Type 1} → statement M
-binary-pause-spec = tie.close (tie.spec enum-told enum-told-2 enum-known-pause returns returns-2 returns-3)
+binary-pause-spec =
+    tie.close (tie.spec enum-told (λ c. search needs) (λ c. search needs) returns returns-2 returns-3)

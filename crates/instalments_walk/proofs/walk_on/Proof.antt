@@ -10,15 +10,6 @@ use borrow.Author.Needs.{needs}
 use Rattle.instalments_walk.proofs.walk_on.Statement.{statement}
 use Rattle.instalments_walk.proofs.walk_on.Tie as tie
 
-slice-aggregate-go-on : tie.Need-slice-aggregate-go-on
-slice-aggregate-go-on c = search needs
-
-place-requires : tie.Need-place-requires
-place-requires c κs = search needs
-
-go-on-requires : tie.Need-go-on-requires
-go-on-requires c κs = search needs
-
 returns : tie.Need-returns
 returns c =
     let g = c .before .before in
@@ -27,4 +18,5 @@ returns c =
     by-value (search needs) (g .go-on .ensures (omega arith)) ∙ ap (walkOn (domain (a .form)) (a .s .now) (a .budget)) (g .before .place .ensures)
 
 pub walk-on-spec : {M : Type 1} → statement M
-walk-on-spec = tie.close (tie.spec slice-aggregate-go-on place-requires go-on-requires returns)
+walk-on-spec =
+    tie.close (tie.spec (λ c. search needs) (λ c κs. search needs) (λ c κs. search needs) returns)

@@ -3,14 +3,9 @@ use borrow.Author.Needs.{needs}
 use Rattle.instalments_walk.proofs.walk_on_binary.Statement.{statement}
 use Rattle.instalments_walk.proofs.walk_on_binary.Tie as tie
 
-walk-on-requires : tie.Need-walk-on-requires
-walk-on-requires c κs = search needs
-
-binary-pause-requires : tie.Need-binary-pause-requires
-binary-pause-requires c κs = search needs
-
 returns : tie.Need-returns
 returns c = rw (c .binary-pause .ensures, c .before .before .walk-on .ensures)
 
 pub walk-on-binary-spec : {M : Type 1} → statement M
-walk-on-binary-spec = tie.close (tie.spec walk-on-requires binary-pause-requires returns)
+walk-on-binary-spec =
+    tie.close (tie.spec (λ c κs. search needs) (λ c κs. search needs) returns)

@@ -10,9 +10,6 @@ enum-told : tie.Need-enum-told
 enum-told c = search needs
 
 -- src/lib.rt:217:14
-enum-told-2 : tie.Need-enum-told-2
-enum-told-2 c = search needs
-
 -- src/lib.rt:209:1
 returns : tie.Need-returns
 unfolding andThen
@@ -24,4 +21,5 @@ unfolding andThen
 returns-2 c = rw (c .enum-told2 .given .1)
 
 pub after-spec : {M : Type 1} → statement M
-after-spec = tie.close (tie.spec enum-told enum-told-2 returns returns-2)
+after-spec =
+    tie.close (tie.spec enum-told (λ c. search needs) returns returns-2)

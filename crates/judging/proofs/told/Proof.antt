@@ -10,9 +10,6 @@ enum-told : tie.Need-enum-told
 enum-told c = search needs
 
 -- src/lib.rt:172:28
-enum-known-v : tie.Need-enum-known-v
-enum-known-v c = search needs
-
 -- src/lib.rt:167:1
 returns : tie.Need-returns
 unfolding toldBy
@@ -24,4 +21,5 @@ unfolding toldBy
 returns-2 c = rw (c .before .v .given .1)
 
 pub told-spec : {M : Type 1} → statement M
-told-spec = tie.close (tie.spec enum-told enum-known-v returns returns-2)
+told-spec =
+    tie.close (tie.spec enum-told (λ c. search needs) returns returns-2)

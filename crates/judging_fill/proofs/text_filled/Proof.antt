@@ -22,33 +22,6 @@ returns-3 : tie.Need-returns-3
 unfolding textFilled isText
 returns-3 c = simp (eq-eqb _ _ (c .before .before .if1 .left), ne-eqb _ _ (c .before .if2 .left)) (sym (unfilled-past _ (c .before .before .before .args .t5) _ (search needs) (c .if3 .taken)))
 
-mul-i : tie.Need-mul-i
-mul-i c = search needs
-
-array-read-filled-right : tie.Need-array-read-filled-right
-array-read-filled-right c = search needs
-
-add-filled-right : tie.Need-add-filled-right
-add-filled-right c = search needs
-
-array-read-filled-right-2 : tie.Need-array-read-filled-right-2
-array-read-filled-right-2 c = search needs
-
-add-filled-right-2 : tie.Need-add-filled-right-2
-add-filled-right-2 c = search needs
-
-array-read-filled-right-3 : tie.Need-array-read-filled-right-3
-array-read-filled-right-3 c = search needs
-
-add-filled-right-3 : tie.Need-add-filled-right-3
-add-filled-right-3 c = search needs
-
-array-read-filled-right-4 : tie.Need-array-read-filled-right-4
-array-read-filled-right-4 c = search needs
-
-filled-right-requires : tie.Need-filled-right-requires
-filled-right-requires c κs = search needs
-
 returns-4 : tie.Need-returns-4
 unfolding textFilled isText
 returns-4 c = simp (eq-eqb _ _ (c .before .before .before .if1 .left), ne-eqb _ _ (c .before .before .if2 .left)) (c .filled-right .ensures)
@@ -57,16 +30,5 @@ pub text-filled-spec : {M : Type 1} → statement M
 text-filled-spec =
     tie.close
     (tie.spec
-    returns
-    returns-2
-    returns-3
-    mul-i
-    array-read-filled-right
-    add-filled-right
-    array-read-filled-right-2
-    add-filled-right-2
-    array-read-filled-right-3
-    add-filled-right-3
-    array-read-filled-right-4
-    filled-right-requires
-    returns-4)
+    returns returns-2 returns-3 (λ c. search needs) (λ c. search needs) (λ c. search needs) (λ c. search needs) (λ c. search needs)
+    (λ c. search needs) (λ c. search needs) (λ c. search needs) (λ c κs. search needs) returns-4)

@@ -13,29 +13,11 @@ use Rattle.judging_fixed.proofs.wide.Reads as wide-reads
 use Rattle.judging_bits.proofs.zero_bits.Reads as zero-bits-reads
 use Rattle.judging_header.proofs.zeros_of.Reads as zeros-of-reads
 
-wide-requires : tie.Need-wide-requires
-wide-requires c κs = search needs
-
-cast-i : tie.Need-cast-i
-cast-i c = search needs
-
-zeros-of-requires : tie.Need-zeros-of-requires
-zeros-of-requires c κs = search needs
-
-zero-bits-requires : tie.Need-zero-bits-requires
-zero-bits-requires c κs = search needs
-
 returns : tie.Need-returns
 unfolding fixedChecks andThen unless
 returns c =
     let z = c .before in
     rw (sym (rw (z .before .before .wide .ensures .0, z .before .zeros-of .ensures) at (z .zero-bits .ensures)) ∙ not-true _ (c .if1 .taken))
-
-prepad-of-requires : tie.Need-prepad-of-requires
-prepad-of-requires c κs = search needs
-
-prepad-right-requires : tie.Need-prepad-right-requires
-prepad-right-requires c κs = search needs
 
 returns-2 : tie.Need-returns-2
 unfolding fixedChecks andThen unless
@@ -59,12 +41,5 @@ pub fixed-checks-spec : {M : Type 1} → statement M
 fixed-checks-spec =
     tie.close
     (tie.spec
-    wide-requires
-    cast-i
-    zeros-of-requires
-    zero-bits-requires
-    returns
-    prepad-of-requires
-    prepad-right-requires
-    returns-2
-    returns-3)
+    (λ c κs. search needs) (λ c. search needs) (λ c κs. search needs) (λ c κs. search needs) returns (λ c κs. search needs)
+    (λ c κs. search needs) returns-2 returns-3)

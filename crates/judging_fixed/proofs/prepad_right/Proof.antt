@@ -7,9 +7,6 @@ use Rattle.judging_fixed.proofs.prepad_right.Reads as reads
 use Rattle.judging_fixed.proofs.prepad_right.Lts as lts
 use Rattle.judging_bits.proofs.sextet_at.Reads as sextet-at-reads
 
-sextet-at-requires : tie.Need-sextet-at-requires
-sextet-at-requires c κs = search needs
-
 returns : tie.Need-returns
 unfolding prepadRight
 returns c = simp (eq-eqb _ _ (c .if1 .taken))
@@ -19,4 +16,5 @@ unfolding prepadRight
 returns-2 c = simp (ne-eqb _ _ (c .before .if1 .left), c .sextet-at .ensures)
 
 pub prepad-right-spec : {M : Type 1} → statement M
-prepad-right-spec = tie.close (tie.spec sextet-at-requires returns returns-2)
+prepad-right-spec =
+    tie.close (tie.spec (λ c κs. search needs) returns returns-2)

@@ -12,9 +12,6 @@ use Rattle.judging_header.proofs.is_shortest.Reads as is-shortest-reads
 returns : tie.Need-returns
 returns c = no-levels _ _ _ (c .if1 .taken)
 
-is-shortest-requires : tie.Need-is-shortest-requires
-is-shortest-requires c κs = search needs
-
 returns-2 : tie.Need-returns-2
 unfolding unless
 returns-2 c =
@@ -26,4 +23,5 @@ returns-3 c =
     some-levels _ _ _ (c .before .before .if1 .left) _ (sym (c .before .is-shortest .ensures) ∙ not-false _ (c .if2 .left))
 
 pub group-checks-spec : {M : Type 1} → statement M
-group-checks-spec = tie.close (tie.spec returns is-shortest-requires returns-2 returns-3)
+group-checks-spec =
+    tie.close (tie.spec returns (λ c κs. search needs) returns-2 returns-3)

@@ -10,21 +10,6 @@ use Rattle.judging_header.proofs.wide.Reads as wide-reads
 returns : tie.Need-returns
 returns c = simp (eq-eqb _ _ (c .if1 .taken))
 
-wide-requires : tie.Need-wide-requires
-wide-requires c κs = search needs
-
-wide-requires-2 : tie.Need-wide-requires-2
-wide-requires-2 c κs = search needs
-
-add-used : tie.Need-add-used
-add-used c = search needs
-
-wide-requires-3 : tie.Need-wide-requires-3
-wide-requires-3 c κs = search needs
-
-sub-result : tie.Need-sub-result
-sub-result c = search needs
-
 returns-2 : tie.Need-returns-2
 returns-2 c = simp (ne-eqb _ _ (c .before .before .before .before .if1 .left), c .before .wide3 .ensures .0, c .before .before .wide2 .ensures .0, c .before .before .before .wide .ensures .0)
 
@@ -35,11 +20,4 @@ pub prepad-of-spec : {M : Type 1} → statement M
 prepad-of-spec =
     tie.close
     (tie.spec
-    returns
-    wide-requires
-    wide-requires-2
-    add-used
-    wide-requires-3
-    sub-result
-    returns-2
-    returns-3)
+    returns (λ c κs. search needs) (λ c κs. search needs) (λ c. search needs) (λ c κs. search needs) (λ c. search needs) returns-2 returns-3)

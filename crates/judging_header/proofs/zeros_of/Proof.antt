@@ -6,21 +6,6 @@ use Rattle.judging_header.proofs.zeros_of.Reads as reads
 use Rattle.judging_header.proofs.zeros_of.Lts as lts
 use Rattle.judging_header.proofs.wide.Reads as wide-reads
 
-wide-requires : tie.Need-wide-requires
-wide-requires c κs = search needs
-
-mul-result : tie.Need-mul-result
-mul-result c = search needs
-
-wide-requires-2 : tie.Need-wide-requires-2
-wide-requires-2 c κs = search needs
-
-mul-result-2 : tie.Need-mul-result-2
-mul-result-2 c = search needs
-
-add-result : tie.Need-add-result
-add-result c = search needs
-
 returns : tie.Need-returns
 returns c = simp (eq-eqb _ _ (c .before .before .if1 .taken), c .wide2 .ensures .0, c .before .wide .ensures .0)
 
@@ -30,4 +15,5 @@ returns-2 c = simp (ne-eqb _ _ (c .if1 .left))
 pub zeros-of-spec : {M : Type 1} → statement M
 zeros-of-spec =
     tie.close
-    (tie.spec wide-requires mul-result wide-requires-2 mul-result-2 add-result returns returns-2)
+    (tie.spec
+    (λ c κs. search needs) (λ c. search needs) (λ c κs. search needs) (λ c. search needs) (λ c. search needs) returns returns-2)

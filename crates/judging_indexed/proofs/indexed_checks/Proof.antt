@@ -7,23 +7,11 @@ use borrow.Author.Needs.{needs}
 use Rattle.judging_indexed.proofs.indexed_checks.Statement.{statement}
 use Rattle.judging_indexed.proofs.indexed_checks.Tie as tie
 
-index-chars-requires : tie.Need-index-chars-requires
-index-chars-requires c κs = search needs
-
-wide-requires : tie.Need-wide-requires
-wide-requires c κs = search needs
-
-zero-bits-requires : tie.Need-zero-bits-requires
-zero-bits-requires c κs = search needs
-
 returns : tie.Need-returns
 unfolding indexedChecks andThen unless
 returns c =
     let z = c .before in
     rw (sym (rw (z .before .before .index-chars .ensures, z .before .wide .ensures .0) at (z .zero-bits .ensures)) ∙ not-true _ (c .if1 .taken))
-
-ondex-right-requires : tie.Need-ondex-right-requires
-ondex-right-requires c κs = search needs
 
 returns-2 : tie.Need-returns-2
 unfolding indexedChecks andThen unless
@@ -47,10 +35,4 @@ pub indexed-checks-spec : {M : Type 1} → statement M
 indexed-checks-spec =
     tie.close
     (tie.spec
-    index-chars-requires
-    wide-requires
-    zero-bits-requires
-    returns
-    ondex-right-requires
-    returns-2
-    returns-3)
+    (λ c κs. search needs) (λ c κs. search needs) (λ c κs. search needs) returns (λ c κs. search needs) returns-2 returns-3)

@@ -12,15 +12,9 @@ use Rattle.judging_header.proofs.is_shortest.Reads as is-shortest-reads
 use Rattle.judging_variable.proofs.lead_zero.Reads as lead-zero-reads
 use Rattle.judging_fill.proofs.text_filled.Reads as text-filled-reads
 
-is-shortest-requires : tie.Need-is-shortest-requires
-is-shortest-requires c κs = search needs
-
 returns : tie.Need-returns
 unfolding variableChecks andThen unless
 returns c = rw (sym (c .before .is-shortest .ensures) ∙ not-true _ (c .if1 .taken))
-
-has-lead-requires : tie.Need-has-lead-requires
-has-lead-requires c κs = search needs
 
 returns-2 : tie.Need-returns-2
 unfolding variableChecks andThen unless
@@ -29,9 +23,6 @@ returns-2 c =
       sym (c .before .before .before .is-shortest .ensures) ∙ not-false _ (c .before .before .if1 .left),
       sym (c .before .has-lead .ensures) ∙ not-true _ (c .if2 .taken),
     )
-
-lead-zero-requires : tie.Need-lead-zero-requires
-lead-zero-requires c κs = search needs
 
 returns-3 : tie.Need-returns-3
 unfolding variableChecks andThen unless
@@ -42,9 +33,6 @@ returns-3 c =
       sym (e .has-lead .ensures) ∙ not-false _ (c .before .before .if2 .left),
       sym (c .before .lead-zero .ensures) ∙ not-true _ (c .if3 .taken),
     )
-
-text-filled-requires : tie.Need-text-filled-requires
-text-filled-requires c κs = search needs
 
 returns-4 : tie.Need-returns-4
 unfolding variableChecks andThen unless
@@ -74,12 +62,5 @@ pub variable-checks-spec : {M : Type 1} → statement M
 variable-checks-spec =
     tie.close
     (tie.spec
-    is-shortest-requires
-    returns
-    has-lead-requires
-    returns-2
-    lead-zero-requires
-    returns-3
-    text-filled-requires
-    returns-4
+    (λ c κs. search needs) returns (λ c κs. search needs) returns-2 (λ c κs. search needs) returns-3 (λ c κs. search needs) returns-4
     returns-5)

@@ -7,13 +7,11 @@ use Rattle.offsets.proofs.in_binary.Reads as reads
 use Rattle.offsets.proofs.in_binary.Lts as lts
 
 -- src/lib.rt:13:18
-mul-t4 : tie.Need-mul-t4
-mul-t4 c = search needs
-
 -- src/lib.rt:9:1
 returns : tie.Need-returns
 unfolding offsetInBinary
 returns c = refl
 
 pub in-binary-spec : {M : Type 1} → statement M
-in-binary-spec = tie.close (tie.spec mul-t4 returns)
+in-binary-spec =
+    tie.close (tie.spec (λ c. search needs) returns)

@@ -8,9 +8,6 @@ use Rattle.offsets.proofs.in_text.Reads as reads
 use Rattle.offsets.proofs.in_text.Lts as lts
 
 -- src/lib.rt:22:31
-mul-t6 : tie.Need-mul-t6
-mul-t6 c = search needs
-
 -- src/lib.rt:17:1
 returns : tie.Need-returns
 unfolding offsetInText
@@ -22,4 +19,5 @@ unfolding offsetInText
 returns-2 c = simp (lt-leb (c .before .args .b .0) 3145728 (omega arith))
 
 pub in-text-spec : {M : Type 1} → statement M
-in-text-spec = tie.close (tie.spec mul-t6 returns returns-2)
+in-text-spec =
+    tie.close (tie.spec (λ c. search needs) returns returns-2)

@@ -7,21 +7,12 @@ use Rattle.passing.proofs.is_passed.Tie as tie
 returns : tie.Need-returns
 returns c = search no-item
 
-mul-if2 : tie.Need-mul-if2
-mul-if2 c = search needs
-
-sub-if2 : tie.Need-sub-if2
-sub-if2 c = search needs
-
 returns-2 : tie.Need-returns-2
 returns-2 c = search longer
-
-are-accepted-requires : tie.Need-are-accepted-requires
-are-accepted-requires c κs = search needs
 
 returns-3 : tie.Need-returns-3
 returns-3 c = search by-verdicts
 
 pub is-passed-spec : {M : Type 1} → statement M
 is-passed-spec =
-    tie.close (tie.spec returns mul-if2 sub-if2 returns-2 are-accepted-requires returns-3)
+    tie.close (tie.spec returns (λ c. search needs) (λ c. search needs) returns-2 (λ c κs. search needs) returns-3)

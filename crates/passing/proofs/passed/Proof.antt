@@ -4,15 +4,6 @@ use borrow.Author.Needs.{needs}
 use Rattle.passing.proofs.passed.Statement.{statement}
 use Rattle.passing.proofs.passed.Tie as tie
 
-of-report-requires : tie.Need-of-report-requires
-of-report-requires c κs = search needs
-
-enum-told : tie.Need-enum-told
-enum-told c = search needs
-
-enum-known-said : tie.Need-enum-known-said
-enum-known-said c = search needs
-
 returns : tie.Need-returns
 returns c = search left-over
 
@@ -27,12 +18,4 @@ returns-3 c = search nothing-left
 
 pub passed-spec : {M : Type 1} → statement M
 passed-spec =
-    tie.close
-    (tie.spec
-    of-report-requires
-    enum-told
-    enum-known-said
-    returns
-    is-passed-requires
-    returns-2
-    returns-3)
+    tie.close (tie.spec (λ c κs. search needs) (λ c. search needs) (λ c. search needs) returns is-passed-requires returns-2 returns-3)

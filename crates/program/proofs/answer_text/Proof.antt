@@ -15,33 +15,18 @@ returns : tie.Need-returns
 returns c = prints-none text (c .before .before .before .args .s .now) (c .before .before .before .args .out .now) (search needs)
 
 -- src/lib.rt:62:9
-slice-write-out : tie.Need-slice-write-out
-slice-write-out c = search needs
-
 -- src/lib.rt:63:9
-same-length : tie.Need-same-length
-same-length c = search needs
-
 -- src/lib.rt:63:9
 returns-2 : tie.Need-returns-2
 returns-2 c = prints-one text text-reader (c .before .before .before .before .args .s .now) (c .before .before .before .before .args .out .now) (search needs) (search needs)
 
 -- src/lib.rt:65:11
-report-text-requires : tie.Need-report-text-requires
-report-text-requires c κs = search needs
-
 -- src/lib.rt:66:27
-enum-known-n : tie.Need-enum-known-n
-enum-known-n c = search needs
-
 -- src/lib.rt:67:36
 enum-told : tie.Need-enum-told
 enum-told c = search needs
 
 -- src/lib.rt:53:1
-same-length-2 : tie.Need-same-length-2
-same-length-2 c = search needs
-
 -- src/lib.rt:53:1
 returns-3 : tie.Need-returns-3
 returns-3 c =
@@ -49,9 +34,6 @@ returns-3 c =
     (c .before .n .given .1)
 
 -- src/lib.rt:53:1
-same-length-3 : tie.Need-same-length-3
-same-length-3 c = search needs
-
 -- src/lib.rt:53:1
 returns-4 : tie.Need-returns-4
 returns-4 c =
@@ -62,14 +44,5 @@ pub answer-text-spec : {M : Type 1} → statement M
 answer-text-spec =
     tie.close
     (tie.spec
-    returns
-    slice-write-out
-    same-length
-    returns-2
-    report-text-requires
-    enum-known-n
-    enum-told
-    same-length-2
-    returns-3
-    same-length-3
-    returns-4)
+    returns (λ c. search needs) (λ c. search needs) returns-2 (λ c κs. search needs) (λ c. search needs) enum-told (λ c. search needs)
+    returns-3 (λ c. search needs) returns-4)

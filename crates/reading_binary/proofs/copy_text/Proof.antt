@@ -11,33 +11,6 @@ use Rattle.reading_binary.proofs.copy_text.Reads as reads
 use Rattle.reading_binary.proofs.copy_text.Lts as lts
 use Rattle.reading_chars.proofs.copy_chars.Reads as copy-chars-reads
 
-mul-end : tie.Need-mul-end
-mul-end c = search needs
-
-add-end : tie.Need-add-end
-add-end c = search needs
-
-mul-start : tie.Need-mul-start
-mul-start c = search needs
-
-sub-start : tie.Need-sub-start
-sub-start c = search needs
-
-sub-copy-chars : tie.Need-sub-copy-chars
-sub-copy-chars c = search needs
-
-part-copy-chars-start : tie.Need-part-copy-chars-start
-part-copy-chars-start c = search needs
-
-part-copy-chars-end : tie.Need-part-copy-chars-end
-part-copy-chars-end c = search needs
-
-copy-chars-requires : tie.Need-copy-chars-requires
-copy-chars-requires c κs = search needs
-
-same-length : tie.Need-same-length
-same-length c = search needs
-
 returns : tie.Need-returns
 returns c =
     let s = c .before .before .before .before .before .before .before in
@@ -50,13 +23,5 @@ pub copy-text-spec : {M : Type 1} → statement M
 copy-text-spec =
     tie.close
     (tie.spec
-    mul-end
-    add-end
-    mul-start
-    sub-start
-    sub-copy-chars
-    part-copy-chars-start
-    part-copy-chars-end
-    copy-chars-requires
-    same-length
-    returns)
+    (λ c. search needs) (λ c. search needs) (λ c. search needs) (λ c. search needs) (λ c. search needs) (λ c. search needs)
+    (λ c. search needs) (λ c κs. search needs) (λ c. search needs) returns)

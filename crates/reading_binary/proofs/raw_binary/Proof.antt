@@ -13,17 +13,8 @@ use Rattle.reading_binary.proofs.raw_binary.Reads as reads
 use Rattle.reading_binary.proofs.raw_binary.Lts as lts
 use Rattle.reading_found.proofs.found_at.Reads as found-at-reads
 
-found-at-requires : tie.Need-found-at-requires
-found-at-requires c κs = search needs
-
 enum-told : tie.Need-enum-told
 enum-told c = search needs
-
-slice-aggregate-result : tie.Need-slice-aggregate-result
-slice-aggregate-result c = search needs
-
-enum-known-found : tie.Need-enum-known-found
-enum-known-found c = search needs
 
 add-start : tie.Need-add-start
 add-start c =
@@ -32,12 +23,6 @@ add-start c =
 add-end : tie.Need-add-end
 add-end c =
     let a = c .before .before .before .before .before .before .before .args in omega (arith, found-inside (a .s .now) (a .at .0) _ (ap (λ (r : BinaryRead). r .found) (sym (c .before .before .before .before .before .found-at .ensures)) ∙ c .before .before .before .found .given .1))
-
-sub-result : tie.Need-sub-result
-sub-result c = search needs
-
-part-result-start : tie.Need-part-result-start
-part-result-start c = search needs
 
 part-result-end : tie.Need-part-result-end
 part-result-end c =
@@ -62,14 +47,5 @@ pub raw-binary-spec : {M : Type 1} → statement M
 raw-binary-spec =
     tie.close
     (tie.spec
-    found-at-requires
-    enum-told
-    slice-aggregate-result
-    enum-known-found
-    add-start
-    add-end
-    sub-result
-    part-result-start
-    part-result-end
-    returns
-    returns-2)
+    (λ c κs. search needs) enum-told (λ c. search needs) (λ c. search needs) add-start add-end (λ c. search needs) (λ c. search needs)
+    part-result-end returns returns-2)

@@ -13,17 +13,8 @@ use Rattle.reading_binary.proofs.copy_text.Reads as copy-text-reads
 use Rattle.reading_found.proofs.found_at.Reads as found-at-reads
 use Rattle.reading_found.proofs.no_binary.Reads as no-binary-reads
 
-found-at-requires : tie.Need-found-at-requires
-found-at-requires c κs = search needs
-
 enum-told : tie.Need-enum-told
 enum-told c = search needs
-
-enum-known-found : tie.Need-enum-known-found
-enum-known-found c = search needs
-
-no-binary-requires : tie.Need-no-binary-requires
-no-binary-requires c κs = search needs
 
 returns : tie.Need-returns
 unfolding charsLeft
@@ -50,9 +41,6 @@ returns-2 c =
     let e = ap (λ (r : BinaryRead). r .found) (sym q) ∙ c .enum-told .given .1 in
     (q ∙ refused-anyway (a .s .now) (a .at .0) _ _ _ e, rw (c .enum-told .given .1))
 
-same-length : tie.Need-same-length
-same-length c = search needs
-
 returns-3 : tie.Need-returns-3
 returns-3 c =
     let f = c .before .before .before .before .before .before .before in
@@ -69,12 +57,5 @@ pub read-binary-spec : {M : Type 1} → statement M
 read-binary-spec =
     tie.close
     (tie.spec
-    found-at-requires
-    enum-told
-    enum-known-found
-    no-binary-requires
-    returns
-    copy-text-requires
-    returns-2
-    same-length
+    (λ c κs. search needs) enum-told (λ c. search needs) (λ c κs. search needs) returns copy-text-requires returns-2 (λ c. search needs)
     returns-3)

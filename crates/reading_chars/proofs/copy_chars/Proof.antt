@@ -16,23 +16,11 @@ returns c = λ w s r. absurd (omega arith)
 returns-2 : tie.Need-returns-2
 returns-2 c = λ w s r. absurd (c .if2 .taken w)
 
-mul-size : tie.Need-mul-size
-mul-size c = search needs
-
 returns-3 : tie.Need-returns-3
 returns-3 c = λ w s r. none-left _ _ _ (c .if3 .taken)
 
-sub-if4 : tie.Need-sub-if4
-sub-if4 c = search needs
-
 returns-4 : tie.Need-returns-4
 returns-4 c = λ w s r. absurd (omega arith)
-
-copy-from-requires : tie.Need-copy-from-requires
-copy-from-requires c κs = search needs
-
-same-length : tie.Need-same-length
-same-length c = search needs
 
 returns-5 : tie.Need-returns-5
 returns-5 c =
@@ -45,12 +33,4 @@ pub copy-chars-spec : {M : Type 1} → statement M
 copy-chars-spec =
     tie.close
     (tie.spec
-    returns
-    returns-2
-    mul-size
-    returns-3
-    sub-if4
-    returns-4
-    copy-from-requires
-    same-length
-    returns-5)
+    returns returns-2 (λ c. search needs) returns-3 (λ c. search needs) returns-4 (λ c κs. search needs) (λ c. search needs) returns-5)

@@ -8,24 +8,6 @@ use Rattle.reading_chars.proofs.put_unit.Lts as lts
 use Rattle.bytes.proofs.copy.Reads as copy-reads
 use Rattle.reading_chars.proofs.quadlet_at.Reads as quadlet-at-reads
 
-quadlet-at-requires : tie.Need-quadlet-at-requires
-quadlet-at-requires c κs = search needs
-
-sub-copy : tie.Need-sub-copy
-sub-copy c = search needs
-
-part-copy-start : tie.Need-part-copy-start
-part-copy-start c = search needs
-
-part-copy-end : tie.Need-part-copy-end
-part-copy-end c = search needs
-
-copy-requires : tie.Need-copy-requires
-copy-requires c κs = search needs
-
-same-length : tie.Need-same-length
-same-length c = search needs
-
 returns : tie.Need-returns
 returns c =
     let q = c .before .before .before .before .before .before in
@@ -36,10 +18,4 @@ pub put-unit-spec : {M : Type 1} → statement M
 put-unit-spec =
     tie.close
     (tie.spec
-    quadlet-at-requires
-    sub-copy
-    part-copy-start
-    part-copy-end
-    copy-requires
-    same-length
-    returns)
+    (λ c κs. search needs) (λ c. search needs) (λ c. search needs) (λ c. search needs) (λ c κs. search needs) (λ c. search needs) returns)

@@ -17,15 +17,10 @@ returns-2 : tie.Need-returns-2
 unfolding fillBy
 returns-2 c = (simp (eq-eqb _ _ (c .before .if1 .taken), ne-eqb _ _ (c .if2 .left)), omega arith)
 
-wide-requires : tie.Need-wide-requires
-wide-requires c κs = search needs
-
-add-result : tie.Need-add-result
-add-result c = search needs
-
 returns-3 : tie.Need-returns-3
 unfolding fillBy
 returns-3 c = (simp (ne-eqb _ _ (c .before .if1 .left), c .wide .ensures .0), omega arith)
 
 pub fill-of-spec : {M : Type 1} → statement M
-fill-of-spec = tie.close (tie.spec returns returns-2 wide-requires add-result returns-3)
+fill-of-spec =
+    tie.close (tie.spec returns returns-2 (λ c κs. search needs) (λ c. search needs) returns-3)

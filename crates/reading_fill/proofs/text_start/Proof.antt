@@ -8,32 +8,8 @@ use borrow.Author.Needs.{needs}
 use Rattle.reading_fill.proofs.text_start.Statement.{statement}
 use Rattle.reading_fill.proofs.text_start.Tie as tie
 
-at-most-requires : tie.Need-at-most-requires
-at-most-requires c κs = search needs
-
-mul-end : tie.Need-mul-end
-mul-end c = search needs
-
 enum-told : tie.Need-enum-told
 enum-told c = search needs
-
-enum-known-kind : tie.Need-enum-known-kind
-enum-known-kind c = search needs
-
-at-most-requires-2 : tie.Need-at-most-requires-2
-at-most-requires-2 c κs = search needs
-
-mul-i : tie.Need-mul-i
-mul-i c = search needs
-
-array-read-fill-of : tie.Need-array-read-fill-of
-array-read-fill-of c = search needs
-
-fill-of-requires : tie.Need-fill-of-requires
-fill-of-requires c κs = search needs
-
-add-t17 : tie.Need-add-t17
-add-t17 c = search needs
 
 returns : tie.Need-returns
 unfolding textStart isText
@@ -43,15 +19,6 @@ returns c =
     λ few small.
     let h : c .before .at-most2 .result ≡ a .h = omega (arith, c .before .at-most2 .ensures) in
     rw (k .kind .given .1, eq-eqb _ _ (c .before .before .if1 .taken), c .fill-of .ensures .0, h)
-
-enum-told-2 : tie.Need-enum-told-2
-enum-told-2 c = search needs
-
-enum-told-3 : tie.Need-enum-told-3
-enum-told-3 c = search needs
-
-enum-told-4 : tie.Need-enum-told-4
-enum-told-4 c = search needs
 
 returns-2 : tie.Need-returns-2
 unfolding textStart isText
@@ -77,21 +44,6 @@ pub text-start-spec : {M : Type 1} → statement M
 text-start-spec =
     tie.close
     (tie.spec
-    at-most-requires
-    mul-end
-    enum-told
-    enum-known-kind
-    at-most-requires-2
-    mul-i
-    array-read-fill-of
-    fill-of-requires
-    add-t17
-    returns
-    enum-told-2
-    enum-told-3
-    enum-told-4
-    returns-2
-    returns-3
-    returns-4
-    returns-5
-    returns-6)
+    (λ c κs. search needs) (λ c. search needs) enum-told (λ c. search needs) (λ c κs. search needs) (λ c. search needs) (λ c. search needs)
+    (λ c κs. search needs) (λ c. search needs) returns (λ c. search needs) (λ c. search needs) (λ c. search needs) returns-2 returns-3
+    returns-4 returns-5 returns-6)

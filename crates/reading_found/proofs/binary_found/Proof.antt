@@ -12,24 +12,6 @@ use Rattle.reading_tag.proofs.tag_of.Reads as tag-of-reads
 use Rattle.reading_fill.proofs.text_size.Reads as text-size-reads
 use Rattle.reading_fill.proofs.text_start.Reads as text-start-reads
 
-binary-head-requires : tie.Need-binary-head-requires
-binary-head-requires c κs = search needs
-
-within-requires : tie.Need-within-requires
-within-requires c κs = search needs
-
-text-start-requires : tie.Need-text-start-requires
-text-start-requires c κs = search needs
-
-text-size-requires : tie.Need-text-size-requires
-text-size-requires c κs = search needs
-
-primitive-of-requires : tie.Need-primitive-of-requires
-primitive-of-requires c κs = search needs
-
-tag-of-requires : tie.Need-tag-of-requires
-tag-of-requires c κs = search needs
-
 returns : tie.Need-returns
 returns c =
     let t = c .before .before .before in
@@ -40,10 +22,5 @@ pub binary-found-spec : {M : Type 1} → statement M
 binary-found-spec =
     tie.close
     (tie.spec
-    binary-head-requires
-    within-requires
-    text-start-requires
-    text-size-requires
-    primitive-of-requires
-    tag-of-requires
-    returns)
+    (λ c κs. search needs) (λ c κs. search needs) (λ c κs. search needs) (λ c κs. search needs) (λ c κs. search needs)
+    (λ c κs. search needs) returns)

@@ -11,47 +11,11 @@ use Rattle.reading_found.proofs.binary_found.Reads as binary-found-read
 use Rattle.reading_found.proofs.no_binary.Reads as no-binary-reads
 use Rattle.reading_part.proofs.of_binary.Reads as of-binary-reads
 
-no-binary-requires : tie.Need-no-binary-requires
-no-binary-requires c κs = search needs
-
 returns : tie.Need-returns
 returns c = c .no-binary .ensures ∙ binary-long _ _ _ (search needs)
 
-no-binary-requires-2 : tie.Need-no-binary-requires-2
-no-binary-requires-2 c κs = search needs
-
 returns-2 : tie.Need-returns-2
 returns-2 c = c .no-binary2 .ensures ∙ binary-past _ _ _ (search needs) (search needs)
-
-sub-part : tie.Need-sub-part
-sub-part c = search needs
-
-part-part-start : tie.Need-part-part-start
-part-part-start c = search needs
-
-part-part-end : tie.Need-part-part-end
-part-part-end c = search needs
-
-of-binary-requires : tie.Need-of-binary-requires
-of-binary-requires c κs = search needs
-
-enum-known-number : tie.Need-enum-known-number
-enum-known-number c = search needs
-
-mul-no-binary : tie.Need-mul-no-binary
-mul-no-binary c = search needs
-
-add-no-binary : tie.Need-add-no-binary
-add-no-binary c = search needs
-
-add-no-binary-2 : tie.Need-add-no-binary-2
-add-no-binary-2 c = search needs
-
-no-binary-requires-3 : tie.Need-no-binary-requires-3
-no-binary-requires-3 c κs = search needs
-
-enum-known-kind : tie.Need-enum-known-kind
-enum-known-kind c = search needs
 
 binary-found-requires : tie.Need-binary-found-requires
 binary-found-requires c κs = (sym (c .before .before .before .of-binary .ensures) ∙ c .before .kind .given .1, search needs)
@@ -74,20 +38,6 @@ pub found-at-spec : {M : Type 1} → statement M
 found-at-spec =
     tie.close
     (tie.spec
-    no-binary-requires
-    returns
-    no-binary-requires-2
-    returns-2
-    sub-part
-    part-part-start
-    part-part-end
-    of-binary-requires
-    enum-known-number
-    mul-no-binary
-    add-no-binary
-    add-no-binary-2
-    no-binary-requires-3
-    enum-known-kind
-    binary-found-requires
-    returns-3
-    returns-4)
+    (λ c κs. search needs) returns (λ c κs. search needs) returns-2 (λ c. search needs) (λ c. search needs) (λ c. search needs)
+    (λ c κs. search needs) (λ c. search needs) (λ c. search needs) (λ c. search needs) (λ c. search needs) (λ c κs. search needs)
+    (λ c. search needs) binary-found-requires returns-3 returns-4)

@@ -13,27 +13,6 @@ use Rattle.reading_item.proofs.left.Reads as left-reads
 use Rattle.reading_item.proofs.raw_start.Reads as raw-start-reads
 use Rattle.reading_item.proofs.tags_of.Reads as tags-of-reads
 
-at-most-requires : tie.Need-at-most-requires
-at-most-requires c κs = search needs
-
-at-most-requires-2 : tie.Need-at-most-requires-2
-at-most-requires-2 c κs = search needs
-
-raw-start-requires : tie.Need-raw-start-requires
-raw-start-requires c κs = search needs
-
-mul-left : tie.Need-mul-left
-mul-left c = search needs
-
-left-requires : tie.Need-left-requires
-left-requires c κs = search needs
-
-code-of-requires : tie.Need-code-of-requires
-code-of-requires c κs = search needs
-
-tags-of-requires : tie.Need-tags-of-requires
-tags-of-requires c κs = search needs
-
 returns : tie.Need-returns
 unfolding primitiveOf
 returns c =
@@ -49,11 +28,5 @@ pub primitive-of-spec : {M : Type 1} → statement M
 primitive-of-spec =
     tie.close
     (tie.spec
-    at-most-requires
-    at-most-requires-2
-    raw-start-requires
-    mul-left
-    left-requires
-    code-of-requires
-    tags-of-requires
-    returns)
+    (λ c κs. search needs) (λ c κs. search needs) (λ c κs. search needs) (λ c. search needs) (λ c κs. search needs) (λ c κs. search needs)
+    (λ c κs. search needs) returns)

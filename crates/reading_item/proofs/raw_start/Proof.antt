@@ -8,48 +8,12 @@ use borrow.Author.Needs.{needs}
 use Rattle.reading_item.proofs.raw_start.Statement.{statement}
 use Rattle.reading_item.proofs.raw_start.Tie as tie
 
-enum-known-kind : tie.Need-enum-known-kind
-enum-known-kind c = search needs
-
-fixed-start-requires : tie.Need-fixed-start-requires
-fixed-start-requires c κs = search needs
-
-enum-known-kind-2 : tie.Need-enum-known-kind-2
-enum-known-kind-2 c = search needs
-
-mul-t10 : tie.Need-mul-t10
-mul-t10 c = search needs
-
 returns : tie.Need-returns
 unfolding rawStart isText
 returns c = λ shape. let k = c .before .before .kind2 .given .1 in let z = rw k at shape in rw (k, eq-eqb _ _ (c .if1 .taken)) (omega (arith, z .1))
 
-mul-t11 : tie.Need-mul-t11
-mul-t11 c = search needs
-
-wide-requires : tie.Need-wide-requires
-wide-requires c κs = search needs
-
-add-t13 : tie.Need-add-t13
-add-t13 c = search needs
-
 enum-told : tie.Need-enum-told
 enum-told c = search needs
-
-mul-t14 : tie.Need-mul-t14
-mul-t14 c = search needs
-
-enum-told-2 : tie.Need-enum-told-2
-enum-told-2 c = search needs
-
-mul-t15 : tie.Need-mul-t15
-mul-t15 c = search needs
-
-enum-known-kind-3 : tie.Need-enum-known-kind-3
-enum-known-kind-3 c = search needs
-
-indexed-start-requires : tie.Need-indexed-start-requires
-indexed-start-requires c κs = search needs
 
 returns-2 : tie.Need-returns-2
 unfolding rawStart isText
@@ -75,22 +39,6 @@ pub raw-start-spec : {M : Type 1} → statement M
 raw-start-spec =
     tie.close
     (tie.spec
-    enum-known-kind
-    fixed-start-requires
-    enum-known-kind-2
-    mul-t10
-    returns
-    mul-t11
-    wide-requires
-    add-t13
-    enum-told
-    mul-t14
-    enum-told-2
-    mul-t15
-    enum-known-kind-3
-    indexed-start-requires
-    returns-2
-    returns-3
-    returns-4
-    returns-5
-    returns-6)
+    (λ c. search needs) (λ c κs. search needs) (λ c. search needs) (λ c. search needs) returns (λ c. search needs) (λ c κs. search needs)
+    (λ c. search needs) enum-told (λ c. search needs) (λ c. search needs) (λ c. search needs) (λ c. search needs) (λ c κs. search needs)
+    returns-2 returns-3 returns-4 returns-5 returns-6)

@@ -4,32 +4,8 @@ use borrow.Author.Needs.{needs}
 use Rattle.reading_part.proofs.of_binary.Statement.{statement}
 use Rattle.reading_part.proofs.of_binary.Tie as tie
 
-binary-head-requires : tie.Need-binary-head-requires
-binary-head-requires c κs = search needs
-
-frame-head-requires : tie.Need-frame-head-requires
-frame-head-requires c κs = search needs
-
-enum-told : tie.Need-enum-told
-enum-told c = search needs
-
-enum-known-framed : tie.Need-enum-known-framed
-enum-known-framed c = search needs
-
-is-primitive-requires : tie.Need-is-primitive-requires
-is-primitive-requires c κs = search needs
-
 returns : tie.Need-returns
 returns c = search binary-other
-
-within-requires : tie.Need-within-requires
-within-requires c κs = search needs
-
-own-binary-requires : tie.Need-own-binary-requires
-own-binary-requires c κs = search needs
-
-told-requires : tie.Need-told-requires
-told-requires c κs = search needs
 
 returns-2 : tie.Need-returns-2
 returns-2 c = search binary-unframed
@@ -41,14 +17,5 @@ pub of-binary-spec : {M : Type 1} → statement M
 of-binary-spec =
     tie.close
     (tie.spec
-    binary-head-requires
-    frame-head-requires
-    enum-told
-    enum-known-framed
-    is-primitive-requires
-    returns
-    within-requires
-    own-binary-requires
-    told-requires
-    returns-2
-    returns-3)
+    (λ c κs. search needs) (λ c κs. search needs) (λ c. search needs) (λ c. search needs) (λ c κs. search needs) returns
+    (λ c κs. search needs) (λ c κs. search needs) (λ c κs. search needs) returns-2 returns-3)

@@ -7,20 +7,11 @@ use borrow.Author.Needs.{needs}
 use Rattle.reading_raw.proofs.copy_raw.Statement.{statement}
 use Rattle.reading_raw.proofs.copy_raw.Tie as tie
 
-in-binary-requires : tie.Need-in-binary-requires
-in-binary-requires c κs = search needs
-
 returns : tie.Need-returns
 returns c = λ f i room. absurd (omega (arith, in-binary-is _ (c .before .in-binary .ensures)))
 
 returns-2 : tie.Need-returns-2
 returns-2 c = λ f i room. absurd (omega (arith, in-binary-is _ (c .before .before .in-binary .ensures)))
-
-in-text-requires : tie.Need-in-text-requires
-in-text-requires c κs = search needs
-
-enum-known-unit : tie.Need-enum-known-unit
-enum-known-unit c = search needs
 
 copy-from-requires : tie.Need-copy-from-requires
 copy-from-requires c κs =
@@ -30,9 +21,6 @@ copy-from-requires c κs =
 
 enum-told : tie.Need-enum-told
 enum-told c = search needs
-
-same-length : tie.Need-same-length
-same-length c = search needs
 
 returns-3 : tie.Need-returns-3
 returns-3 c = λ f i room. c .before .before .copy-from .ensures f
@@ -46,13 +34,5 @@ pub copy-raw-spec : {M : Type 1} → statement M
 copy-raw-spec =
     tie.close
     (tie.spec
-    in-binary-requires
-    returns
-    returns-2
-    in-text-requires
-    enum-known-unit
-    copy-from-requires
-    enum-told
-    same-length
-    returns-3
-    returns-4)
+    (λ c κs. search needs) returns returns-2 (λ c κs. search needs) (λ c. search needs) copy-from-requires enum-told (λ c. search needs)
+    returns-3 returns-4)

@@ -7,23 +7,8 @@ use borrow.Author.Needs.{needs}
 use Rattle.reading_raw.proofs.copy_within.Statement.{statement}
 use Rattle.reading_raw.proofs.copy_within.Tie as tie
 
-triplet-at-requires : tie.Need-triplet-at-requires
-triplet-at-requires c κs = search needs
-
-array-read-out : tie.Need-array-read-out
-array-read-out c = search needs
-
-slice-write-out : tie.Need-slice-write-out
-slice-write-out c = search needs
-
-array-read-out-2 : tie.Need-array-read-out-2
-array-read-out-2 c = search needs
-
 slice-write-out-2 : tie.Need-slice-write-out-2
 slice-write-out-2 c = simp length-set (omega arith)
-
-add-copy-units : tie.Need-add-copy-units
-add-copy-units c = search needs
 
 copy-units-requires : tie.Need-copy-units-requires
 copy-units-requires c κs = simp length-set (omega arith, omega arith)
@@ -39,15 +24,6 @@ returns c =
     let unit = s .pre .0 in
     λ f. copied-two (a .item .now) (a .out .now) (a .start) (a .start / 3) (s .pre .2) (s .pre .3) (t .triplet-at .result) (rw unit at (t .triplet-at .ensures)) (omega arith) (omega arith) _
     (rw unit at (c .before .before .copy-units .ensures f (omega arith) (simp length-set (omega (arith, f .whole)))))
-
-array-read-out-3 : tie.Need-array-read-out-3
-array-read-out-3 c = search needs
-
-slice-write-out-3 : tie.Need-slice-write-out-3
-slice-write-out-3 c = search needs
-
-add-copy-units-2 : tie.Need-add-copy-units-2
-add-copy-units-2 c = search needs
 
 copy-units-requires-2 : tie.Need-copy-units-requires-2
 copy-units-requires-2 c κs = simp length-set (omega arith, omega arith)
@@ -68,18 +44,6 @@ pub copy-within-spec : {M : Type 1} → statement M
 copy-within-spec =
     tie.close
     (tie.spec
-    triplet-at-requires
-    array-read-out
-    slice-write-out
-    array-read-out-2
-    slice-write-out-2
-    add-copy-units
-    copy-units-requires
-    same-length
-    returns
-    array-read-out-3
-    slice-write-out-3
-    add-copy-units-2
-    copy-units-requires-2
-    same-length-2
+    (λ c κs. search needs) (λ c. search needs) (λ c. search needs) (λ c. search needs) slice-write-out-2 (λ c. search needs)
+    copy-units-requires same-length returns (λ c. search needs) (λ c. search needs) (λ c. search needs) copy-units-requires-2 same-length-2
     returns-2)

@@ -11,33 +11,18 @@ use Rattle.reading_tag.proofs.left.Reads as left-reads
 use Rattle.reading_tag.proofs.tag_from.Reads as tag-from-reads
 use Rattle.reading_tag.proofs.wide.Reads as wide-reads
 
-wide-requires : tie.Need-wide-requires
-wide-requires c κs = search needs
-
 returns : tie.Need-returns
 returns c = λ _. no-tag-row _ _ (sym (c .before .wide .ensures .0) ∙ c .if1 .taken)
-
-wide-requires-2 : tie.Need-wide-requires-2
-wide-requires-2 c κs = search needs
-
-left-requires : tie.Need-left-requires
-left-requires c κs = search needs
 
 returns-2 : tie.Need-returns-2
 returns-2 c =
     let w = c .before .before .before .before .wide .ensures in
     λ f. absurd (omega (arith, w, f (λ e. c .before .before .before .if1 .left (w .0 ∙ e)) .2))
 
-add-if3 : tie.Need-add-if3
-add-if3 c = search needs
-
 returns-3 : tie.Need-returns-3
 returns-3 c =
     let w = c .before .before .before .before .before .wide .ensures in
     λ f. let g = f (λ e. c .before .before .before .before .if1 .left (w .0 ∙ e)) in absurd (omega (arith, w, c .before .before .before .wide2 .ensures, c .before .before .left .ensures, g .0, g .1))
-
-tag-from-requires : tie.Need-tag-from-requires
-tag-from-requires c κs = search needs
 
 returns-4 : tie.Need-returns-4
 returns-4 c =
@@ -50,12 +35,5 @@ pub row-tag-spec : {M : Type 1} → statement M
 row-tag-spec =
     tie.close
     (tie.spec
-    wide-requires
-    returns
-    wide-requires-2
-    left-requires
-    returns-2
-    add-if3
-    returns-3
-    tag-from-requires
-    returns-4)
+    (λ c κs. search needs) returns (λ c κs. search needs) (λ c κs. search needs) returns-2 (λ c. search needs) returns-3
+    (λ c κs. search needs) returns-4)

@@ -6,23 +6,8 @@ use borrow.Author.Needs.{needs}
 use Rattle.reading_tag.proofs.tag_of.Statement.{statement}
 use Rattle.reading_tag.proofs.tag_of.Tie as tie
 
-enum-known-kind : tie.Need-enum-known-kind
-enum-known-kind c = search needs
-
-row-tag-requires : tie.Need-row-tag-requires
-row-tag-requires c κs = search needs
-
 enum-told : tie.Need-enum-told
 enum-told c = search needs
-
-enum-told-2 : tie.Need-enum-told-2
-enum-told-2 c = search needs
-
-enum-told-3 : tie.Need-enum-told-3
-enum-told-3 c = search needs
-
-enum-told-4 : tie.Need-enum-told-4
-enum-told-4 c = search needs
 
 returns : tie.Need-returns
 returns c = rw (c .before .before .kind .given .1) (c .row-tag .ensures)
@@ -47,14 +32,5 @@ pub tag-of-spec : {M : Type 1} → statement M
 tag-of-spec =
     tie.close
     (tie.spec
-    enum-known-kind
-    row-tag-requires
-    enum-told
-    enum-told-2
-    enum-told-3
-    enum-told-4
-    returns
-    returns-2
-    returns-3
-    returns-4
-    returns-5)
+    (λ c. search needs) (λ c κs. search needs) enum-told (λ c. search needs) (λ c. search needs) (λ c. search needs) returns returns-2
+    returns-3 returns-4 returns-5)

@@ -13,46 +13,19 @@ use Rattle.reading_text.proofs.no_text.Reads as no-text-reads
 use Rattle.reading_part.proofs.of_text.Reads as of-text-reads
 use Rattle.reading_text.proofs.text_found.Reads as text-found-reads
 
-no-text-requires : tie.Need-no-text-requires
-no-text-requires c κs = search needs
-
 returns : tie.Need-returns
 unfolding valueLeft
 returns c = (c .no-text .ensures ∙ text-long _ _ _ (search needs), rw (c .no-text .ensures))
 
-no-text-requires-2 : tie.Need-no-text-requires-2
-no-text-requires-2 c κs = search needs
-
 returns-2 : tie.Need-returns-2
 unfolding valueLeft
 returns-2 c = (c .no-text2 .ensures ∙ text-past _ _ _ (search needs) (search needs), rw (c .no-text2 .ensures))
-
-sub-part : tie.Need-sub-part
-sub-part c = search needs
-
-part-part-start : tie.Need-part-part-start
-part-part-start c = search needs
-
-part-part-end : tie.Need-part-part-end
-part-part-end c = search needs
-
-of-text-requires : tie.Need-of-text-requires
-of-text-requires c κs = search needs
-
-enum-known-number : tie.Need-enum-known-number
-enum-known-number c = search needs
 
 add-no-text : tie.Need-add-no-text
 add-no-text c =
     let q = c .before .before .before in
     let a = q .before .before .before .before .before .before .args in
     omega (arith, text-place (a .s .now) (a .at .0) _ _ (rw (to-end (a .s .now) (a .at .0)) at (sym (q .of-text .ensures) ∙ c .before .number .given .1)))
-
-no-text-requires-3 : tie.Need-no-text-requires-3
-no-text-requires-3 c κs = search needs
-
-enum-known-kind : tie.Need-enum-known-kind
-enum-known-kind c = search needs
 
 text-found-requires : tie.Need-text-found-requires
 text-found-requires c κs = (sym (c .before .before .before .before .of-text .ensures) ∙ c .before .before .kind .given .1, search needs)
@@ -64,9 +37,6 @@ returns-3 c =
     let a = q .before .before .before .before .before .before .args in
     let e = rw (to-end (a .s .now) (a .at .0)) at (sym (q .of-text .ensures) ∙ c .before .before .number .given .1) in
     (c .no-text3 .ensures ∙ text-refused (a .s .now) (a .at .0) _ (search needs) _ _ e, rw (c .no-text3 .ensures))
-
-same-length : tie.Need-same-length
-same-length c = search needs
 
 returns-4 : tie.Need-returns-4
 returns-4 c =
@@ -80,19 +50,6 @@ pub read-text-spec : {M : Type 1} → statement M
 read-text-spec =
     tie.close
     (tie.spec
-    no-text-requires
-    returns
-    no-text-requires-2
-    returns-2
-    sub-part
-    part-part-start
-    part-part-end
-    of-text-requires
-    enum-known-number
-    add-no-text
-    no-text-requires-3
-    enum-known-kind
-    text-found-requires
-    returns-3
-    same-length
-    returns-4)
+    (λ c κs. search needs) returns (λ c κs. search needs) returns-2 (λ c. search needs) (λ c. search needs) (λ c. search needs)
+    (λ c κs. search needs) (λ c. search needs) add-no-text (λ c κs. search needs) (λ c. search needs) text-found-requires returns-3
+    (λ c. search needs) returns-4)

@@ -15,15 +15,6 @@ use Rattle.reading_room.proofs.lacks.Reads as lacks-reads
 use Rattle.reading_text.proofs.no_text.Reads as no-text-reads
 use Rattle.reading_text.proofs.text_item.Reads as text-item-reads
 
-text-item-requires : tie.Need-text-item-requires
-text-item-requires c κs = search needs
-
-lacks-requires : tie.Need-lacks-requires
-lacks-requires c κs = search needs
-
-no-text-requires : tie.Need-no-text-requires
-no-text-requires c κs = search needs
-
 returns : tie.Need-returns
 unfolding valueLeft
 returns c =
@@ -43,12 +34,6 @@ slice-aggregate-copy-value c =
     let s = t .before .before .before in
     sym (length-take-le _ _ (item-room (s .args .part .now) _ _ _ (s .pre .0) (s .pre .1)))
 
-copy-value-requires : tie.Need-copy-value-requires
-copy-value-requires c κs = search needs
-
-same-length : tie.Need-same-length
-same-length c = search needs
-
 returns-2 : tie.Need-returns-2
 returns-2 c =
     let k = c .before .before .before .before .before .before in
@@ -64,12 +49,5 @@ pub text-found-spec : {M : Type 1} → statement M
 text-found-spec =
     tie.close
     (tie.spec
-    text-item-requires
-    lacks-requires
-    no-text-requires
-    returns
-    mul-end
-    slice-aggregate-copy-value
-    copy-value-requires
-    same-length
-    returns-2)
+    (λ c κs. search needs) (λ c κs. search needs) (λ c κs. search needs) returns mul-end slice-aggregate-copy-value (λ c κs. search needs)
+    (λ c. search needs) returns-2)

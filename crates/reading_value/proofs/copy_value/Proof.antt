@@ -17,26 +17,8 @@ use Rattle.reading_raw.proofs.copy_raw.Reads as copy-raw-reads
 returns : tie.Need-returns
 returns c = λ few. absurd (omega arith)
 
-lacks-requires : tie.Need-lacks-requires
-lacks-requires c κs = search needs
-
 returns-2 : tie.Need-returns-2
 returns-2 c = let a = c .before .before .before .before .before .args in λ few room. absurd (omega (arith, ltb-true (length (a .out .now)) (a .raw + a .text) (sym (c .before .lacks .ensures) ∙ c .if2 .taken)))
-
-copy-raw-requires : tie.Need-copy-raw-requires
-copy-raw-requires c κs = search needs
-
-sub-from : tie.Need-sub-from
-sub-from c = search needs
-
-sub-copy : tie.Need-sub-copy
-sub-copy c = search needs
-
-part-copy-start : tie.Need-part-copy-start
-part-copy-start c = search needs
-
-part-copy-end : tie.Need-part-copy-end
-part-copy-end c = search needs
 
 sub-copy-2 : tie.Need-sub-copy-2
 sub-copy-2 c = omega (arith, (let k = c .before .before .before .before .before in let a = k .before .before .before .before .before .args in ltb-false (length (a .out .now)) (a .raw + a .text) (sym (k .before .lacks .ensures) ∙ k .if2 .left)))
@@ -44,14 +26,8 @@ sub-copy-2 c = omega (arith, (let k = c .before .before .before .before .before 
 part-copy-start-2 : tie.Need-part-copy-start-2
 part-copy-start-2 c = omega (arith, (let k = c .before .before .before .before .before in let a = k .before .before .before .before .before .args in ltb-false (length (a .out .now)) (a .raw + a .text) (sym (k .before .lacks .ensures) ∙ k .if2 .left)))
 
-part-copy-end-2 : tie.Need-part-copy-end-2
-part-copy-end-2 c = search needs
-
 copy-requires : tie.Need-copy-requires
 copy-requires c κs = omega (arith, (let k = c .before .before .before .before .before .before in let a = k .before .before .before .before .before .args in ltb-false (length (a .out .now)) (a .raw + a .text) (sym (k .before .lacks .ensures) ∙ k .if2 .left)))
-
-same-length : tie.Need-same-length
-same-length c = search needs
 
 returns-3 : tie.Need-returns-3
 returns-3 c =
@@ -65,17 +41,5 @@ pub copy-value-spec : {M : Type 1} → statement M
 copy-value-spec =
     tie.close
     (tie.spec
-    returns
-    lacks-requires
-    returns-2
-    copy-raw-requires
-    sub-from
-    sub-copy
-    part-copy-start
-    part-copy-end
-    sub-copy-2
-    part-copy-start-2
-    part-copy-end-2
-    copy-requires
-    same-length
-    returns-3)
+    returns (λ c κs. search needs) returns-2 (λ c κs. search needs) (λ c. search needs) (λ c. search needs) (λ c. search needs)
+    (λ c. search needs) sub-copy-2 part-copy-start-2 (λ c. search needs) copy-requires (λ c. search needs) returns-3)

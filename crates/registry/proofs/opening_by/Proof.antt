@@ -3,12 +3,6 @@ use borrow.Author.Needs.{needs}
 use Rattle.registry.proofs.opening_by.Statement.{statement}
 use Rattle.registry.proofs.opening_by.Tie as tie
 
-opening-requires : tie.Need-opening-requires
-opening-requires c κs = search needs
-
-opening-requires-2 : tie.Need-opening-requires-2
-opening-requires-2 c κs = search needs
-
 returns : tie.Need-returns
 returns c = rw (c .before .if1 .taken) (c .opening .ensures)
 
@@ -16,4 +10,5 @@ returns-2 : tie.Need-returns-2
 returns-2 c = rw (c .before .if1 .left) (c .opening2 .ensures)
 
 pub opening-by-spec : {M : Type 1} → statement M
-opening-by-spec = tie.close (tie.spec opening-requires opening-requires-2 returns returns-2)
+opening-by-spec =
+    tie.close (tie.spec (λ c κs. search needs) (λ c κs. search needs) returns returns-2)

@@ -6,21 +6,6 @@ use borrow.Author.Needs.{needs}
 use Rattle.registry_group.proofs.group.Statement.{statement}
 use Rattle.registry_group.proofs.group.Tie as tie
 
-wide-requires : tie.Need-wide-requires
-wide-requires c κs = search needs
-
-mul-t7 : tie.Need-mul-t7
-mul-t7 c = search needs
-
-wide-requires-2 : tie.Need-wide-requires-2
-wide-requires-2 c κs = search needs
-
-add-t9 : tie.Need-add-t9
-add-t9 c = search needs
-
-add-t10 : tie.Need-add-t10
-add-t10 c = search needs
-
 returns : tie.Need-returns
 unfolding groupOpening isGroup
 returns c = simp (lt-ltb _ _ (c .before .before .if1 .taken), c .wide2 .ensures .0, c .before .wide .ensures .0)
@@ -45,13 +30,5 @@ pub group-spec : {M : Type 1} → statement M
 group-spec =
     tie.close
     (tie.spec
-    wide-requires
-    mul-t7
-    wide-requires-2
-    add-t9
-    add-t10
-    returns
-    returns-2
-    returns-3
-    returns-4
-    returns-5)
+    (λ c κs. search needs) (λ c. search needs) (λ c κs. search needs) (λ c. search needs) (λ c. search needs) returns returns-2 returns-3
+    returns-4 returns-5)

@@ -4,26 +4,14 @@ use borrow.Author.Needs.{needs}
 use Rattle.registry_indexed.proofs.indexed.Statement.{statement}
 use Rattle.registry_indexed.proofs.indexed.Tie as tie
 
-one-letter-requires : tie.Need-one-letter-requires
-one-letter-requires c κs = search needs
-
 returns : tie.Need-returns
 returns c = rw (c .before .if1 .taken) (c .one-letter .ensures)
-
-zero-letter-requires : tie.Need-zero-letter-requires
-zero-letter-requires c κs = search needs
 
 returns-2 : tie.Need-returns-2
 returns-2 c = rw (c .before .if2 .taken) (c .zero-letter .ensures)
 
-two-letter-requires : tie.Need-two-letter-requires
-two-letter-requires c κs = search needs
-
 returns-3 : tie.Need-returns-3
 returns-3 c = rw (c .before .if3 .taken) (c .two-letter .ensures)
-
-three-letter-requires : tie.Need-three-letter-requires
-three-letter-requires c κs = search needs
 
 returns-4 : tie.Need-returns-4
 returns-4 c = rw (c .before .if4 .taken) (c .three-letter .ensures)
@@ -35,12 +23,5 @@ pub indexed-spec : {M : Type 1} → statement M
 indexed-spec =
     tie.close
     (tie.spec
-    one-letter-requires
-    returns
-    zero-letter-requires
-    returns-2
-    two-letter-requires
-    returns-3
-    three-letter-requires
-    returns-4
+    (λ c κs. search needs) returns (λ c κs. search needs) returns-2 (λ c κs. search needs) returns-3 (λ c κs. search needs) returns-4
     returns-5)

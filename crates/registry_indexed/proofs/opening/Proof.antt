@@ -5,32 +5,14 @@ use borrow.Author.Needs.{needs}
 use Rattle.registry_indexed.proofs.opening.Statement.{statement}
 use Rattle.registry_indexed.proofs.opening.Tie as tie
 
-array-read-a : tie.Need-array-read-a
-array-read-a c = search needs
-
-array-read-b : tie.Need-array-read-b
-array-read-b c = search needs
-
-one-letter-requires : tie.Need-one-letter-requires
-one-letter-requires c κs = search needs
-
 returns : tie.Need-returns
 returns c = c .one-letter .ensures ∙ sym (opened-letter _ _ _ _ (search needs))
-
-zero-letter-requires : tie.Need-zero-letter-requires
-zero-letter-requires c κs = search needs
 
 returns-2 : tie.Need-returns-2
 returns-2 c = c .zero-letter .ensures ∙ sym (opened-zero _ _ _ _ (search needs))
 
-two-letter-requires : tie.Need-two-letter-requires
-two-letter-requires c κs = search needs
-
 returns-3 : tie.Need-returns-3
 returns-3 c = c .two-letter .ensures ∙ sym (opened-two _ _ _ _ (search needs))
-
-three-letter-requires : tie.Need-three-letter-requires
-three-letter-requires c κs = search needs
 
 returns-4 : tie.Need-returns-4
 returns-4 c = c .three-letter .ensures ∙ sym (opened-three _ _ _ _ (search needs))
@@ -42,14 +24,5 @@ pub opening-spec : {M : Type 1} → statement M
 opening-spec =
     tie.close
     (tie.spec
-    array-read-a
-    array-read-b
-    one-letter-requires
-    returns
-    zero-letter-requires
-    returns-2
-    two-letter-requires
-    returns-3
-    three-letter-requires
-    returns-4
-    returns-5)
+    (λ c. search needs) (λ c. search needs) (λ c κs. search needs) returns (λ c κs. search needs) returns-2 (λ c κs. search needs) returns-3
+    (λ c κs. search needs) returns-4 returns-5)

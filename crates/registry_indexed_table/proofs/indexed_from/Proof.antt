@@ -5,18 +5,6 @@ use borrow.Author.Needs.{needs}
 use Rattle.registry_indexed_table.proofs.indexed_from.Statement.{statement}
 use Rattle.registry_indexed_table.proofs.indexed_from.Tie as tie
 
-wide-requires : tie.Need-wide-requires
-wide-requires c κs = search needs
-
-add-row-at : tie.Need-add-row-at
-add-row-at c = search needs
-
-row-at-requires : tie.Need-row-at-requires
-row-at-requires c κs = search needs
-
-row-opening-requires : tie.Need-row-opening-requires
-row-opening-requires c κs = search needs
-
 returns : tie.Need-returns
 unfolding indexedFrom
 returns c =
@@ -33,4 +21,4 @@ returns-2 c = simp (le-ltb _ _ (c .if1 .left))
 
 pub indexed-from-spec : {M : Type 1} → statement M
 indexed-from-spec =
-    tie.close (tie.spec wide-requires add-row-at row-at-requires row-opening-requires returns returns-2)
+    tie.close (tie.spec (λ c κs. search needs) (λ c. search needs) (λ c κs. search needs) (λ c κs. search needs) returns returns-2)

@@ -5,12 +5,6 @@ use borrow.Author.Needs.{needs}
 use Rattle.registry_indexed_table.proofs.row_opening.Statement.{statement}
 use Rattle.registry_indexed_table.proofs.row_opening.Tie as tie
 
-wide-requires : tie.Need-wide-requires
-wide-requires c κs = search needs
-
-wide-requires-2 : tie.Need-wide-requires-2
-wide-requires-2 c κs = search needs
-
 returns : tie.Need-returns
 unfolding indexedRow indexHead
 returns c = simp (lt-ltb _ _ (c .before .if1 .taken), c .wide .ensures .0)
@@ -20,4 +14,5 @@ unfolding indexedRow indexHead
 returns-2 c = simp (le-ltb _ _ (c .before .if1 .left), c .wide2 .ensures .0)
 
 pub row-opening-spec : {M : Type 1} → statement M
-row-opening-spec = tie.close (tie.spec wide-requires wide-requires-2 returns returns-2)
+row-opening-spec =
+    tie.close (tie.spec (λ c κs. search needs) (λ c κs. search needs) returns returns-2)

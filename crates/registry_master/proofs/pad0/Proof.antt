@@ -5,9 +5,6 @@ use borrow.Author.Needs.{needs}
 use Rattle.registry_master.proofs.pad0.Statement.{statement}
 use Rattle.registry_master.proofs.pad0.Tie as tie
 
-one-aa-requires : tie.Need-one-aa-requires
-one-aa-requires c κs = search needs
-
 returns : tie.Need-returns
 unfolding pad0Opening
 returns c = simp (eq-eqb _ _ (c .before .before .if1 .taken), eq-eqb _ _ (c .before .if2 .taken), c .one-aa .ensures)
@@ -21,4 +18,5 @@ unfolding pad0Opening
 returns-3 c = simp (ne-eqb _ _ (c .if1 .left))
 
 pub pad0-spec : {M : Type 1} → statement M
-pad0-spec = tie.close (tie.spec one-aa-requires returns returns-2 returns-3)
+pad0-spec =
+    tie.close (tie.spec (λ c κs. search needs) returns returns-2 returns-3)

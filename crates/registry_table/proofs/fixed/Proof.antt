@@ -4,20 +4,11 @@ use borrow.Author.Needs.{needs}
 use Rattle.registry_table.proofs.fixed.Statement.{statement}
 use Rattle.registry_table.proofs.fixed.Tie as tie
 
-one-letter-requires : tie.Need-one-letter-requires
-one-letter-requires c κs = search needs
-
 returns : tie.Need-returns
 returns c = rw (c .before .if1 .taken) (c .one-letter .ensures)
 
-zero-letter-requires : tie.Need-zero-letter-requires
-zero-letter-requires c κs = search needs
-
 returns-2 : tie.Need-returns-2
 returns-2 c = rw (c .before .if2 .taken) (c .zero-letter .ensures)
-
-one-aa-requires : tie.Need-one-aa-requires
-one-aa-requires c κs = search needs
 
 returns-3 : tie.Need-returns-3
 returns-3 c = rw (c .before .if3 .taken) (c .one-aa .ensures)
@@ -27,12 +18,4 @@ returns-4 c = no-code _ _ (c .before .before .if1 .left) (c .before .if2 .left) 
 
 pub fixed-spec : {M : Type 1} → statement M
 fixed-spec =
-    tie.close
-    (tie.spec
-    one-letter-requires
-    returns
-    zero-letter-requires
-    returns-2
-    one-aa-requires
-    returns-3
-    returns-4)
+    tie.close (tie.spec (λ c κs. search needs) returns (λ c κs. search needs) returns-2 (λ c κs. search needs) returns-3 returns-4)

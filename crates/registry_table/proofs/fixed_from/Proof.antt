@@ -5,18 +5,6 @@ use borrow.Author.Needs.{needs}
 use Rattle.registry_table.proofs.fixed_from.Statement.{statement}
 use Rattle.registry_table.proofs.fixed_from.Tie as tie
 
-wide-requires : tie.Need-wide-requires
-wide-requires c κs = search needs
-
-add-row-at : tie.Need-add-row-at
-add-row-at c = search needs
-
-row-at-requires : tie.Need-row-at-requires
-row-at-requires c κs = search needs
-
-wide-requires-2 : tie.Need-wide-requires-2
-wide-requires-2 c κs = search needs
-
 returns : tie.Need-returns
 unfolding fixedFrom
 returns c = simp (lt-ltb _ _ (c .before .before .before .if1 .taken), c .wide2 .ensures .0, c .before .row-at .ensures, c .before .before .wide .ensures .0)
@@ -27,4 +15,4 @@ returns-2 c = simp (le-ltb _ _ (c .if1 .left))
 
 pub fixed-from-spec : {M : Type 1} → statement M
 fixed-from-spec =
-    tie.close (tie.spec wide-requires add-row-at row-at-requires wide-requires-2 returns returns-2)
+    tie.close (tie.spec (λ c κs. search needs) (λ c. search needs) (λ c κs. search needs) (λ c κs. search needs) returns returns-2)

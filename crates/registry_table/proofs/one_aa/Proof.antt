@@ -5,11 +5,9 @@ use borrow.Author.Needs.{needs}
 use Rattle.registry_table.proofs.one_aa.Statement.{statement}
 use Rattle.registry_table.proofs.one_aa.Tie as tie
 
-fixed-from-requires : tie.Need-fixed-from-requires
-fixed-from-requires c κs = search needs
-
 returns : tie.Need-returns
 returns c = c .fixed-from .ensures ∙ one-aa (c .before .args .l) (search needs)
 
 pub one-aa-spec : {M : Type 1} → statement M
-one-aa-spec = tie.close (tie.spec fixed-from-requires returns)
+one-aa-spec =
+    tie.close (tie.spec (λ c κs. search needs) returns)

@@ -6,9 +6,6 @@ use borrow.Author.Needs.{needs}
 use Rattle.registry_variable.proofs.large_variable.Statement.{statement}
 use Rattle.registry_variable.proofs.large_variable.Tie as tie
 
-is-type-requires : tie.Need-is-type-requires
-is-type-requires c κs = search needs
-
 returns : tie.Need-returns
 unfolding largeVariable
 returns c = simp (eq-eqb _ _ (c .before .before .before .if1 .taken), eq-eqb _ _ (c .before .before .if2 .taken), sym (c .before .is-type .ensures) ∙ c .if3 .taken)
@@ -26,4 +23,5 @@ unfolding largeVariable
 returns-4 c = simp (ne-eqb _ _ (c .if1 .left))
 
 pub large-variable-spec : {M : Type 1} → statement M
-large-variable-spec = tie.close (tie.spec is-type-requires returns returns-2 returns-3 returns-4)
+large-variable-spec =
+    tie.close (tie.spec (λ c κs. search needs) returns returns-2 returns-3 returns-4)

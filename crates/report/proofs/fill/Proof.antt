@@ -3,17 +3,9 @@ use borrow.Author.Needs.{needs}
 use Rattle.report.proofs.fill.Statement.{statement}
 use Rattle.report.proofs.fill.Tie as tie
 
-put-items-requires : tie.Need-put-items-requires
-put-items-requires c κs = search needs
-
-put-last-requires : tie.Need-put-last-requires
-put-last-requires c κs = search needs
-
-same-length : tie.Need-same-length
-same-length c = search needs
-
 returns : tie.Need-returns
 returns c = search ends-last
 
 pub fill-spec : {M : Type 1} → statement M
-fill-spec = tie.close (tie.spec put-items-requires put-last-requires same-length returns)
+fill-spec =
+    tie.close (tie.spec (λ c κs. search needs) (λ c κs. search needs) (λ c. search needs) returns)

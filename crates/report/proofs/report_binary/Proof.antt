@@ -8,14 +8,6 @@ returns : tie.Need-returns
 unfolding reportLeft
 returns c = search too-long
 
-report-requires : tie.Need-report-requires
-report-requires c κs = search needs
-
-same-length : tie.Need-same-length
-same-length c = search needs
-
-returns-2 : tie.Need-returns-2
-returns-2 c = search needs
-
 pub report-binary-spec : {M : Type 1} → statement M
-report-binary-spec = tie.close (tie.spec returns report-requires same-length returns-2)
+report-binary-spec =
+    tie.close (tie.spec returns (λ c κs. search needs) (λ c. search needs) (λ c. search needs))

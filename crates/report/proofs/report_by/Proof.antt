@@ -3,9 +3,6 @@ use borrow.Author.Needs.{needs}
 use Rattle.report.proofs.report_by.Statement.{statement}
 use Rattle.report.proofs.report_by.Tie as tie
 
-count-requires : tie.Need-count-requires
-count-requires c κs = search needs
-
 mul-if1 : tie.Need-mul-if1
 mul-if1 c = let h = read-few (c .before .before .before .pre) (c .count .ensures) in search needs
 
@@ -18,12 +15,9 @@ returns c = search no-room
 fill-requires : tie.Need-fill-requires
 fill-requires c κs = search read-count
 
-same-length : tie.Need-same-length
-same-length c = search needs
-
 returns-2 : tie.Need-returns-2
 returns-2 c = search with-room
 
 pub report-by-spec : {M : Type 1} → statement M
 report-by-spec =
-    tie.close (tie.spec count-requires mul-if1 add-if1 returns fill-requires same-length returns-2)
+    tie.close (tie.spec (λ c κs. search needs) mul-if1 add-if1 returns fill-requires (λ c. search needs) returns-2)

@@ -6,23 +6,11 @@ use Rattle.report_alike.proofs.is_alike.Reads as reads
 use Rattle.report_alike.proofs.is_alike.Lts as lts
 use Rattle.report_alike.proofs.value.Reads as value-reads
 
-shared-slice-read-if1 : tie.Need-shared-slice-read-if1
-shared-slice-read-if1 c = search needs
-
 returns : tie.Need-returns
 returns c = not-alike (c .before .before .before .args .values .now) (c .before .before .before .args .s .now) _ _ _ (c .before .before .before .args .form) (c .if1 .taken)
 
 enum-told : tie.Need-enum-told
 enum-told c = search needs
-
-add-value : tie.Need-add-value
-add-value c = search needs
-
-value-requires : tie.Need-value-requires
-value-requires c κs = search needs
-
-enum-told-2 : tie.Need-enum-told-2
-enum-told-2 c = search needs
 
 returns-2 : tie.Need-returns-2
 returns-2 c = alike-text (c .before .before .before .before .before .before .args .values .now) (c .before .before .before .before .before .before .args .s .now) _ _ _ (c .before .before .before .before .before .before .args .form) _ (c .before .enum-told .given .1) (c .before .before .before .if1 .left) (c .value .ensures)
@@ -34,11 +22,4 @@ pub is-alike-spec : {M : Type 1} → statement M
 is-alike-spec =
     tie.close
     (tie.spec
-    shared-slice-read-if1
-    returns
-    enum-told
-    add-value
-    value-requires
-    enum-told-2
-    returns-2
-    returns-3)
+    (λ c. search needs) returns enum-told (λ c. search needs) (λ c κs. search needs) (λ c. search needs) returns-2 returns-3)

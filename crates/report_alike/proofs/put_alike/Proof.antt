@@ -4,20 +4,12 @@ use borrow.Author.Needs.{needs}
 use Rattle.report_alike.proofs.put_alike.Statement.{statement}
 use Rattle.report_alike.proofs.put_alike.Tie as tie
 
-is-run-requires : tie.Need-is-run-requires
-is-run-requires c κs = search needs
-
 store-most-requires : tie.Need-store-most-requires
 store-most-requires c κs = c .before .before .is-run .ensures (c .before .if1 .taken)
-
-same-length : tie.Need-same-length
-same-length c = search needs
-
-returns : tie.Need-returns
-returns c = search needs
 
 returns-2 : tie.Need-returns-2
 returns-2 c = (alike-none _ _ _ _ _ _ _ _, run-start _ _ _ _)
 
 pub put-alike-spec : {M : Type 1} → statement M
-put-alike-spec = tie.close (tie.spec is-run-requires store-most-requires same-length returns returns-2)
+put-alike-spec =
+    tie.close (tie.spec (λ c κs. search needs) store-most-requires (λ c. search needs) (λ c. search needs) returns-2)

@@ -4,12 +4,6 @@ use borrow.Author.Needs.{needs}
 use Rattle.report_fast.proofs.accepted.Statement.{statement}
 use Rattle.report_fast.proofs.accepted.Tie as tie
 
-units-requires : tie.Need-units-requires
-units-requires c κs = search needs
-
-least-requires : tie.Need-least-requires
-least-requires c κs = search needs
-
 returns : tie.Need-returns
 returns c = (omega arith, λ h l K p. absurd (omega arith))
 
@@ -21,4 +15,4 @@ returns-2 c = top-good (c .before .before .before .before .before .args .form) (
 
 pub accepted-spec : {M : Type 1} → statement M
 accepted-spec =
-    tie.close (tie.spec units-requires least-requires returns accepted-within-requires returns-2)
+    tie.close (tie.spec (λ c κs. search needs) (λ c κs. search needs) returns accepted-within-requires returns-2)

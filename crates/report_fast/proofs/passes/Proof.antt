@@ -3,17 +3,11 @@ use borrow.Author.Needs.{needs}
 use Rattle.report_fast.proofs.passes.Statement.{statement}
 use Rattle.report_fast.proofs.passes.Tie as tie
 
-units-requires : tie.Need-units-requires
-units-requires c κs = search needs
-
 returns : tie.Need-returns
 returns c = none-passes
 
 returns-2 : tie.Need-returns-2
 returns-2 c = none-passes
-
-accepts-indexed-requires : tie.Need-accepts-indexed-requires
-accepts-indexed-requires c κs = search needs
 
 returns-3 : tie.Need-returns-3
 returns-3 c = by-table _ _ (c .before .if3 .taken) _ _ (c .accepts-indexed .ensures (search reach-units))
@@ -26,12 +20,4 @@ returns-4 c = by-table _ _ (c .before .if3 .left) _ _ (c .accepts .ensures)
 
 pub passes-spec : {M : Type 1} → statement M
 passes-spec =
-    tie.close
-    (tie.spec
-    units-requires
-    returns
-    returns-2
-    accepts-indexed-requires
-    returns-3
-    accepts-requires
-    returns-4)
+    tie.close (tie.spec (λ c κs. search needs) returns returns-2 (λ c κs. search needs) returns-3 accepts-requires returns-4)

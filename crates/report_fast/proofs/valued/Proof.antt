@@ -4,12 +4,6 @@ use borrow.Author.Needs.{needs}
 use Rattle.report_fast.proofs.valued.Statement.{statement}
 use Rattle.report_fast.proofs.valued.Tie as tie
 
-valued-requires : tie.Need-valued-requires
-valued-requires c κs = search needs
-
-sub-if1 : tie.Need-sub-if1
-sub-if1 c = search needs
-
 returns : tie.Need-returns
 returns c l first = search nothing
 
@@ -17,4 +11,5 @@ returns-2 : tie.Need-returns-2
 returns-2 c l first = search by-value
 
 pub valued-spec : {M : Type 1} → statement M
-valued-spec = tie.close (tie.spec valued-requires sub-if1 returns returns-2)
+valued-spec =
+    tie.close (tie.spec (λ c κs. search needs) (λ c. search needs) returns returns-2)

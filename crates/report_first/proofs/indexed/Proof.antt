@@ -9,15 +9,6 @@ use Rattle.report_first.proofs.indexed.Tie as tie
 enum-told : tie.Need-enum-told
 enum-told c = search needs
 
-indexed-text-requires : tie.Need-indexed-text-requires
-indexed-text-requires c κs = search needs
-
-enum-told-2 : tie.Need-enum-told-2
-enum-told-2 c = search needs
-
-indexed-binary-requires : tie.Need-indexed-binary-requires
-indexed-binary-requires c κs = search needs
-
 returns : tie.Need-returns
 returns c = rw (c .before .enum-told .given .1) (λ l. text-indexed (c .before .before .before .before .args .values .now) (c .before .before .before .before .args .classes .now) (c .before .before .before .before .args .rows .now) (c .before .before .before .before .args .s .now) l (λ i. omega (arith, c .before .before .before .shared-slice-known .given i)) (c .before .before .before .before .args .at) _ (c .indexed-text .ensures))
 
@@ -26,5 +17,4 @@ returns-2 c = rw (c .before .enum-told2 .given .1) (λ l. sym (c .indexed-binary
 
 pub indexed-spec : {M : Type 1} → statement M
 indexed-spec =
-    tie.close
-    (tie.spec enum-told indexed-text-requires enum-told-2 indexed-binary-requires returns returns-2)
+    tie.close (tie.spec enum-told (λ c κs. search needs) (λ c. search needs) (λ c κs. search needs) returns returns-2)

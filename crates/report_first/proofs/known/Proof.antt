@@ -10,33 +10,6 @@ use Rattle.report_first.proofs.known.Tie as tie
 enum-told : tie.Need-enum-told
 enum-told c = search needs
 
-returns : tie.Need-returns
-returns c = search needs
-
-returns-2 : tie.Need-returns-2
-returns-2 c = search needs
-
-mul-from : tie.Need-mul-from
-mul-from c = search needs
-
-sub-first-stranger : tie.Need-sub-first-stranger
-sub-first-stranger c = search needs
-
-part-first-stranger-start : tie.Need-part-first-stranger-start
-part-first-stranger-start c = search needs
-
-part-first-stranger-end : tie.Need-part-first-stranger-end
-part-first-stranger-end c = search needs
-
-first-stranger-requires : tie.Need-first-stranger-requires
-first-stranger-requires c κs = search needs
-
-add-result : tie.Need-add-result
-add-result c = search needs
-
-enum-told-2 : tie.Need-enum-told-2
-enum-told-2 c = search needs
-
 returns-3 : tie.Need-returns-3
 returns-3 c = known-text (c .before .before .before .before .before .before .before .args .form) (c .before .before .before .before .before .before .before .args .s .now) (c .before .before .before .before .before .before .before .args .at) (c .before .before .before .before .before .before .before .args .clean) _ (c .before .before .before .before .enum-told .given .1) (c .first-stranger .ensures ∙ ap firstStranger (to-end (c .before .before .before .before .before .before .before .args .s .now) (4 * c .before .before .before .before .before .before .before .args .at)))
 
@@ -47,15 +20,5 @@ pub known-spec : {M : Type 1} → statement M
 known-spec =
     tie.close
     (tie.spec
-    enum-told
-    returns
-    returns-2
-    mul-from
-    sub-first-stranger
-    part-first-stranger-start
-    part-first-stranger-end
-    first-stranger-requires
-    add-result
-    enum-told-2
-    returns-3
-    returns-4)
+    enum-told (λ c. search needs) (λ c. search needs) (λ c. search needs) (λ c. search needs) (λ c. search needs) (λ c. search needs)
+    (λ c κs. search needs) (λ c. search needs) (λ c. search needs) returns-3 returns-4)

@@ -7,15 +7,6 @@ use Rattle.report_first.proofs.nested.Tie as tie
 enum-told : tie.Need-enum-told
 enum-told c = search needs
 
-nested-text-requires : tie.Need-nested-text-requires
-nested-text-requires c κs = search needs
-
-enum-told-2 : tie.Need-enum-told-2
-enum-told-2 c = search needs
-
-nested-binary-requires : tie.Need-nested-binary-requires
-nested-binary-requires c κs = search needs
-
 returns : tie.Need-returns
 returns c = let h = nested-bounds _ _ _ _ _ _ (c .nested-text .ensures) in (h .0, h .1, rw (c .before .enum-told .given .1) (λ l u. text-nested (c .before .before .before .before .args .values .now) (c .before .before .before .before .args .classes .now) (c .before .before .before .before .args .rows .now) (c .before .before .before .before .args .s .now) l (λ i. omega (arith, c .before .before .before .shared-slice-known .given i)) (c .before .before .before .before .args .at) _ _ _ u (c .nested-text .ensures)))
 
@@ -24,5 +15,4 @@ returns-2 c = let h = nested-bounds _ _ _ _ _ _ (c .nested-binary .ensures) in (
 
 pub nested-spec : {M : Type 1} → statement M
 nested-spec =
-    tie.close
-    (tie.spec enum-told nested-text-requires enum-told-2 nested-binary-requires returns returns-2)
+    tie.close (tie.spec enum-told (λ c κs. search needs) (λ c. search needs) (λ c κs. search needs) returns returns-2)

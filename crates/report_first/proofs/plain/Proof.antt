@@ -7,15 +7,6 @@ use Rattle.report_first.proofs.plain.Tie as tie
 enum-told : tie.Need-enum-told
 enum-told c = search needs
 
-plain-text-requires : tie.Need-plain-text-requires
-plain-text-requires c κs = search needs
-
-enum-told-2 : tie.Need-enum-told-2
-enum-told-2 c = search needs
-
-plain-binary-requires : tie.Need-plain-binary-requires
-plain-binary-requires c κs = search needs
-
 returns : tie.Need-returns
 returns c = rw (c .before .enum-told .given .1) (λ l. text-plain (c .before .before .before .before .args .values .now) (c .before .before .before .before .args .classes .now) (c .before .before .before .before .args .rows .now) (c .before .before .before .before .args .s .now) l (λ i. omega (arith, c .before .before .before .shared-slice-known .given i)) (c .before .before .before .before .args .at) _ (c .plain-text .ensures))
 
@@ -24,5 +15,4 @@ returns-2 c = rw (c .before .enum-told2 .given .1) (λ l. binary-codes (c .befor
 
 pub plain-spec : {M : Type 1} → statement M
 plain-spec =
-    tie.close
-    (tie.spec enum-told plain-text-requires enum-told-2 plain-binary-requires returns returns-2)
+    tie.close (tie.spec enum-told (λ c κs. search needs) (λ c. search needs) (λ c κs. search needs) returns returns-2)

@@ -7,15 +7,6 @@ use Rattle.report_first.proofs.sized.Tie as tie
 enum-told : tie.Need-enum-told
 enum-told c = search needs
 
-sized-text-requires : tie.Need-sized-text-requires
-sized-text-requires c κs = search needs
-
-enum-told-2 : tie.Need-enum-told-2
-enum-told-2 c = search needs
-
-sized-binary-requires : tie.Need-sized-binary-requires
-sized-binary-requires c κs = search needs
-
 returns : tie.Need-returns
 returns c = rw (c .before .enum-told .given .1) (λ l. text-sized (c .before .before .before .before .args .values .now) (c .before .before .before .before .args .classes .now) (c .before .before .before .before .args .rows .now) (c .before .before .before .before .args .s .now) l (λ i. omega (arith, c .before .before .before .shared-slice-known .given i)) (c .before .before .before .before .args .at) _ (c .sized-text .ensures))
 
@@ -24,5 +15,4 @@ returns-2 c = rw (c .before .enum-told2 .given .1) (λ l. binary-sizes (c .befor
 
 pub sized-spec : {M : Type 1} → statement M
 sized-spec =
-    tie.close
-    (tie.spec enum-told sized-text-requires enum-told-2 sized-binary-requires returns returns-2)
+    tie.close (tie.spec enum-told (λ c κs. search needs) (λ c. search needs) (λ c κs. search needs) returns returns-2)

@@ -9,15 +9,6 @@ use Rattle.report_first.proofs.valued.Tie as tie
 enum-told : tie.Need-enum-told
 enum-told c = search needs
 
-valued-text-requires : tie.Need-valued-text-requires
-valued-text-requires c κs = search needs
-
-enum-told-2 : tie.Need-enum-told-2
-enum-told-2 c = search needs
-
-valued-binary-requires : tie.Need-valued-binary-requires
-valued-binary-requires c κs = search needs
-
 returns : tie.Need-returns
 returns c = rw (c .before .enum-told .given .1) (λ l. text-valued (c .before .before .before .before .args .values .now) (c .before .before .before .before .args .classes .now) (c .before .before .before .before .args .rows .now) (c .before .before .before .before .args .s .now) l (λ i. omega (arith, c .before .before .before .shared-slice-known .given i)) (c .before .before .before .before .args .at) _ (c .valued-text .ensures))
 
@@ -26,5 +17,4 @@ returns-2 c = rw (c .before .enum-told2 .given .1) (λ l. sym (c .valued-binary 
 
 pub valued-spec : {M : Type 1} → statement M
 valued-spec =
-    tie.close
-    (tie.spec enum-told valued-text-requires enum-told-2 valued-binary-requires returns returns-2)
+    tie.close (tie.spec enum-told (λ c κs. search needs) (λ c. search needs) (λ c κs. search needs) returns returns-2)

@@ -3,20 +3,11 @@ use borrow.Author.Needs.{needs}
 use Rattle.report_followers.proofs.followers.Statement.{statement}
 use Rattle.report_followers.proofs.followers.Tie as tie
 
-units-requires : tie.Need-units-requires
-units-requires c κs = search needs
-
-least-requires : tie.Need-least-requires
-least-requires c κs = search needs
-
 returns : tie.Need-returns
 returns c = search no-followers
 
 returns-2 : tie.Need-returns-2
 returns-2 c = search no-followers
-
-sub-if3 : tie.Need-sub-if3
-sub-if3 c = search needs
 
 returns-3 : tie.Need-returns-3
 returns-3 c = search no-followers
@@ -31,11 +22,4 @@ pub followers-spec : {M : Type 1} → statement M
 followers-spec =
     tie.close
     (tie.spec
-    units-requires
-    least-requires
-    returns
-    returns-2
-    sub-if3
-    returns-3
-    run-units-requires
-    returns-4)
+    (λ c κs. search needs) (λ c κs. search needs) returns returns-2 (λ c. search needs) returns-3 run-units-requires returns-4)

@@ -4,9 +4,6 @@ use borrow.Author.Needs.{needs}
 use Rattle.report_followers.proofs.is_like.Statement.{statement}
 use Rattle.report_followers.proofs.is_like.Tie as tie
 
-same-unit-requires : tie.Need-same-unit-requires
-same-unit-requires c κs = search needs
-
 returns : tie.Need-returns
 returns c = search by-unit
 
@@ -17,4 +14,5 @@ returns-2 : tie.Need-returns-2
 returns-2 c = search by-element
 
 pub is-like-spec : {M : Type 1} → statement M
-is-like-spec = tie.close (tie.spec same-unit-requires returns same-requires returns-2)
+is-like-spec =
+    tie.close (tie.spec (λ c κs. search needs) returns same-requires returns-2)

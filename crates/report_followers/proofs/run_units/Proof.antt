@@ -3,9 +3,6 @@ use borrow.Author.Needs.{needs}
 use Rattle.report_followers.proofs.run_units.Statement.{statement}
 use Rattle.report_followers.proofs.run_units.Tie as tie
 
-unit-requires : tie.Need-unit-requires
-unit-requires c κs = search needs
-
 mul-run : tie.Need-mul-run
 mul-run c = search at-fits
 
@@ -23,4 +20,4 @@ returns c = search units-run
 
 pub run-units-spec : {M : Type 1} → statement M
 run-units-spec =
-    tie.close (tie.spec unit-requires mul-run mul-run-2 mul-run-3 run-requires returns)
+    tie.close (tie.spec (λ c κs. search needs) mul-run mul-run-2 mul-run-3 run-requires returns)

@@ -10,29 +10,14 @@ enum-told c = search needs
 same-two-requires : tie.Need-same-two-requires
 same-two-requires c κs = (omega (arith, four _ _ _ (c .enum-told .given .1) (c .before .before .before .pre .0)), omega (arith, four _ _ _ (c .enum-told .given .1) (c .before .before .before .pre .1)))
 
-add-same-two : tie.Need-add-same-two
-add-same-two c = search needs
-
-add-same-two-2 : tie.Need-add-same-two-2
-add-same-two-2 c = search needs
-
 same-two-requires-2 : tie.Need-same-two-requires-2
 same-two-requires-2 c κs = (omega (arith, four _ _ _ (c .before .before .enum-told .given .1) (c .before .before .before .before .before .pre .0)), omega (arith, four _ _ _ (c .before .before .enum-told .given .1) (c .before .before .before .before .before .pre .1)))
 
 returns : tie.Need-returns
 returns c = search unit-text
 
-enum-told-2 : tie.Need-enum-told-2
-enum-told-2 c = search needs
-
 same-two-requires-3 : tie.Need-same-two-requires-3
 same-two-requires-3 c κs = (omega (arith, three _ _ _ (c .enum-told2 .given .1) (c .before .before .before .pre .0)), omega (arith, three _ _ _ (c .enum-told2 .given .1) (c .before .before .before .pre .1)))
-
-add-same : tie.Need-add-same
-add-same c = search needs
-
-add-same-2 : tie.Need-add-same-2
-add-same-2 c = search needs
 
 same-requires : tie.Need-same-requires
 same-requires c κs = (omega (arith, three _ _ _ (c .before .before .enum-told2 .given .1) (c .before .before .before .before .before .pre .0)), omega (arith, three _ _ _ (c .before .before .enum-told2 .given .1) (c .before .before .before .before .before .pre .1)))
@@ -50,17 +35,5 @@ pub same-unit-spec : {M : Type 1} → statement M
 same-unit-spec =
     tie.close
     (tie.spec
-    enum-told
-    same-two-requires
-    add-same-two
-    add-same-two-2
-    same-two-requires-2
-    returns
-    enum-told-2
-    same-two-requires-3
-    add-same
-    add-same-2
-    same-requires
-    returns-2
-    returns-3
-    returns-4)
+    enum-told same-two-requires (λ c. search needs) (λ c. search needs) same-two-requires-2 returns (λ c. search needs) same-two-requires-3
+    (λ c. search needs) (λ c. search needs) same-requires returns-2 returns-3 returns-4)

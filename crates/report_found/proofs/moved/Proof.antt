@@ -8,9 +8,6 @@ use Rattle.report_found.proofs.moved.Tie as tie
 enum-told : tie.Need-enum-told
 enum-told c = search needs
 
-enum-known-f : tie.Need-enum-known-f
-enum-known-f c = search needs
-
 add-t6 : tie.Need-add-t6
 add-t6 c = let h = c .before .before .before .pre .near _ _ (c .before .f .given .1) in omega (arith, c .before .before .before .pre .few)
 
@@ -21,4 +18,5 @@ returns-2 : tie.Need-returns-2
 returns-2 c = moved-on _ _ _ _ (c .before .f .given .1)
 
 pub moved-spec : {M : Type 1} → statement M
-moved-spec = tie.close (tie.spec enum-told enum-known-f add-t6 returns returns-2)
+moved-spec =
+    tie.close (tie.spec enum-told (λ c. search needs) add-t6 returns returns-2)

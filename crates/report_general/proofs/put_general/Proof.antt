@@ -4,17 +4,8 @@ use borrow.Author.Needs.{needs}
 use Rattle.report_general.proofs.put_general.Statement.{statement}
 use Rattle.report_general.proofs.put_general.Tie as tie
 
-is-place-requires : tie.Need-is-place-requires
-is-place-requires c κs = search needs
-
-unit-requires : tie.Need-unit-requires
-unit-requires c κs = search needs
-
 put-judged-requires : tie.Need-put-judged-requires
 put-judged-requires c κs = placed-here (c .before .before .before .is-place .ensures) (c .before .before .if1 .taken) (omega arith) (c .before .unit .ensures)
-
-same-length : tie.Need-same-length
-same-length c = search needs
 
 returns : tie.Need-returns
 returns c = search turned-from
@@ -23,4 +14,5 @@ returns-2 : tie.Need-returns-2
 returns-2 c = λ Φ. absurd (c .before .is-place .ensures .not-placed (c .if1 .left) _ (search needs) Φ)
 
 pub put-general-spec : {M : Type 1} → statement M
-put-general-spec = tie.close (tie.spec is-place-requires unit-requires put-judged-requires same-length returns returns-2)
+put-general-spec =
+    tie.close (tie.spec (λ c κs. search needs) (λ c κs. search needs) put-judged-requires (λ c. search needs) returns returns-2)

@@ -12,26 +12,14 @@ use Rattle.report_group.proofs.group_accepted.Tie as tie
 no : {X : Type 0} → false ≡ true → X
 no e = absurd (let y : _≡_ {A = ℕ} 0 1 = cc in omega arith)
 
-units-requires : tie.Need-units-requires
-units-requires c κs = search needs
-
-least-requires : tie.Need-least-requires
-least-requires c κs = search needs
-
 returns : tie.Need-returns
 returns c = λ h l K g. no
-
-sub-if2 : tie.Need-sub-if2
-sub-if2 c = search needs
 
 returns-2 : tie.Need-returns-2
 returns-2 c = λ h l K g. no
 
 returns-3 : tie.Need-returns-3
 returns-3 c = λ h l K g. no
-
-add-inside-accepted : tie.Need-add-inside-accepted
-add-inside-accepted c = search needs
 
 inside-accepted-requires : tie.Need-inside-accepted-requires
 inside-accepted-requires c κs = group-reach (c .before .before .before .before .before .before .args .form) (c .before .before .before .before .before .before .args .values .now) (c .before .before .before .before .before .before .args .classes .now) (c .before .before .before .before .before .before .args .rows .now) (c .before .before .before .before .before .before .args .s .now) _ _ _ _ _ (c .before .before .before .least .ensures) (c .before .before .before .before .units .ensures) (c .before .before .if1 .left) (c .before .if2 .left) (pos-of-ne-zero (c .if3 .left))
@@ -43,12 +31,5 @@ pub group-accepted-spec : {M : Type 1} → statement M
 group-accepted-spec =
     tie.close
     (tie.spec
-    units-requires
-    least-requires
-    returns
-    sub-if2
-    returns-2
-    returns-3
-    add-inside-accepted
-    inside-accepted-requires
-    returns-4)
+    (λ c κs. search needs) (λ c κs. search needs) returns (λ c. search needs) returns-2 returns-3 (λ c. search needs)
+    inside-accepted-requires returns-4)

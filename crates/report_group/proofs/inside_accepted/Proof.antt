@@ -8,23 +8,8 @@ use borrow.Author.Needs.{needs}
 use Rattle.report_group.proofs.inside_accepted.Statement.{statement}
 use Rattle.report_group.proofs.inside_accepted.Tie as tie
 
-add-nested : tie.Need-add-nested
-add-nested c = search needs
-
-sub-nested : tie.Need-sub-nested
-sub-nested c = search needs
-
-nested-requires : tie.Need-nested-requires
-nested-requires c κs = search needs
-
-add-i : tie.Need-add-i
-add-i c = search needs
-
 add-i-2 : tie.Need-add-i-2
 add-i-2 c = let h = c .nested .ensures .1 in search needs
-
-plain-requires : tie.Need-plain-requires
-plain-requires c κs = search needs
 
 sub-if1 : tie.Need-sub-if1
 sub-if1 c = omega (arith, c .before .nested .ensures .1, c .before .before .before .pre .1)
@@ -35,17 +20,8 @@ returns c = λ R g e. nest-plain (c .before .before .before .before .args .form)
 add-marks : tie.Need-add-marks
 add-marks c = let h = c .before .before .nested .ensures .1 in search needs
 
-marks-requires : tie.Need-marks-requires
-marks-requires c κs = search needs
-
-sub-passes : tie.Need-sub-passes
-sub-passes c = search needs
-
 sub-passes-2 : tie.Need-sub-passes-2
 sub-passes-2 c = c .before .before .before .nested .ensures .0
-
-passes-requires : tie.Need-passes-requires
-passes-requires c κs = search needs
 
 returns-2 : tie.Need-returns-2
 returns-2 c = λ R g e. nest-rest (c .before .before .before .before .before .before .args .form) (c .before .before .before .before .before .before .args .values .now) (c .before .before .before .before .before .before .args .classes .now) (c .before .before .before .before .before .before .args .rows .now) (c .before .before .before .before .before .before .args .s .now) maxDepth (c .before .before .before .before .before .before .args .at) (c .before .before .before .before .before .before .args .stop) (inside (c .before .before .before .before .before .before .pre .0) R) (c .before .before .before .before .before .before .pre .1) R _ (c .before .before .before .before .nested .ensures .2 (R .lent)) g _ (c .before .marks .ensures (R .lent) (nest-group (c .before .before .before .before .before .before .args .form) (c .before .before .before .before .before .before .args .values .now) (c .before .before .before .before .before .before .args .classes .now) (c .before .before .before .before .before .before .args .rows .now) (c .before .before .before .before .before .before .args .s .now) maxDepth (c .before .before .before .before .before .before .args .at) (c .before .before .before .before .before .before .args .stop) (inside (c .before .before .before .before .before .before .pre .0) R) (c .before .before .before .before .before .before .pre .1) R _ (c .before .before .before .before .nested .ensures .2 (R .lent)) g)) (c .passes .ensures .right (ready-part _ _ _ _ _ _ _ _ _ R (omega arith) (omega arith)) e)
@@ -54,17 +30,5 @@ pub inside-accepted-spec : {M : Type 1} → statement M
 inside-accepted-spec =
     tie.close
     (tie.spec
-    add-nested
-    sub-nested
-    nested-requires
-    add-i
-    add-i-2
-    plain-requires
-    sub-if1
-    returns
-    add-marks
-    marks-requires
-    sub-passes
-    sub-passes-2
-    passes-requires
-    returns-2)
+    (λ c. search needs) (λ c. search needs) (λ c κs. search needs) (λ c. search needs) add-i-2 (λ c κs. search needs) sub-if1 returns
+    add-marks (λ c κs. search needs) (λ c. search needs) sub-passes-2 (λ c κs. search needs) returns-2)

@@ -6,12 +6,6 @@ use Rattle.report_item.proofs.placed.Tie as tie
 enum-told : tie.Need-enum-told
 enum-told c = search needs
 
-enum-known-v : tie.Need-enum-known-v
-enum-known-v c = search needs
-
-unit-requires : tie.Need-unit-requires
-unit-requires c κs = search needs
-
 mul-t8 : tie.Need-mul-t8
 mul-t8 c = let h = placed-fits (c .before .before .before .before .args .form) _ (c .before .before .v .given .0 .1 .0) (c .unit .ensures) in search needs
 
@@ -26,4 +20,4 @@ returns-2 c = placed-bad _ _ _ _ _ (c .unit .ensures) (c .before .before .v .giv
 
 pub placed-spec : {M : Type 1} → statement M
 placed-spec =
-    tie.close (tie.spec enum-told enum-known-v unit-requires mul-t8 add-t10 returns returns-2)
+    tie.close (tie.spec enum-told (λ c. search needs) (λ c κs. search needs) mul-t8 add-t10 returns returns-2)

@@ -3,12 +3,6 @@ use borrow.Author.Needs.{needs}
 use Rattle.report_item.proofs.verdict.Statement.{statement}
 use Rattle.report_item.proofs.verdict.Tie as tie
 
-units-requires : tie.Need-units-requires
-units-requires c κs = search needs
-
-limit-requires : tie.Need-limit-requires
-limit-requires c κs = search needs
-
 returns : tie.Need-returns
 returns c = search over-limit
 
@@ -18,16 +12,10 @@ returns-2 c = search behind-all
 returns-3 : tie.Need-returns-3
 returns-3 c = search more-than-all
 
-add-level : tie.Need-add-level
-add-level c = search needs
-
 level-requires : tie.Need-level-requires
 level-requires c κs =
     let f = c .before .before .before .before .before .before .args .form in
     inside-item f _ _ _ _ _ (c .if3 .left) (c .before .if2 .left) (c .before .before .if1 .left) (search needs) (search needs)
-
-placed-requires : tie.Need-placed-requires
-placed-requires c κs = search needs
 
 returns-4 : tie.Need-returns-4
 returns-4 c = search judged
@@ -36,12 +24,5 @@ pub verdict-spec : {M : Type 1} → statement M
 verdict-spec =
     tie.close
     (tie.spec
-    units-requires
-    limit-requires
-    returns
-    returns-2
-    returns-3
-    add-level
-    level-requires
-    placed-requires
+    (λ c κs. search needs) (λ c κs. search needs) returns returns-2 returns-3 (λ c. search needs) level-requires (λ c κs. search needs)
     returns-4)

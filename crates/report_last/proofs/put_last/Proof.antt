@@ -6,20 +6,12 @@ use Rattle.report_last.proofs.put_last.Tie as tie
 returns : tie.Need-returns
 returns c = record { right = λ h _. absurd (omega arith) }
 
-refused-requires : tie.Need-refused-requires
-refused-requires c κs = search needs
-
 returns-2 : tie.Need-returns-2
 returns-2 c = record { right = λ _ h. absurd (omega arith) }
-
-put-end-requires : tie.Need-put-end-requires
-put-end-requires c κs = search needs
-
-same-length : tie.Need-same-length
-same-length c = search needs
 
 returns-3 : tie.Need-returns-3
 returns-3 c = record { right = λ _ _. c .before .before .put-end .ensures }
 
 pub put-last-spec : {M : Type 1} → statement M
-put-last-spec = tie.close (tie.spec returns refused-requires returns-2 put-end-requires same-length returns-3)
+put-last-spec =
+    tie.close (tie.spec returns (λ c κs. search needs) returns-2 (λ c κs. search needs) (λ c. search needs) returns-3)

@@ -3,12 +3,6 @@ use borrow.Author.Needs.{needs}
 use Rattle.report_last.proofs.refused.Statement.{statement}
 use Rattle.report_last.proofs.refused.Tie as tie
 
-enum-known-end : tie.Need-enum-known-end
-enum-known-end c = search needs
-
-enum-known-end-2 : tie.Need-enum-known-end-2
-enum-known-end-2 c = search needs
-
 returns : tie.Need-returns
 returns c = search of-whole
 
@@ -16,4 +10,5 @@ returns-2 : tie.Need-returns-2
 returns-2 c = search of-rest
 
 pub refused-spec : {M : Type 1} → statement M
-refused-spec = tie.close (tie.spec enum-known-end enum-known-end-2 returns returns-2)
+refused-spec =
+    tie.close (tie.spec (λ c. search needs) (λ c. search needs) returns returns-2)

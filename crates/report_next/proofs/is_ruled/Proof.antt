@@ -7,21 +7,6 @@ use Rattle.report_next.proofs.is_ruled.Tie as tie
 enum-told : tie.Need-enum-told
 enum-told c = search needs
 
-enum-told-2 : tie.Need-enum-told-2
-enum-told-2 c = search needs
-
-enum-known-kind : tie.Need-enum-known-kind
-enum-known-kind c = search needs
-
-is-overrideable-requires : tie.Need-is-overrideable-requires
-is-overrideable-requires c κs = search needs
-
-enum-told-3 : tie.Need-enum-told-3
-enum-told-3 c = search needs
-
-enum-told-4 : tie.Need-enum-told-4
-enum-told-4 c = search needs
-
 returns : tie.Need-returns
 unfolding isRuled
 returns c = rw (c .enum-told .given .1)
@@ -46,14 +31,5 @@ pub is-ruled-spec : {M : Type 1} → statement M
 is-ruled-spec =
     tie.close
     (tie.spec
-    enum-told
-    enum-told-2
-    enum-known-kind
-    is-overrideable-requires
-    enum-told-3
-    enum-told-4
-    returns
-    returns-2
-    returns-3
-    returns-4
-    returns-5)
+    enum-told (λ c. search needs) (λ c. search needs) (λ c κs. search needs) (λ c. search needs) (λ c. search needs) returns returns-2
+    returns-3 returns-4 returns-5)

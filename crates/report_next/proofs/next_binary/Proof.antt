@@ -8,26 +8,8 @@ use borrow.Author.Needs.{needs}
 use Rattle.report_next.proofs.next_binary.Statement.{statement}
 use Rattle.report_next.proofs.next_binary.Tie as tie
 
-binary-head-requires : tie.Need-binary-head-requires
-binary-head-requires c κs = search needs
-
-frame-next-head-requires : tie.Need-frame-next-head-requires
-frame-next-head-requires c κs = search needs
-
 enum-told : tie.Need-enum-told
 enum-told c = search needs
-
-enum-known-framed : tie.Need-enum-known-framed
-enum-known-framed c = search needs
-
-within-requires : tie.Need-within-requires
-within-requires c κs = search needs
-
-own-binary-requires : tie.Need-own-binary-requires
-own-binary-requires c κs = search needs
-
-told-requires : tie.Need-told-requires
-told-requires c κs = search needs
 
 returns : tie.Need-returns
 returns c = next-unframed (c .before .before .before .before .before .args .indexed) (c .before .before .before .before .before .args .first) (binarySextets (c .before .before .before .before .before .args .part .now)) _ _ (next-binary _ _ _ _ _ (c .before .before .before .binary-head .ensures) (c .before .before .frame-next-head .ensures)) _ _ (c .enum-told .given .1)
@@ -44,12 +26,5 @@ pub next-binary-spec : {M : Type 1} → statement M
 next-binary-spec =
     tie.close
     (tie.spec
-    binary-head-requires
-    frame-next-head-requires
-    enum-told
-    enum-known-framed
-    within-requires
-    own-binary-requires
-    told-requires
-    returns
-    returns-2)
+    (λ c κs. search needs) (λ c κs. search needs) enum-told (λ c. search needs) (λ c κs. search needs) (λ c κs. search needs)
+    (λ c κs. search needs) returns returns-2)

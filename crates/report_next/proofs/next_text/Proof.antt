@@ -10,20 +10,8 @@ use borrow.Author.Needs.{needs}
 use Rattle.report_next.proofs.next_text.Statement.{statement}
 use Rattle.report_next.proofs.next_text.Tie as tie
 
-text-head-requires : tie.Need-text-head-requires
-text-head-requires c κs = search needs
-
-frame-next-head-requires : tie.Need-frame-next-head-requires
-frame-next-head-requires c κs = search needs
-
 enum-told : tie.Need-enum-told
 enum-told c = search needs
-
-enum-known-framed : tie.Need-enum-known-framed
-enum-known-framed c = search needs
-
-within-requires : tie.Need-within-requires
-within-requires c κs = search needs
 
 mul-end : tie.Need-mul-end
 mul-end c =
@@ -36,12 +24,6 @@ slice-aggregate-own-text c =
     let f = c .before .before .before in
     let g = next-lawful (f .before .before .before .before .before .args .indexed) (f .before .before .before .before .before .args .first) (textSextets (f .before .before .before .before .before .args .part .now)) _ _ _ _ (next-text _ _ _ _ _ (f .before .before .before .text-head .ensures) (f .before .before .frame-next-head .ensures)) (f .framed .given .1) in
     sym (length-take-le _ (f .before .before .before .before .before .args .part .now) (omega (arith, g .room, text-units (f .before .before .before .before .before .args .part .now))))
-
-own-text-requires : tie.Need-own-text-requires
-own-text-requires c κs = search needs
-
-told-requires : tie.Need-told-requires
-told-requires c κs = search needs
 
 returns : tie.Need-returns
 returns c = next-unframed (c .before .before .before .before .before .args .indexed) (c .before .before .before .before .before .args .first) (textSextets (c .before .before .before .before .before .args .part .now)) _ _ (next-text _ _ _ _ _ (c .before .before .before .text-head .ensures) (c .before .before .frame-next-head .ensures)) _ _ (c .enum-told .given .1)
@@ -58,14 +40,5 @@ pub next-text-spec : {M : Type 1} → statement M
 next-text-spec =
     tie.close
     (tie.spec
-    text-head-requires
-    frame-next-head-requires
-    enum-told
-    enum-known-framed
-    within-requires
-    mul-end
-    slice-aggregate-own-text
-    own-text-requires
-    told-requires
-    returns
-    returns-2)
+    (λ c κs. search needs) (λ c κs. search needs) enum-told (λ c. search needs) (λ c κs. search needs) mul-end slice-aggregate-own-text
+    (λ c κs. search needs) (λ c κs. search needs) returns returns-2)

@@ -3,18 +3,6 @@ use borrow.Author.Needs.{needs}
 use Rattle.report_plain.proofs.limit.Statement.{statement}
 use Rattle.report_plain.proofs.limit.Tie as tie
 
-enum-told : tie.Need-enum-told
-enum-told c = search needs
-
-limit-text-requires : tie.Need-limit-text-requires
-limit-text-requires c κs = search needs
-
-enum-told-2 : tie.Need-enum-told-2
-enum-told-2 c = search needs
-
-limit-binary-requires : tie.Need-limit-binary-requires
-limit-binary-requires c κs = search needs
-
 returns : tie.Need-returns
 returns c = search in-form
 
@@ -23,5 +11,4 @@ returns-2 c = in-form _ _ (c .before .before .before .args .values .now) (c .bef
 
 pub limit-spec : {M : Type 1} → statement M
 limit-spec =
-    tie.close
-    (tie.spec enum-told limit-text-requires enum-told-2 limit-binary-requires returns returns-2)
+    tie.close (tie.spec (λ c. search needs) (λ c κs. search needs) (λ c. search needs) (λ c κs. search needs) returns returns-2)

@@ -6,26 +6,14 @@ use borrow.Author.Needs.{needs}
 use Rattle.report_plain.proofs.put_followers.Statement.{statement}
 use Rattle.report_plain.proofs.put_followers.Tie as tie
 
-units-requires : tie.Need-units-requires
-units-requires c κs = search needs
-
-least-requires : tie.Need-least-requires
-least-requires c κs = search needs
-
 returns : tie.Need-returns
 returns c = (omega arith, λ p l. run-none _ _ _ _ p, run-start _ _ _ _)
-
-sub-if2 : tie.Need-sub-if2
-sub-if2 c = search needs
 
 returns-2 : tie.Need-returns-2
 returns-2 c = (omega arith, λ p l. run-none _ _ _ _ p, run-start _ _ _ _)
 
 put-within-requires : tie.Need-put-within-requires
 put-within-requires c κs = search (within, needs)
-
-same-length : tie.Need-same-length
-same-length c = search needs
 
 returns-3 : tie.Need-returns-3
 returns-3 c = search (within, known-run, needs)
@@ -34,11 +22,4 @@ pub put-followers-spec : {M : Type 1} → statement M
 put-followers-spec =
     tie.close
     (tie.spec
-    units-requires
-    least-requires
-    returns
-    sub-if2
-    returns-2
-    put-within-requires
-    same-length
-    returns-3)
+    (λ c κs. search needs) (λ c κs. search needs) returns (λ c. search needs) returns-2 put-within-requires (λ c. search needs) returns-3)

@@ -3,17 +3,11 @@ use borrow.Author.Needs.{needs}
 use Rattle.report_plain.proofs.put_within.Statement.{statement}
 use Rattle.report_plain.proofs.put_within.Tie as tie
 
-unit-requires : tie.Need-unit-requires
-unit-requires c κs = search needs
-
 mul-x : tie.Need-mul-x
 mul-x c = search first-fits
 
 shared-slice-read-x : tie.Need-shared-slice-read-x
 shared-slice-read-x c = search first-in
-
-limit-requires : tie.Need-limit-requires
-limit-requires c κs = search needs
 
 returns : tie.Need-returns
 returns c = search followed-none
@@ -30,12 +24,6 @@ mul-put-alike c = search size-fits
 mul-put-alike-2 : tie.Need-mul-put-alike-2
 mul-put-alike-2 c = search end-fits
 
-put-alike-requires : tie.Need-put-alike-requires
-put-alike-requires c κs = search needs
-
-same-length : tie.Need-same-length
-same-length c = search needs
-
 returns-2 : tie.Need-returns-2
 returns-2 c = search followers-stored
 
@@ -43,15 +31,5 @@ pub put-within-spec : {M : Type 1} → statement M
 put-within-spec =
     tie.close
     (tie.spec
-    unit-requires
-    mul-x
-    shared-slice-read-x
-    limit-requires
-    returns
-    add-from
-    mul-from
-    mul-put-alike
-    mul-put-alike-2
-    put-alike-requires
-    same-length
-    returns-2)
+    (λ c κs. search needs) mul-x shared-slice-read-x (λ c κs. search needs) returns add-from mul-from mul-put-alike mul-put-alike-2
+    (λ c κs. search needs) (λ c. search needs) returns-2)

@@ -6,14 +6,8 @@ use borrow.Author.Needs.{needs}
 use Rattle.report_rows.proofs.put_number.Statement.{statement}
 use Rattle.report_rows.proofs.put_number.Tie as tie
 
-has-room-requires : tie.Need-has-room-requires
-has-room-requires c κs = search needs
-
 store4-requires : tie.Need-store4-requires
 store4-requires c κs = test-fits (now (c .before .before .before .before .args .out)) (c .before .before .before .before .args .at) 4 _ (c .before .before .has-room .ensures) (c .before .if1 .taken)
-
-same-length : tie.Need-same-length
-same-length c = search needs
 
 returns : tie.Need-returns
 unfolding be4
@@ -24,4 +18,5 @@ unfolding be4
 returns-2 c = test-left (now (c .before .before .before .args .out)) (c .before .before .before .args .at) 4 _ (c .before .has-room .ensures) _ refl (c .if1 .left)
 
 pub put-number-spec : {M : Type 1} → statement M
-put-number-spec = tie.close (tie.spec has-room-requires store4-requires same-length returns returns-2)
+put-number-spec =
+    tie.close (tie.spec (λ c κs. search needs) store4-requires (λ c. search needs) returns returns-2)

@@ -6,14 +6,8 @@ use borrow.Author.Needs.{needs}
 use Rattle.report_rows.proofs.put_refusal.Statement.{statement}
 use Rattle.report_rows.proofs.put_refusal.Tie as tie
 
-has-room-requires : tie.Need-has-room-requires
-has-room-requires c κs = search needs
-
 store-refusal-requires : tie.Need-store-refusal-requires
 store-refusal-requires c κs = test-fits (now (c .before .before .before .before .args .out)) (c .before .before .before .before .args .at) 9 _ (c .before .before .has-room .ensures) (c .before .if1 .taken)
-
-same-length : tie.Need-same-length
-same-length c = search needs
 
 returns : tie.Need-returns
 unfolding be4
@@ -25,4 +19,4 @@ returns-2 c = test-left (now (c .before .before .before .args .out)) (c .before 
 
 pub put-refusal-spec : {M : Type 1} → statement M
 put-refusal-spec =
-    tie.close (tie.spec has-room-requires store-refusal-requires same-length returns returns-2)
+    tie.close (tie.spec (λ c κs. search needs) store-refusal-requires (λ c. search needs) returns returns-2)

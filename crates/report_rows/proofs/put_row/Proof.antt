@@ -6,14 +6,8 @@ use borrow.Author.Needs.{needs}
 use Rattle.report_rows.proofs.put_row.Statement.{statement}
 use Rattle.report_rows.proofs.put_row.Tie as tie
 
-has-room-requires : tie.Need-has-room-requires
-has-room-requires c κs = search needs
-
 store-row-requires : tie.Need-store-row-requires
 store-row-requires c κs = test-fits (now (c .before .before .before .before .args .out)) (c .before .before .before .before .args .at) 9 _ (c .before .before .has-room .ensures) (c .before .if1 .taken)
-
-same-length : tie.Need-same-length
-same-length c = search needs
 
 returns : tie.Need-returns
 unfolding be4
@@ -24,4 +18,5 @@ unfolding be4
 returns-2 c = test-left (now (c .before .before .before .args .out)) (c .before .before .before .args .at) 9 _ (c .before .has-room .ensures) _ refl (c .if1 .left)
 
 pub put-row-spec : {M : Type 1} → statement M
-put-row-spec = tie.close (tie.spec has-room-requires store-row-requires same-length returns returns-2)
+put-row-spec =
+    tie.close (tie.spec (λ c κs. search needs) store-row-requires (λ c. search needs) returns returns-2)

@@ -6,14 +6,8 @@ use borrow.Author.Needs.{needs}
 use Rattle.report_rows.proofs.put_told.Statement.{statement}
 use Rattle.report_rows.proofs.put_told.Tie as tie
 
-has-room-requires : tie.Need-has-room-requires
-has-room-requires c κs = search needs
-
 store-told-requires : tie.Need-store-told-requires
 store-told-requires c κs = test-fits (now (c .before .before .before .before .args .out)) (c .before .before .before .before .args .at) 5 _ (c .before .before .has-room .ensures) (c .before .if1 .taken)
-
-same-length : tie.Need-same-length
-same-length c = search needs
 
 returns : tie.Need-returns
 unfolding be4
@@ -25,4 +19,4 @@ returns-2 c = test-left (now (c .before .before .before .args .out)) (c .before 
 
 pub put-told-spec : {M : Type 1} → statement M
 put-told-spec =
-    tie.close (tie.spec has-room-requires store-told-requires same-length returns returns-2)
+    tie.close (tie.spec (λ c κs. search needs) store-told-requires (λ c. search needs) returns returns-2)

@@ -6,18 +6,6 @@ use borrow.Author.Needs.{needs}
 use Rattle.report_rows.proofs.store_refusal.Statement.{statement}
 use Rattle.report_rows.proofs.store_refusal.Tie as tie
 
-store4-requires : tie.Need-store4-requires
-store4-requires c κs = search needs
-
-add-out : tie.Need-add-out
-add-out c = search needs
-
-slice-write-out : tie.Need-slice-write-out
-slice-write-out c = search needs
-
-add-store4 : tie.Need-add-store4
-add-store4 c = search needs
-
 store4-requires-2 : tie.Need-store4-requires-2
 store4-requires-2 c κs = simp length-set (omega arith)
 
@@ -31,4 +19,5 @@ returns c = simp (c .before .before .store42 .ensures, c .before .before .before
 pub store-refusal-spec : {M : Type 1} → statement M
 store-refusal-spec =
     tie.close
-    (tie.spec store4-requires add-out slice-write-out add-store4 store4-requires-2 same-length returns)
+    (tie.spec
+    (λ c κs. search needs) (λ c. search needs) (λ c. search needs) (λ c. search needs) store4-requires-2 same-length returns)

@@ -6,17 +6,8 @@ use Rattle.report_sizes.proofs.group_size.Tie as tie
 returns : tie.Need-returns
 returns c = (omega arith, λ l p. absurd (omega arith))
 
-units-requires : tie.Need-units-requires
-units-requires c κs = search needs
-
 returns-2 : tie.Need-returns-2
 returns-2 c = (omega arith, λ l p. absurd (omega arith))
-
-group-requires : tie.Need-group-requires
-group-requires c κs = search needs
-
-sub-if3 : tie.Need-sub-if3
-sub-if3 c = search needs
 
 returns-3 : tie.Need-returns-3
 returns-3 c = (omega arith, λ l p. absurd (omega arith))
@@ -26,5 +17,4 @@ returns-4 c = (omega (arith, c .before .before .before .units .ensures, c .if3 .
 
 pub group-size-spec : {M : Type 1} → statement M
 group-size-spec =
-    tie.close
-    (tie.spec returns units-requires returns-2 group-requires sub-if3 returns-3 returns-4)
+    tie.close (tie.spec returns (λ c κs. search needs) returns-2 (λ c κs. search needs) (λ c. search needs) returns-3 returns-4)

@@ -16,15 +16,6 @@ mul-wide c = let h = in-text _ _ _ (c .enum-told .given .1) (c .before .before .
 shared-slice-read-wide : tie.Need-shared-slice-read-wide
 shared-slice-read-wide c = omega (arith, in-text _ _ _ (c .before .enum-told .given .1) (c .before .before .before .before .pre))
 
-wide-requires : tie.Need-wide-requires
-wide-requires c κs = search needs
-
-element-copy-out-result : tie.Need-element-copy-out-result
-element-copy-out-result c = search needs
-
-enum-told-2 : tie.Need-enum-told-2
-enum-told-2 c = search needs
-
 mul-result : tie.Need-mul-result
 mul-result c = let h = in-binary _ _ _ (c .enum-told2 .given .1) (c .before .before .before .pre) in search needs
 
@@ -41,13 +32,5 @@ pub letter-spec : {M : Type 1} → statement M
 letter-spec =
     tie.close
     (tie.spec
-    enum-told
-    mul-wide
-    shared-slice-read-wide
-    wide-requires
-    element-copy-out-result
-    enum-told-2
-    mul-result
-    shared-slice-read-result
-    returns
-    returns-2)
+    enum-told mul-wide shared-slice-read-wide (λ c κs. search needs) (λ c. search needs) (λ c. search needs) mul-result
+    shared-slice-read-result returns returns-2)

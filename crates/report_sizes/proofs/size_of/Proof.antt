@@ -3,9 +3,6 @@ use borrow.Author.Needs.{needs}
 use Rattle.report_sizes.proofs.size_of.Statement.{statement}
 use Rattle.report_sizes.proofs.size_of.Tie as tie
 
-enum-known-f : tie.Need-enum-known-f
-enum-known-f c = search needs
-
 enum-told : tie.Need-enum-told
 enum-told c = search needs
 
@@ -18,4 +15,5 @@ unfolding sizeOf
 returns-2 c = rw (c .enum-told .given .1)
 
 pub size-of-spec : {M : Type 1} → statement M
-size-of-spec = tie.close (tie.spec enum-known-f enum-told returns returns-2)
+size-of-spec =
+    tie.close (tie.spec (λ c. search needs) enum-told returns returns-2)

@@ -8,17 +8,12 @@ use Rattle.report_sizes.proofs.told.Tie as tie
 returns : tie.Need-returns
 returns c = λ l K p h. absurd (omega arith)
 
-group-requires : tie.Need-group-requires
-group-requires c κs = search needs
-
 returns-2 : tie.Need-returns-2
 returns-2 c = λ l K. tells-group (domain (c .before .before .before .before .args .form) .sextets (c .before .before .before .before .args .s .now)) (c .before .before .before .before .args .at) (c .before .before .before .before .args .clean) _ (c .before .before .if1 .left) K (c .before .group .ensures l)
-
-sized-requires : tie.Need-sized-requires
-sized-requires c κs = search needs
 
 returns-3 : tie.Need-returns-3
 returns-3 c = λ l K. tells-sized (domain (c .before .before .before .before .before .args .form) .sextets (c .before .before .before .before .before .args .s .now)) (c .before .before .before .before .before .args .at) (c .before .before .before .before .before .args .clean) _ (c .before .before .before .if1 .left) K (c .sized .ensures l)
 
 pub told-spec : {M : Type 1} → statement M
-told-spec = tie.close (tie.spec returns group-requires returns-2 sized-requires returns-3)
+told-spec =
+    tie.close (tie.spec returns (λ c κs. search needs) returns-2 (λ c κs. search needs) returns-3)

@@ -4,35 +4,14 @@ use borrow.Author.Needs.{needs}
 use Rattle.report_turn.proofs.put_group.Statement.{statement}
 use Rattle.report_turn.proofs.put_group.Tie as tie
 
-group-accepted-requires : tie.Need-group-accepted-requires
-group-accepted-requires c κs = search needs
-
-mul-put-row : tie.Need-mul-put-row
-mul-put-row c = search needs
-
-add-put-row : tie.Need-add-put-row
-add-put-row c = search needs
-
 mul-put-row-2 : tie.Need-mul-put-row-2
 mul-put-row-2 c = let h = placed-fits (c .before .before .before .before .before .pre .0) in search needs
 
 mul-put-row-3 : tie.Need-mul-put-row-3
 mul-put-row-3 c = let h = sized-fits (c .before .before .before .before .before .pre .0) _ (c .before .before .before .before .before .pre .1) in search needs
 
-put-row-requires : tie.Need-put-row-requires
-put-row-requires c κs = search needs
-
-same-length : tie.Need-same-length
-same-length c = search needs
-
 returns : tie.Need-returns
 returns c = λ L K e Φ. good-turn Φ _ (c .before .before .before .before .before .group-accepted .ensures (Φ .few) L K e (c .before .before .before .before .if1 .taken)) _ (c .before .before .put-row .ensures)
-
-put-general-requires : tie.Need-put-general-requires
-put-general-requires c κs = search needs
-
-same-length-2 : tie.Need-same-length-2
-same-length-2 c = search needs
 
 returns-2 : tie.Need-returns-2
 returns-2 c = λ L K e. search turned-to
@@ -41,14 +20,5 @@ pub put-group-spec : {M : Type 1} → statement M
 put-group-spec =
     tie.close
     (tie.spec
-    group-accepted-requires
-    mul-put-row
-    add-put-row
-    mul-put-row-2
-    mul-put-row-3
-    put-row-requires
-    same-length
-    returns
-    put-general-requires
-    same-length-2
-    returns-2)
+    (λ c κs. search needs) (λ c. search needs) (λ c. search needs) mul-put-row-2 mul-put-row-3 (λ c κs. search needs) (λ c. search needs)
+    returns (λ c κs. search needs) (λ c. search needs) returns-2)

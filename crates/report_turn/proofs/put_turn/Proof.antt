@@ -5,17 +5,8 @@ use borrow.Author.Needs.{needs}
 use Rattle.report_turn.proofs.put_turn.Statement.{statement}
 use Rattle.report_turn.proofs.put_turn.Tie as tie
 
-is-place-requires : tie.Need-is-place-requires
-is-place-requires c κs = search needs
-
-unit-requires : tie.Need-unit-requires
-unit-requires c κs = search needs
-
 put-here-requires : tie.Need-put-here-requires
 put-here-requires c κs = placed-here (c .before .before .before .is-place .ensures) (c .before .before .if1 .taken) (omega arith) (c .before .unit .ensures)
-
-same-length : tie.Need-same-length
-same-length c = search needs
 
 returns : tie.Need-returns
 returns c = search by-unit
@@ -24,4 +15,5 @@ returns-2 : tie.Need-returns-2
 returns-2 c = record { right = λ L K Φ. absurd (c .before .is-place .ensures .not-placed (c .if1 .left) _ (search needs) Φ) }
 
 pub put-turn-spec : {M : Type 1} → statement M
-put-turn-spec = tie.close (tie.spec is-place-requires unit-requires put-here-requires same-length returns returns-2)
+put-turn-spec =
+    tie.close (tie.spec (λ c κs. search needs) (λ c κs. search needs) put-here-requires (λ c. search needs) returns returns-2)

@@ -6,9 +6,6 @@ use borrow.Author.Needs.{needs}
 use Rattle.runs.proofs.lettered.Statement.{statement}
 use Rattle.runs.proofs.lettered.Tie as tie
 
-counted-requires : tie.Need-counted-requires
-counted-requires c κs = search needs
-
 returns : tie.Need-returns
 unfolding lettered isGroup
 returns c = rw (lt-ltb _ _ (c .before .if1 .taken)) (c .counted .ensures)
@@ -18,4 +15,5 @@ unfolding lettered isGroup
 returns-2 c = rw (le-ltb _ _ (c .if1 .left))
 
 pub lettered-spec : {M : Type 1} → statement M
-lettered-spec = tie.close (tie.spec counted-requires returns returns-2)
+lettered-spec =
+    tie.close (tie.spec (λ c κs. search needs) returns returns-2)

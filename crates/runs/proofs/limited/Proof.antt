@@ -5,9 +5,6 @@ use borrow.Author.Needs.{needs}
 use Rattle.runs.proofs.limited.Statement.{statement}
 use Rattle.runs.proofs.limited.Tie as tie
 
-wide-requires : tie.Need-wide-requires
-wide-requires c κs = search needs
-
 returns : tie.Need-returns
 unfolding limited
 returns c = rw (lt-ltb _ _ (rw (c .before .wide .ensures .0) at (c .if1 .taken)))
@@ -17,4 +14,5 @@ unfolding limited
 returns-2 c = rw (le-ltb _ _ (rw (c .before .wide .ensures .0) at (c .if1 .left)))
 
 pub limited-spec : {M : Type 1} → statement M
-limited-spec = tie.close (tie.spec wide-requires returns returns-2)
+limited-spec =
+    tie.close (tie.spec (λ c κs. search needs) returns returns-2)

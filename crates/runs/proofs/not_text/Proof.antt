@@ -7,9 +7,6 @@ use borrow.Author.Needs.{needs}
 use Rattle.runs.proofs.not_text.Statement.{statement}
 use Rattle.runs.proofs.not_text.Tie as tie
 
-typed-requires : tie.Need-typed-requires
-typed-requires c κs = search needs
-
 returns : tie.Need-returns
 unfolding notText isText
 returns c = rw (eq-eqb (c .before .args .b) 0 (omega (arith, c .if1 .taken)))
@@ -19,4 +16,5 @@ unfolding notText isText
 returns-2 c = rw (ne-eqb (c .before .before .args .b) 0 (c .before .if1 .left)) (c .typed .ensures)
 
 pub not-text-spec : {M : Type 1} → statement M
-not-text-spec = tie.close (tie.spec typed-requires returns returns-2)
+not-text-spec =
+    tie.close (tie.spec (λ c κs. search needs) returns returns-2)

@@ -6,9 +6,6 @@ use borrow.Author.Needs.{needs}
 use Rattle.runs.proofs.row_aa.Statement.{statement}
 use Rattle.runs.proofs.row_aa.Tie as tie
 
-row-of-requires : tie.Need-row-of-requires
-row-of-requires c κs = search needs
-
 returns : tie.Need-returns
 unfolding rowAA
 returns c = (rw (eq-eqb _ _ (c .before .before .if1 .taken), eq-eqb _ _ (c .before .if2 .taken)) (c .row-of .ensures .0), c .row-of .ensures .1)
@@ -22,4 +19,5 @@ unfolding rowAA
 returns-3 c = (rw (ne-eqb _ _ (c .if1 .left)), omega arith)
 
 pub row-aa-spec : {M : Type 1} → statement M
-row-aa-spec = tie.close (tie.spec row-of-requires returns returns-2 returns-3)
+row-aa-spec =
+    tie.close (tie.spec (λ c κs. search needs) returns returns-2 returns-3)

@@ -7,22 +7,13 @@ use borrow.Author.Needs.{needs}
 use Rattle.runs.proofs.sized.Statement.{statement}
 use Rattle.runs.proofs.sized.Tie as tie
 
-row-of-requires : tie.Need-row-of-requires
-row-of-requires c κs = search needs
-
 returns : tie.Need-returns
 unfolding sizedOf
 returns c = rw (lt-ltb _ _ (c .before .if1 .taken)) (ap (λ (m : ℕ). m % 64) (c .row-of .ensures .0))
 
-row-of-requires-2 : tie.Need-row-of-requires-2
-row-of-requires-2 c κs = search needs
-
 returns-2 : tie.Need-returns-2
 unfolding sizedOf
 returns-2 c = rw (le-ltb _ _ (c .before .before .if1 .left), eq-eqb _ _ (c .before .if2 .taken)) (ap (λ (m : ℕ). m % 64) (c .row-of2 .ensures .0))
-
-row-aa-requires : tie.Need-row-aa-requires
-row-aa-requires c κs = search needs
 
 returns-3 : tie.Need-returns-3
 unfolding sizedOf
@@ -32,15 +23,9 @@ returns-4 : tie.Need-returns-4
 unfolding sizedOf
 returns-4 c = rw (le-ltb _ _ (c .before .before .before .if1 .left), ne-eqb _ _ (c .before .before .if2 .left), ne-eqb _ _ (c .before .if3 .left), lt-ltb _ _ (c .if4 .taken))
 
-typed-requires : tie.Need-typed-requires
-typed-requires c κs = search needs
-
 returns-5 : tie.Need-returns-5
 unfolding sizedOf
 returns-5 c = rw (le-ltb _ _ (c .before .before .before .before .before .if1 .left), ne-eqb _ _ (c .before .before .before .before .if2 .left), ne-eqb _ _ (c .before .before .before .if3 .left), le-ltb _ _ (c .before .before .if4 .left), lt-ltb _ _ (c .before .if5 .taken)) (c .typed .ensures)
-
-lettered-requires : tie.Need-lettered-requires
-lettered-requires c κs = search needs
 
 returns-6 : tie.Need-returns-6
 unfolding sizedOf
@@ -54,15 +39,5 @@ pub sized-spec : {M : Type 1} → statement M
 sized-spec =
     tie.close
     (tie.spec
-    row-of-requires
-    returns
-    row-of-requires-2
-    returns-2
-    row-aa-requires
-    returns-3
-    returns-4
-    typed-requires
-    returns-5
-    lettered-requires
-    returns-6
-    returns-7)
+    (λ c κs. search needs) returns (λ c κs. search needs) returns-2 (λ c κs. search needs) returns-3 returns-4 (λ c κs. search needs)
+    returns-5 (λ c κs. search needs) returns-6 returns-7)

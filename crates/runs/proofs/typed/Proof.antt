@@ -6,15 +6,9 @@ use borrow.Author.Needs.{needs}
 use Rattle.runs.proofs.typed.Statement.{statement}
 use Rattle.runs.proofs.typed.Tie as tie
 
-counted-requires : tie.Need-counted-requires
-counted-requires c κs = search needs
-
 returns : tie.Need-returns
 unfolding typed isType
 returns c = rw (lt-ltb _ _ (c .before .if1 .taken)) (c .counted .ensures)
-
-counted-requires-2 : tie.Need-counted-requires-2
-counted-requires-2 c κs = search needs
 
 returns-2 : tie.Need-returns-2
 unfolding typed isType
@@ -25,4 +19,5 @@ unfolding typed isType
 returns-3 c = rw (le-ltb _ _ (c .before .if1 .left), ne-eqb _ _ (c .if2 .left))
 
 pub typed-spec : {M : Type 1} → statement M
-typed-spec = tie.close (tie.spec counted-requires returns counted-requires-2 returns-2 returns-3)
+typed-spec =
+    tie.close (tie.spec (λ c κs. search needs) returns (λ c κs. search needs) returns-2 returns-3)

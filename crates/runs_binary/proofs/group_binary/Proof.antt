@@ -7,16 +7,6 @@ use Rattle.runs_binary.proofs.group_binary.Tie as tie
 returns : tie.Need-returns
 returns c = binary-past _ _ _ (c .if1 .taken)
 
-group-in-binary-requires : tie.Need-group-in-binary-requires
-group-in-binary-requires c κs = search needs
-
-returns-2 : tie.Need-returns-2
-returns-2 c = search needs
-
 pub group-binary-spec : {M : Type 1} → statement M
 group-binary-spec =
-    tie.close
-    (tie.spec
-    returns
-    group-in-binary-requires
-    returns-2)
+    tie.close (tie.spec returns (λ c κs. search needs) (λ c. search needs))

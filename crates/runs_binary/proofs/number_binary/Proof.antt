@@ -7,21 +7,6 @@ use Rattle.runs_binary.proofs.number_binary.Tie as tie
 returns : tie.Need-returns
 returns c = binary-past _ _ _ (c .if1 .taken)
 
-bytes-requires : tie.Need-bytes-requires
-bytes-requires c κs = search needs
-
-mul-result : tie.Need-mul-result
-mul-result c = search needs
-
-add-result : tie.Need-add-result
-add-result c = search needs
-
-mul-result-2 : tie.Need-mul-result-2
-mul-result-2 c = search needs
-
-add-result-2 : tie.Need-add-result-2
-add-result-2 c = search needs
-
 returns-2 : tie.Need-returns-2
 returns-2 c = number-unit _ _ (search needs) (search needs)
 
@@ -29,10 +14,4 @@ pub number-binary-spec : {M : Type 1} → statement M
 number-binary-spec =
     tie.close
     (tie.spec
-    returns
-    bytes-requires
-    mul-result
-    add-result
-    mul-result-2
-    add-result-2
-    returns-2)
+    returns (λ c κs. search needs) (λ c. search needs) (λ c. search needs) (λ c. search needs) (λ c. search needs) returns-2)

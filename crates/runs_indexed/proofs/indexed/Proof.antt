@@ -5,15 +5,9 @@ use borrow.Author.Needs.{needs}
 use Rattle.runs_indexed.proofs.indexed.Statement.{statement}
 use Rattle.runs_indexed.proofs.indexed.Tie as tie
 
-lettered-requires : tie.Need-lettered-requires
-lettered-requires c κs = search needs
-
 returns : tie.Need-returns
 unfolding indexedOf
 returns c = simp (lt-ltb _ _ (c .before .if1 .taken)) (c .lettered .ensures)
-
-zeroed-requires : tie.Need-zeroed-requires
-zeroed-requires c κs = search needs
 
 returns-2 : tie.Need-returns-2
 unfolding indexedOf
@@ -24,4 +18,5 @@ unfolding indexedOf
 returns-3 c = simp (le-ltb _ _ (c .before .if1 .left), ne-eqb _ _ (c .if2 .left))
 
 pub indexed-spec : {M : Type 1} → statement M
-indexed-spec = tie.close (tie.spec lettered-requires returns zeroed-requires returns-2 returns-3)
+indexed-spec =
+    tie.close (tie.spec (λ c κs. search needs) returns (λ c κs. search needs) returns-2 returns-3)

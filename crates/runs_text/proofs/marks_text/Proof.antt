@@ -9,25 +9,10 @@ returns : tie.Need-returns
 unfolding marksBy
 returns c = rw (le-ltb _ _ (c .if1 .taken))
 
-mul-value : tie.Need-mul-value
-mul-value c = search needs
-
-add-value : tie.Need-add-value
-add-value c = search needs
-
-value-requires : tie.Need-value-requires
-value-requires c κs = search needs
-
 returns-2 : tie.Need-returns-2
 unfolding marksBy
 returns-2 c = rw (lt-ltb _ _ (c .before .if1 .left), c .value .ensures)
 
 pub marks-text-spec : {M : Type 1} → statement M
 marks-text-spec =
-    tie.close
-    (tie.spec
-    returns
-    mul-value
-    add-value
-    value-requires
-    returns-2)
+    tie.close (tie.spec returns (λ c. search needs) (λ c. search needs) (λ c κs. search needs) returns-2)

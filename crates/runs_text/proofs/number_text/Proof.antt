@@ -8,20 +8,9 @@ use Rattle.runs_text.proofs.number_text.Tie as tie
 returns : tie.Need-returns
 returns c = text-past _ _ _ _ (c .if1 .taken)
 
-unit-requires : tie.Need-unit-requires
-unit-requires c κs = search needs
-
-number-requires : tie.Need-number-requires
-number-requires c κs = search needs
-
 returns-2 : tie.Need-returns-2
 returns-2 c = c .number .ensures ∙ c .before .unit .ensures _
 
 pub number-text-spec : {M : Type 1} → statement M
 number-text-spec =
-    tie.close
-    (tie.spec
-    returns
-    unit-requires
-    number-requires
-    returns-2)
+    tie.close (tie.spec returns (λ c κs. search needs) (λ c κs. search needs) returns-2)

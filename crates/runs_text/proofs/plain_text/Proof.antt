@@ -8,20 +8,9 @@ use Rattle.runs_text.proofs.plain_text.Tie as tie
 returns : tie.Need-returns
 returns c = text-past _ _ _ _ (c .if1 .taken)
 
-unit-requires : tie.Need-unit-requires
-unit-requires c κs = search needs
-
-plain-requires : tie.Need-plain-requires
-plain-requires c κs = search needs
-
 returns-2 : tie.Need-returns-2
 returns-2 c = c .plain .ensures ∙ c .before .unit .ensures _
 
 pub plain-text-spec : {M : Type 1} → statement M
 plain-text-spec =
-    tie.close
-    (tie.spec
-    returns
-    unit-requires
-    plain-requires
-    returns-2)
+    tie.close (tie.spec returns (λ c κs. search needs) (λ c κs. search needs) returns-2)

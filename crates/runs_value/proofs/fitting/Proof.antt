@@ -5,9 +5,6 @@ use borrow.Author.Needs.{needs}
 use Rattle.runs_value.proofs.fitting.Statement.{statement}
 use Rattle.runs_value.proofs.fitting.Tie as tie
 
-value-fits-requires : tie.Need-value-fits-requires
-value-fits-requires c κs = search needs
-
 returns : tie.Need-returns
 unfolding fitting
 returns c = rw (sym (c .before .value-fits .ensures) ∙ c .if1 .taken)
@@ -17,4 +14,5 @@ unfolding fitting
 returns-2 c = rw (sym (c .before .value-fits .ensures) ∙ c .if1 .left)
 
 pub fitting-spec : {M : Type 1} → statement M
-fitting-spec = tie.close (tie.spec value-fits-requires returns returns-2)
+fitting-spec =
+    tie.close (tie.spec (λ c κs. search needs) returns returns-2)

@@ -6,12 +6,6 @@ use borrow.Author.Needs.{needs}
 use Rattle.runs_value.proofs.unit_fits.Statement.{statement}
 use Rattle.runs_value.proofs.unit_fits.Tie as tie
 
-text-fits-requires : tie.Need-text-fits-requires
-text-fits-requires c κs = search needs
-
-bytes-fit-requires : tie.Need-bytes-fit-requires
-bytes-fit-requires c κs = search needs
-
 returns : tie.Need-returns
 unfolding unitFits isText
 returns c = rw (eq-eqb _ _ (c .before .if1 .taken)) (c .text-fits .ensures)
@@ -21,4 +15,5 @@ unfolding unitFits isText
 returns-2 c = rw (ne-eqb _ _ (c .before .if1 .left)) (c .bytes-fit .ensures)
 
 pub unit-fits-spec : {M : Type 1} → statement M
-unit-fits-spec = tie.close (tie.spec text-fits-requires bytes-fit-requires returns returns-2)
+unit-fits-spec =
+    tie.close (tie.spec (λ c κs. search needs) (λ c κs. search needs) returns returns-2)

@@ -5,9 +5,6 @@ use borrow.Author.Needs.{needs}
 use Rattle.runs_value.proofs.value_fits.Statement.{statement}
 use Rattle.runs_value.proofs.value_fits.Tie as tie
 
-unit-fits-requires : tie.Need-unit-fits-requires
-unit-fits-requires c κs = search needs
-
 returns : tie.Need-returns
 unfolding valueFits
 returns c = rw (lt-ltb _ _ (c .before .if1 .taken)) (c .unit-fits .ensures)
@@ -17,4 +14,5 @@ unfolding valueFits
 returns-2 c = rw (le-ltb _ _ (c .if1 .left))
 
 pub value-fits-spec : {M : Type 1} → statement M
-value-fits-spec = tie.close (tie.spec unit-fits-requires returns returns-2)
+value-fits-spec =
+    tie.close (tie.spec (λ c κs. search needs) returns returns-2)

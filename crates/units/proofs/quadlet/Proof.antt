@@ -4,29 +4,14 @@ use borrow.Author.Needs.{needs}
 use Rattle.units.proofs.quadlet.Statement.{statement}
 use Rattle.units.proofs.quadlet.Tie as tie
 
-unpack-requires : tie.Need-unpack-requires
-unpack-requires c κs = search needs
-
-array-read-character : tie.Need-array-read-character
-array-read-character c = search needs
-
 character-requires : tie.Need-character-requires
 character-requires c κs = sextet-below _ _ (c .unpack .ensures) _ (search needs)
-
-array-read-character-2 : tie.Need-array-read-character-2
-array-read-character-2 c = search needs
 
 character-requires-2 : tie.Need-character-requires-2
 character-requires-2 c κs = sextet-below _ _ (c .before .unpack .ensures) _ (search needs)
 
-array-read-character-3 : tie.Need-array-read-character-3
-array-read-character-3 c = search needs
-
 character-requires-3 : tie.Need-character-requires-3
 character-requires-3 c κs = sextet-below _ _ (c .before .before .unpack .ensures) _ (search needs)
-
-array-read-character-4 : tie.Need-array-read-character-4
-array-read-character-4 c = search needs
 
 character-requires-4 : tie.Need-character-requires-4
 character-requires-4 c κs = sextet-below _ _ (c .before .before .before .unpack .ensures) _ (search needs)
@@ -41,13 +26,5 @@ pub quadlet-spec : {M : Type 1} → statement M
 quadlet-spec =
     tie.close
     (tie.spec
-    unpack-requires
-    array-read-character
-    character-requires
-    array-read-character-2
-    character-requires-2
-    array-read-character-3
-    character-requires-3
-    array-read-character-4
-    character-requires-4
-    returns)
+    (λ c κs. search needs) (λ c. search needs) character-requires (λ c. search needs) character-requires-2 (λ c. search needs)
+    character-requires-3 (λ c. search needs) character-requires-4 returns)

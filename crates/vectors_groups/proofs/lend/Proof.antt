@@ -9,36 +9,16 @@ use Rattle.vectors_groups.proofs.copied.Reads as copied-reads
 use Rattle.vectors_groups.proofs.space.Reads as space-reads
 
 -- src/main.rt:50:22
-space-requires : tie.Need-space-requires
-space-requires c κs = search needs
-
 -- src/main.rt:53:43
-array-borrow-prefix-buffer : tie.Need-array-borrow-prefix-buffer
-array-borrow-prefix-buffer c = search needs
-
 -- src/main.rt:53:43
 slice-aggregate-copied : tie.Need-slice-aggregate-copied
 slice-aggregate-copied c = sym (length-take-le (c .before .before .before .before .args .room) (c .before .before .space .result) (search needs))
 
 -- src/main.rt:53:9
-copied-requires : tie.Need-copied-requires
-copied-requires c κs = search needs
-
 -- src/main.rt:49:1
-returns : tie.Need-returns
-returns c = search needs
-
 -- src/main.rt:49:1
-returns-2 : tie.Need-returns-2
-returns-2 c = search needs
-
 pub lend-spec : {M : Type 1} → statement M
 lend-spec =
     tie.close
     (tie.spec
-    space-requires
-    array-borrow-prefix-buffer
-    slice-aggregate-copied
-    copied-requires
-    returns
-    returns-2)
+    (λ c κs. search needs) (λ c. search needs) slice-aggregate-copied (λ c κs. search needs) (λ c. search needs) (λ c. search needs))

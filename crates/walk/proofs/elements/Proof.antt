@@ -6,15 +6,6 @@ use Rattle.walk.proofs.elements.Tie as tie
 enum-told : tie.Need-enum-told
 enum-told c = search needs
 
-mul-result : tie.Need-mul-result
-mul-result c = search needs
-
-enum-told-2 : tie.Need-enum-told-2
-enum-told-2 c = search needs
-
-mul-result-2 : tie.Need-mul-result-2
-mul-result-2 c = search needs
-
 returns : tie.Need-returns
 returns c = rw (c .enum-told .given .1)
 
@@ -23,4 +14,4 @@ returns-2 c = rw (c .enum-told2 .given .1)
 
 pub elements-spec : {M : Type 1} → statement M
 elements-spec =
-    tie.close (tie.spec enum-told mul-result enum-told-2 mul-result-2 returns returns-2)
+    tie.close (tie.spec enum-told (λ c. search needs) (λ c. search needs) (λ c. search needs) returns returns-2)

@@ -4,20 +4,11 @@ use borrow.Author.Needs.{needs}
 use Rattle.walk.proofs.found_in.Statement.{statement}
 use Rattle.walk.proofs.found_in.Tie as tie
 
-enum-known-found : tie.Need-enum-known-found
-enum-known-found c = search needs
-
 elements-requires : tie.Need-elements-requires
 elements-requires c κs = let r = rw (c .before .found .given .1) at (c .before .before .before .pre) in r .0
 
 elements-requires-2 : tie.Need-elements-requires-2
 elements-requires-2 c κs = let r = rw (c .before .before .found .given .1) at (c .before .before .before .before .pre) in r .1
-
-enum-known-found-2 : tie.Need-enum-known-found-2
-enum-known-found-2 c = search needs
-
-place-in-requires : tie.Need-place-in-requires
-place-in-requires c κs = search needs
 
 enum-told : tie.Need-enum-told
 enum-told c = search needs
@@ -38,12 +29,5 @@ pub found-in-spec : {M : Type 1} → statement M
 found-in-spec =
     tie.close
     (tie.spec
-    enum-known-found
-    elements-requires
-    elements-requires-2
-    enum-known-found-2
-    place-in-requires
-    enum-told
-    returns
-    returns-2
+    (λ c. search needs) elements-requires elements-requires-2 (λ c. search needs) (λ c κs. search needs) enum-told returns returns-2
     returns-3)

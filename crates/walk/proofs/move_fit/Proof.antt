@@ -9,23 +9,8 @@ use borrow.Author.Needs.{needs}
 use Rattle.walk.proofs.move_fit.Statement.{statement}
 use Rattle.walk.proofs.move_fit.Tie as tie
 
-refused-requires : tie.Need-refused-requires
-refused-requires c κs = search needs
-
 returns : tie.Need-returns
 returns c = λ l f. absurd (omega arith)
-
-measured-requires : tie.Need-measured-requires
-measured-requires c κs = search needs
-
-is-near-requires : tie.Need-is-near-requires
-is-near-requires c κs = search needs
-
-refused-requires-2 : tie.Need-refused-requires-2
-refused-requires-2 c κs = search needs
-
-same-length : tie.Need-same-length
-same-length c = search needs
 
 returns-2 : tie.Need-returns-2
 returns-2 c =
@@ -37,9 +22,6 @@ move-near-requires c κs =
     let t = c .before .before in
     (search needs, near-is _ _ _ _ (t .before .before .measured .ensures) (sym (t .is-near .ensures (search needs)) ∙ not-false _ (c .before .if2 .left)))
 
-same-length-2 : tie.Need-same-length-2
-same-length-2 c = search needs
-
 returns-3 : tie.Need-returns-3
 returns-3 c =
     let t = c .before .before in
@@ -49,13 +31,5 @@ pub move-fit-spec : {M : Type 1} → statement M
 move-fit-spec =
     tie.close
     (tie.spec
-    refused-requires
-    returns
-    measured-requires
-    is-near-requires
-    refused-requires-2
-    same-length
-    returns-2
-    move-near-requires
-    same-length-2
-    returns-3)
+    (λ c κs. search needs) returns (λ c κs. search needs) (λ c κs. search needs) (λ c κs. search needs) (λ c. search needs) returns-2
+    move-near-requires (λ c. search needs) returns-3)

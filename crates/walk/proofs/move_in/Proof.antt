@@ -8,29 +8,11 @@ use borrow.Author.Needs.{needs}
 use Rattle.walk.proofs.move_in.Statement.{statement}
 use Rattle.walk.proofs.move_in.Tie as tie
 
-refused-requires : tie.Need-refused-requires
-refused-requires c κs = search needs
-
 returns : tie.Need-returns
 returns c = λ l. absurd (omega arith)
 
-measured-requires : tie.Need-measured-requires
-measured-requires c κs = search needs
-
-refused-requires-2 : tie.Need-refused-requires-2
-refused-requires-2 c κs = search needs
-
 returns-2 : tie.Need-returns-2
 returns-2 c = λ l. too-long _ _ _ (c .before .before .measured .ensures) _ _ (c .before .if2 .taken) (c .refused2 .ensures)
-
-is-fit-requires : tie.Need-is-fit-requires
-is-fit-requires c κs = search needs
-
-refused-requires-3 : tie.Need-refused-requires-3
-refused-requires-3 c κs = search needs
-
-same-length : tie.Need-same-length
-same-length c = search needs
 
 returns-3 : tie.Need-returns-3
 returns-3 c =
@@ -46,9 +28,6 @@ move-near-requires c κs =
     let f = sym (t .is-fit .ensures (search needs)) ∙ not-false _ (c .before .if3 .left) in
     (search needs, fit-near _ _ _ (fits _ _ _ (m .measured .ensures) (a .slots .now) (a .p) (t .before .before .if2 .left) f) (m .measured .ensures .units))
 
-same-length-2 : tie.Need-same-length-2
-same-length-2 c = search needs
-
 returns-4 : tie.Need-returns-4
 returns-4 c =
     let t = c .before .before .before .before .before in
@@ -62,15 +41,5 @@ pub move-in-spec : {M : Type 1} → statement M
 move-in-spec =
     tie.close
     (tie.spec
-    refused-requires
-    returns
-    measured-requires
-    refused-requires-2
-    returns-2
-    is-fit-requires
-    refused-requires-3
-    same-length
-    returns-3
-    move-near-requires
-    same-length-2
-    returns-4)
+    (λ c κs. search needs) returns (λ c κs. search needs) (λ c κs. search needs) returns-2 (λ c κs. search needs) (λ c κs. search needs)
+    (λ c. search needs) returns-3 move-near-requires (λ c. search needs) returns-4)

@@ -10,9 +10,6 @@ ended-requires c κs = at-near _ _ _ _ (c .before .before .before .before .pre .
 returns : tie.Need-returns
 returns c = ends _ _ _ _ _ (c .before .before .before .before .before .pre .1) _ (c .before .if1 .taken) (c .ended .ensures)
 
-stop-requires : tie.Need-stop-requires
-stop-requires c κs = search needs
-
 next-item-requires : tie.Need-next-item-requires
 next-item-requires c κs = let p = c .before .before .before .before .before .before .pre in spans _ _ _ _ (p .1) (c .before .before .if1 .left) _ (c .stop .ensures (p .0))
 
@@ -23,9 +20,6 @@ yielded-requires c κs =
     let s = c .before .before .stop .ensures (p .0) in
     (p .0, spans _ _ _ _ (p .1) ne _ s .slots, at-near _ _ _ _ (p .1), goes-ready _ _ _ _ (p .1) ne _ s _ (c .before .next-item .ensures))
 
-same-length : tie.Need-same-length
-same-length c = search needs
-
 returns-2 : tie.Need-returns-2
 returns-2 c =
     let s = c .before .before .before .before .before in
@@ -34,12 +28,4 @@ returns-2 c =
 
 pub move-units-spec : {M : Type 1} → statement M
 move-units-spec =
-    tie.close
-    (tie.spec
-    ended-requires
-    returns
-    stop-requires
-    next-item-requires
-    yielded-requires
-    same-length
-    returns-2)
+    tie.close (tie.spec ended-requires returns (λ c κs. search needs) next-item-requires yielded-requires (λ c. search needs) returns-2)

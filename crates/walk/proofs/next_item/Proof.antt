@@ -4,12 +4,6 @@ use borrow.Author.Needs.{needs}
 use Rattle.walk.proofs.next_item.Statement.{statement}
 use Rattle.walk.proofs.next_item.Tie as tie
 
-is-asked-requires : tie.Need-is-asked-requires
-is-asked-requires c κs = search needs
-
-sub-levels : tie.Need-sub-levels
-sub-levels c = search needs
-
 enum-told : tie.Need-enum-told
 enum-told c = search needs
 
@@ -19,20 +13,8 @@ mul-from c = let p = rw (c .enum-told .given .1) at (c .before .before .before .
 mul-to : tie.Need-mul-to
 mul-to c = let p = rw (c .enum-told .given .1) at (c .before .before .before .before .before .pre) in search needs
 
-sub-next-text : tie.Need-sub-next-text
-sub-next-text c = search needs
-
-part-next-text-start : tie.Need-part-next-text-start
-part-next-text-start c = search needs
-
 part-next-text-end : tie.Need-part-next-text-end
 part-next-text-end c = let p = rw (c .enum-told .given .1) at (c .before .before .before .before .before .pre) in search needs
-
-next-text-requires : tie.Need-next-text-requires
-next-text-requires c κs = search needs
-
-enum-told-2 : tie.Need-enum-told-2
-enum-told-2 c = search needs
 
 mul-from-2 : tie.Need-mul-from-2
 mul-from-2 c = let p = rw (c .enum-told2 .given .1) at (c .before .before .before .before .before .pre) in search needs
@@ -40,17 +22,8 @@ mul-from-2 c = let p = rw (c .enum-told2 .given .1) at (c .before .before .befor
 mul-to-2 : tie.Need-mul-to-2
 mul-to-2 c = let p = rw (c .enum-told2 .given .1) at (c .before .before .before .before .before .pre) in search needs
 
-sub-next-binary : tie.Need-sub-next-binary
-sub-next-binary c = search needs
-
-part-next-binary-start : tie.Need-part-next-binary-start
-part-next-binary-start c = search needs
-
 part-next-binary-end : tie.Need-part-next-binary-end
 part-next-binary-end c = let p = rw (c .enum-told2 .given .1) at (c .before .before .before .before .before .pre) in search needs
-
-next-binary-requires : tie.Need-next-binary-requires
-next-binary-requires c κs = search needs
 
 returns : tie.Need-returns
 returns c =
@@ -72,21 +45,6 @@ pub next-item-spec : {M : Type 1} → statement M
 next-item-spec =
     tie.close
     (tie.spec
-    is-asked-requires
-    sub-levels
-    enum-told
-    mul-from
-    mul-to
-    sub-next-text
-    part-next-text-start
-    part-next-text-end
-    next-text-requires
-    enum-told-2
-    mul-from-2
-    mul-to-2
-    sub-next-binary
-    part-next-binary-start
-    part-next-binary-end
-    next-binary-requires
-    returns
-    returns-2)
+    (λ c κs. search needs) (λ c. search needs) enum-told mul-from mul-to (λ c. search needs) (λ c. search needs) part-next-text-end
+    (λ c κs. search needs) (λ c. search needs) mul-from-2 mul-to-2 (λ c. search needs) (λ c. search needs) part-next-binary-end
+    (λ c κs. search needs) returns returns-2)

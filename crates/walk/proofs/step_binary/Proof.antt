@@ -4,15 +4,10 @@ use borrow.Author.Needs.{needs}
 use Rattle.walk.proofs.step_binary.Statement.{statement}
 use Rattle.walk.proofs.step_binary.Tie as tie
 
-step-in-requires : tie.Need-step-in-requires
-step-in-requires c κs = search needs
-
-binary-item-requires : tie.Need-binary-item-requires
-binary-item-requires c κs = search needs
-
 returns : tie.Need-returns
 unfolding binaryStep
 returns c = rw (c .binary-item .ensures, c .before .before .step-in .ensures)
 
 pub step-binary-spec : {M : Type 1} → statement M
-step-binary-spec = tie.close (tie.spec step-in-requires binary-item-requires returns)
+step-binary-spec =
+    tie.close (tie.spec (λ c κs. search needs) (λ c κs. search needs) returns)

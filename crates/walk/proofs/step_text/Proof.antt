@@ -4,15 +4,10 @@ use borrow.Author.Needs.{needs}
 use Rattle.walk.proofs.step_text.Statement.{statement}
 use Rattle.walk.proofs.step_text.Tie as tie
 
-step-in-requires : tie.Need-step-in-requires
-step-in-requires c κs = search needs
-
-text-item-requires : tie.Need-text-item-requires
-text-item-requires c κs = search needs
-
 returns : tie.Need-returns
 unfolding textStep
 returns c = rw (c .text-item .ensures, c .before .before .step-in .ensures)
 
 pub step-text-spec : {M : Type 1} → statement M
-step-text-spec = tie.close (tie.spec step-in-requires text-item-requires returns)
+step-text-spec =
+    tie.close (tie.spec (λ c κs. search needs) (λ c κs. search needs) returns)

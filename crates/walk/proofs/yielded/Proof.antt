@@ -5,26 +5,8 @@ use borrow.Author.Needs.{needs}
 use Rattle.walk.proofs.yielded.Statement.{statement}
 use Rattle.walk.proofs.yielded.Tie as tie
 
-enum-known-item : tie.Need-enum-known-item
-enum-known-item c = search needs
-
-mul-t16 : tie.Need-mul-t16
-mul-t16 c = search needs
-
 add-t17 : tie.Need-add-t17
 add-t17 c = let r = rw (c .before .item .given .1) at (c .before .before .before .before .pre .3) in omega (arith, c .before .before .before .before .pre .2)
-
-enum-known-item-2 : tie.Need-enum-known-item-2
-enum-known-item-2 c = search needs
-
-is-entered-requires : tie.Need-is-entered-requires
-is-entered-requires c κs = search needs
-
-is-ruled-requires : tie.Need-is-ruled-requires
-is-ruled-requires c κs = search needs
-
-holds-indexed-requires : tie.Need-holds-indexed-requires
-holds-indexed-requires c κs = search needs
 
 add-advance : tie.Need-add-advance
 add-advance c = let p = c .before .before .before .before .before .before .before .before .pre in let r = rw (c .before .before .before .before .before .item2 .given .1) at (p .3) in omega (arith, p .2)
@@ -32,14 +14,8 @@ add-advance c = let p = c .before .before .before .before .before .before .befor
 add-advance-2 : tie.Need-add-advance-2
 add-advance-2 c = let p = c .before .before .before .before .before .before .before .before .pre in let r = rw (c .before .before .before .before .before .item2 .given .1) at (p .3) in omega (arith, p .2)
 
-advance-requires : tie.Need-advance-requires
-advance-requires c κs = search needs
-
 returns : tie.Need-returns
 returns c = rw (c .before .item .given .1) (told-refused _ _ _ _)
-
-same-length : tie.Need-same-length
-same-length c = search needs
 
 returns-2 : tie.Need-returns-2
 returns-2 c =
@@ -55,16 +31,5 @@ pub yielded-spec : {M : Type 1} → statement M
 yielded-spec =
     tie.close
     (tie.spec
-    enum-known-item
-    mul-t16
-    add-t17
-    enum-known-item-2
-    is-entered-requires
-    is-ruled-requires
-    holds-indexed-requires
-    add-advance
-    add-advance-2
-    advance-requires
-    returns
-    same-length
-    returns-2)
+    (λ c. search needs) (λ c. search needs) add-t17 (λ c. search needs) (λ c κs. search needs) (λ c κs. search needs) (λ c κs. search needs)
+    add-advance add-advance-2 (λ c κs. search needs) returns (λ c. search needs) returns-2)

@@ -3,14 +3,9 @@ use borrow.Author.Needs.{needs}
 use Rattle.walk_count.proofs.rest_binary.Statement.{statement}
 use Rattle.walk_count.proofs.rest_binary.Tie as tie
 
-rest-in-requires : tie.Need-rest-in-requires
-rest-in-requires c κs = search needs
-
-binary-end-requires : tie.Need-binary-end-requires
-binary-end-requires c κs = search needs
-
 returns : tie.Need-returns
 returns c = rw (c .binary-end .ensures, c .before .rest-in .ensures)
 
 pub rest-binary-spec : {M : Type 1} → statement M
-rest-binary-spec = tie.close (tie.spec rest-in-requires binary-end-requires returns)
+rest-binary-spec =
+    tie.close (tie.spec (λ c κs. search needs) (λ c κs. search needs) returns)

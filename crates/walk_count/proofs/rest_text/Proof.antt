@@ -3,14 +3,9 @@ use borrow.Author.Needs.{needs}
 use Rattle.walk_count.proofs.rest_text.Statement.{statement}
 use Rattle.walk_count.proofs.rest_text.Tie as tie
 
-rest-in-requires : tie.Need-rest-in-requires
-rest-in-requires c κs = search needs
-
-text-end-requires : tie.Need-text-end-requires
-text-end-requires c κs = search needs
-
 returns : tie.Need-returns
 returns c = rw (c .text-end .ensures, c .before .rest-in .ensures)
 
 pub rest-text-spec : {M : Type 1} → statement M
-rest-text-spec = tie.close (tie.spec rest-in-requires text-end-requires returns)
+rest-text-spec =
+    tie.close (tie.spec (λ c κs. search needs) (λ c κs. search needs) returns)

@@ -10,9 +10,6 @@ returns c = λ l. near-over _ _ (c .if1 .taken)
 returns-2 : tie.Need-returns-2
 returns-2 c = λ l. near-many _ _ (c .before .before .if1 .left) (search needs)
 
-stop-requires : tie.Need-stop-requires
-stop-requires c κs = search needs
-
 returns-3 : tie.Need-returns-3
 returns-3 c = λ l. near-behind _ _ (c .before .before .before .before .before .if1 .left) (search needs) (c .before .before .stop .ensures l) (search needs)
 
@@ -22,4 +19,5 @@ returns-4 c =
     λ l. near-last _ _ (t .before .before .before .if1 .left) (search needs) (t .stop .ensures l) (search needs)
 
 pub is-near-spec : {M : Type 1} → statement M
-is-near-spec = tie.close (tie.spec returns returns-2 stop-requires returns-3 returns-4)
+is-near-spec =
+    tie.close (tie.spec returns returns-2 (λ c κs. search needs) returns-3 returns-4)

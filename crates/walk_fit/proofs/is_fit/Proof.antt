@@ -15,9 +15,6 @@ returns-2 c = let a = c .before .before .before .args in λ l. fit-many (a .slot
 returns-3 : tie.Need-returns-3
 returns-3 c = let a = c .before .before .before .before .before .args in λ l. fit-past (a .slots .now) (a .p) (a .n) (search needs) (search needs)
 
-slots-fit-requires : tie.Need-slots-fit-requires
-slots-fit-requires c κs = search needs
-
 returns-4 : tie.Need-returns-4
 returns-4 c = let a = c .before .before .before .before .before .before .before .args in λ l. fit-slots (a .slots .now) (a .p) (a .n) (search needs) (search needs) (c .before .slots-fit .ensures) (not-true _ (c .if4 .taken))
 
@@ -33,15 +30,6 @@ returns-6 c =
     let a = t .before .before .before .before .before .before .args in
     λ l. fit-top (a .slots .now) (a .p) (a .n) (search needs) (search needs) (t .slots-fit .ensures) (not-false _ (c .before .before .before .if4 .left)) (c .before .before .if5 .taken) (c .before .if6 .left)
 
-sub-inner : tie.Need-sub-inner
-sub-inner c = search needs
-
-mul-inner : tie.Need-mul-inner
-mul-inner c = search needs
-
-shared-slice-read-inner : tie.Need-shared-slice-read-inner
-shared-slice-read-inner c = search needs
-
 returns-7 : tie.Need-returns-7
 returns-7 c = let a = c .before .before .before .before .before .before .before .before .before .before .args in λ l. fit-inner (a .slots .now) (a .p) (a .n) (search needs) (search needs) (c .before .before .before .before .slots-fit .ensures) (not-false _ (c .before .before .before .if4 .left)) (c .before .before .if5 .left)
 
@@ -49,14 +37,5 @@ pub is-fit-spec : {M : Type 1} → statement M
 is-fit-spec =
     tie.close
     (tie.spec
-    returns
-    returns-2
-    returns-3
-    slots-fit-requires
-    returns-4
-    returns-5
-    returns-6
-    sub-inner
-    mul-inner
-    shared-slice-read-inner
-    returns-7)
+    returns returns-2 returns-3 (λ c κs. search needs) returns-4 returns-5 returns-6 (λ c. search needs) (λ c. search needs)
+    (λ c. search needs) returns-7)

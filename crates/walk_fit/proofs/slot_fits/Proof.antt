@@ -8,12 +8,6 @@ use borrow.Author.Needs.{needs}
 use Rattle.walk_fit.proofs.slot_fits.Statement.{statement}
 use Rattle.walk_fit.proofs.slot_fits.Tie as tie
 
-mul-end : tie.Need-mul-end
-mul-end c = search needs
-
-shared-slice-read-end : tie.Need-shared-slice-read-end
-shared-slice-read-end c = search needs
-
 returns : tie.Need-returns
 unfolding slotFits
 returns c = let a = c .before .before in rw (le-ltb _ _ (c .if1 .taken), slot-at (a .args .slots .now) (a .args .k) (a .pre .0))
@@ -21,15 +15,6 @@ returns c = let a = c .before .before in rw (le-ltb _ _ (c .if1 .taken), slot-at
 returns-2 : tie.Need-returns-2
 unfolding slotFits
 returns-2 c = let a = c .before .before .before in rw (lt-ltb _ _ (c .before .if1 .left), eq-eqb _ _ (c .if2 .taken), slot-at (a .args .slots .now) (a .args .k) (a .pre .0))
-
-sub-outer : tie.Need-sub-outer
-sub-outer c = search needs
-
-mul-outer : tie.Need-mul-outer
-mul-outer c = search needs
-
-shared-slice-read-outer : tie.Need-shared-slice-read-outer
-shared-slice-read-outer c = search needs
 
 returns-3 : tie.Need-returns-3
 unfolding slotFits
@@ -41,11 +26,4 @@ pub slot-fits-spec : {M : Type 1} → statement M
 slot-fits-spec =
     tie.close
     (tie.spec
-    mul-end
-    shared-slice-read-end
-    returns
-    returns-2
-    sub-outer
-    mul-outer
-    shared-slice-read-outer
-    returns-3)
+    (λ c. search needs) (λ c. search needs) returns returns-2 (λ c. search needs) (λ c. search needs) (λ c. search needs) returns-3)

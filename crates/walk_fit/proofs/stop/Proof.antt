@@ -23,18 +23,6 @@ returns-2 c = λ l.
     let s = c .before .before .args .slots .now in
     rw (ne-eqb _ _ (c .before .if1 .left)) (sym (List·getD-eq-default (slotsIn s) 0 (omega (arith, length-take-le maxDepth s l))))
 
-returns-3 : tie.Need-returns-3
-returns-3 c = search needs
-
-sub-result : tie.Need-sub-result
-sub-result c = search needs
-
-mul-result : tie.Need-mul-result
-mul-result c = search needs
-
-shared-slice-read-result : tie.Need-shared-slice-read-result
-shared-slice-read-result c = search needs
-
 returns-4 : tie.Need-returns-4
 unfolding stopOf
 returns-4 c = λ l.
@@ -43,5 +31,4 @@ returns-4 c = λ l.
 
 pub stop-spec : {M : Type 1} → statement M
 stop-spec =
-    tie.close
-    (tie.spec returns returns-2 returns-3 sub-result mul-result shared-slice-read-result returns-4)
+    tie.close (tie.spec returns returns-2 (λ c. search needs) (λ c. search needs) (λ c. search needs) (λ c. search needs) returns-4)

@@ -7,17 +7,9 @@ use Rattle.walk_state.proofs.finish.Tie as tie
 returns : tie.Need-returns
 returns c = finish-none _ _ (search needs)
 
-close-requires : tie.Need-close-requires
-close-requires c κs = search needs
-
-still-open-requires : tie.Need-still-open-requires
-still-open-requires c κs = search needs
-
-same-length : tie.Need-same-length
-same-length c = search needs
-
 returns-2 : tie.Need-returns-2
 returns-2 c = finish-some _ _ (search needs) (c .before .before .before .close .ensures) (c .still-open .ensures)
 
 pub finish-spec : {M : Type 1} → statement M
-finish-spec = tie.close (tie.spec returns close-requires still-open-requires same-length returns-2)
+finish-spec =
+    tie.close (tie.spec returns (λ c κs. search needs) (λ c κs. search needs) (λ c. search needs) returns-2)

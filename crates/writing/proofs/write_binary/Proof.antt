@@ -10,33 +10,12 @@ use Rattle.writing_raw.proofs.binary_item.Reads as binary-item-reads
 use Rattle.writing_plan.proofs.plan_item.Reads as plan-item-reads
 use Rattle.writing_packed.proofs.text_in_binary.Reads as text-in-binary-reads
 
-plan-item-requires : tie.Need-plan-item-requires
-plan-item-requires c κs = search needs
-
-enum-known-planned : tie.Need-enum-known-planned
-enum-known-planned c = search needs
-
-enum-known-planned-2 : tie.Need-enum-known-planned-2
-enum-known-planned-2 c = search needs
-
-binary-item-requires : tie.Need-binary-item-requires
-binary-item-requires c κs = search needs
-
-enum-known-planned-3 : tie.Need-enum-known-planned-3
-enum-known-planned-3 c = search needs
-
-text-in-binary-requires : tie.Need-text-in-binary-requires
-text-in-binary-requires c κs = search needs
-
 returns : tie.Need-returns
 returns c =
     let q = c .before .before .before in
     let a = q .before .before .before .args in
     let t = rw (c .before .planned .given .1) at (told (a .code) (a .tag) (a .tags) (a .raw .now) (search needs) _ (q .plan-item .ensures)) in
     binary-refused _ _ _ (a .raw .now) (a .out .now) _ _ t
-
-same-length : tie.Need-same-length
-same-length c = search needs
 
 returns-2 : tie.Need-returns-2
 returns-2 c =
@@ -46,9 +25,6 @@ returns-2 c =
     let t = rw (p .planned2 .given .1) at (told (a .code) (a .tag) (a .tags) (a .raw .now) (search needs) _ (q .plan-item .ensures)) in
     let w = c .before .before .binary-item .ensures in
     binary-done _ _ _ (a .raw .now) (a .out .now) _ _ t _ _ (w .0) (w .1)
-
-same-length-2 : tie.Need-same-length-2
-same-length-2 c = search needs
 
 returns-3 : tie.Need-returns-3
 returns-3 c =
@@ -63,14 +39,5 @@ pub write-binary-spec : {M : Type 1} → statement M
 write-binary-spec =
     tie.close
     (tie.spec
-    plan-item-requires
-    enum-known-planned
-    enum-known-planned-2
-    binary-item-requires
-    enum-known-planned-3
-    text-in-binary-requires
-    returns
-    same-length
-    returns-2
-    same-length-2
-    returns-3)
+    (λ c κs. search needs) (λ c. search needs) (λ c. search needs) (λ c κs. search needs) (λ c. search needs) (λ c κs. search needs) returns
+    (λ c. search needs) returns-2 (λ c. search needs) returns-3)

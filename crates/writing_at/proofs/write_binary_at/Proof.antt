@@ -8,49 +8,22 @@ use Rattle.writing_cursor.proofs.cursor_in.Reads as cursor-in-reads
 use Rattle.writing.proofs.write_binary.Reads as write-binary-reads
 
 -- src/lib.rt:416:9
-cursor-in-requires : tie.Need-cursor-in-requires
-cursor-in-requires c κs = search needs
-
 -- src/lib.rt:417:54
-sub-write-binary : tie.Need-sub-write-binary
-sub-write-binary c = search needs
-
 -- src/lib.rt:417:54
-part-write-binary-start : tie.Need-part-write-binary-start
-part-write-binary-start c = search needs
-
 -- src/lib.rt:417:54
-part-write-binary-end : tie.Need-part-write-binary-end
-part-write-binary-end c = search needs
-
 -- src/lib.rt:417:9
-write-binary-requires : tie.Need-write-binary-requires
-write-binary-requires c κs = search needs
-
 -- src/lib.rt:419:32
-enum-known-written : tie.Need-enum-known-written
-enum-known-written c = search needs
-
 -- src/lib.rt:420:32
-enum-known-written-2 : tie.Need-enum-known-written-2
-enum-known-written-2 c = search needs
-
 -- src/lib.rt:420:74
 add-t18 : tie.Need-add-t18
 add-t18 c = search binary-fits
 
 -- src/lib.rt:411:1
-same-length : tie.Need-same-length
-same-length c = search needs
-
 -- src/lib.rt:411:1
 returns : tie.Need-returns
 returns c = search (binary-at-refused, binary-behind)
 
 -- src/lib.rt:411:1
-same-length-2 : tie.Need-same-length-2
-same-length-2 c = search needs
-
 -- src/lib.rt:411:1
 returns-2 : tie.Need-returns-2
 returns-2 c = search (binary-at-written, binary-behind)
@@ -59,15 +32,5 @@ pub write-binary-at-spec : {M : Type 1} → statement M
 write-binary-at-spec =
     tie.close
     (tie.spec
-    cursor-in-requires
-    sub-write-binary
-    part-write-binary-start
-    part-write-binary-end
-    write-binary-requires
-    enum-known-written
-    enum-known-written-2
-    add-t18
-    same-length
-    returns
-    same-length-2
-    returns-2)
+    (λ c κs. search needs) (λ c. search needs) (λ c. search needs) (λ c. search needs) (λ c κs. search needs) (λ c. search needs)
+    (λ c. search needs) add-t18 (λ c. search needs) returns (λ c. search needs) returns-2)

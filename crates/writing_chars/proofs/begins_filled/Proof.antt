@@ -10,15 +10,9 @@ use Rattle.alphabet.proofs.sextet.Reads as sextet-reads
 returns : tie.Need-returns
 returns c = not-filled _ (c .if1 .taken)
 
-shared-slice-read-sextet : tie.Need-shared-slice-read-sextet
-shared-slice-read-sextet c = search needs
-
-sextet-requires : tie.Need-sextet-requires
-sextet-requires c κs = search needs
-
 returns-2 : tie.Need-returns-2
 returns-2 c = first-fills _ _ (c .before .before .if1 .left) (c .sextet .ensures)
 
 pub begins-filled-spec : {M : Type 1} → statement M
 begins-filled-spec =
-    tie.close (tie.spec returns shared-slice-read-sextet sextet-requires returns-2)
+    tie.close (tie.spec returns (λ c. search needs) (λ c κs. search needs) returns-2)

@@ -12,19 +12,10 @@ use Rattle.alphabet_search.proofs.first_stranger.Reads as first-stranger-reads
 use Rattle.alphabet_numbers.proofs.number_at.Reads as number-at-reads
 use Rattle.writing_chars.proofs.begins_filled.Reads as begins-filled-reads
 
-first-stranger-requires : tie.Need-first-stranger-requires
-first-stranger-requires c κs = search needs
-
-number-at-requires : tie.Need-number-at-requires
-number-at-requires c κs = search needs
-
 returns : tie.Need-returns
 returns c =
     let d = c .before in
     ap (λ (m : ℕ). refusal m (d .before .first-stranger .result)) (c .number-at .ensures) ∙ text-strange _ _ (d .before .first-stranger .ensures) (d .if1 .taken)
-
-begins-filled-requires : tie.Need-begins-filled-requires
-begins-filled-requires c κs = search needs
 
 returns-2 : tie.Need-returns-2
 returns-2 c = text-filled _ _ (c .before .before .before .first-stranger .ensures) (c .before .before .if1 .left) (sym (c .before .begins-filled .ensures) ∙ c .if2 .taken)
@@ -34,11 +25,4 @@ returns-3 c = text-none _ _ (c .before .before .before .first-stranger .ensures)
 
 pub text-refusal-spec : {M : Type 1} → statement M
 text-refusal-spec =
-    tie.close
-    (tie.spec
-    first-stranger-requires
-    number-at-requires
-    returns
-    begins-filled-requires
-    returns-2
-    returns-3)
+    tie.close (tie.spec (λ c κs. search needs) (λ c κs. search needs) returns (λ c κs. search needs) returns-2 returns-3)

@@ -16,27 +16,6 @@ use Rattle.writing_code.proofs.wide.Reads as wide-reads
 enum-told : tie.Need-enum-told
 enum-told c = search needs
 
-enum-known-n : tie.Need-enum-known-n
-enum-known-n c = search needs
-
-wide-requires : tie.Need-wide-requires
-wide-requires c κs = search needs
-
-raw-size-requires : tie.Need-raw-size-requires
-raw-size-requires c κs = search needs
-
-enum-known-n-2 : tie.Need-enum-known-n-2
-enum-known-n-2 c = search needs
-
-raw-limit-requires : tie.Need-raw-limit-requires
-raw-limit-requires c κs = search needs
-
-enum-known-n-3 : tie.Need-enum-known-n-3
-enum-known-n-3 c = search needs
-
-text-fits-requires : tie.Need-text-fits-requires
-text-fits-requires c κs = search needs
-
 returns : tie.Need-returns
 unfolding isFit asNamed
 returns c = rw (c .enum-told .given .1)
@@ -69,18 +48,5 @@ pub is-fit-spec : {M : Type 1} → statement M
 is-fit-spec =
     tie.close
     (tie.spec
-    enum-told
-    enum-known-n
-    wide-requires
-    raw-size-requires
-    enum-known-n-2
-    raw-limit-requires
-    enum-known-n-3
-    text-fits-requires
-    returns
-    returns-2
-    returns-3
-    returns-4
-    returns-5
-    returns-6
-    returns-7)
+    enum-told (λ c. search needs) (λ c κs. search needs) (λ c κs. search needs) (λ c. search needs) (λ c κs. search needs)
+    (λ c. search needs) (λ c κs. search needs) returns returns-2 returns-3 returns-4 returns-5 returns-6 returns-7)

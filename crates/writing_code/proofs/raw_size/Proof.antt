@@ -6,18 +6,6 @@ use borrow.Author.Needs.{needs}
 use Rattle.writing_code.proofs.raw_size.Statement.{statement}
 use Rattle.writing_code.proofs.raw_size.Tie as tie
 
-fixed-start-requires : tie.Need-fixed-start-requires
-fixed-start-requires c κs = search needs
-
-wide-requires : tie.Need-wide-requires
-wide-requires c κs = search needs
-
-in-binary-requires : tie.Need-in-binary-requires
-in-binary-requires c κs = search needs
-
-sub-result : tie.Need-sub-result
-sub-result c = search needs
-
 returns : tie.Need-returns
 unfolding rawSize
 returns c =
@@ -32,5 +20,4 @@ returns-2 c =
 
 pub raw-size-spec : {M : Type 1} → statement M
 raw-size-spec =
-    tie.close
-    (tie.spec fixed-start-requires wide-requires in-binary-requires sub-result returns returns-2)
+    tie.close (tie.spec (λ c κs. search needs) (λ c κs. search needs) (λ c κs. search needs) (λ c. search needs) returns returns-2)

@@ -12,12 +12,6 @@ use Rattle.writing_code.proofs.type_of.Lts as lts
 use Rattle.alphabet.proofs.sextet.Reads as sextet-reads
 use Rattle.registry_variable.proofs.is_type.Reads as is-type-reads
 
-sextet-requires : tie.Need-sextet-requires
-sextet-requires c κs = search needs
-
-is-type-requires : tie.Need-is-type-requires
-is-type-requires c κs = search needs
-
 returns : tie.Need-returns
 unfolding namedVariable isText asNamed
 returns c = rw (← (c .before .before .before .sextet .ensures), sym (c .before .before .is-type .ensures) ∙ c .before .if1 .taken, eq-eqb _ _ (c .if2 .taken))
@@ -31,4 +25,5 @@ unfolding namedVariable isText asNamed
 returns-3 c = rw (← (c .before .before .sextet .ensures), sym (c .before .is-type .ensures) ∙ c .if1 .left)
 
 pub type-of-spec : {M : Type 1} → statement M
-type-of-spec = tie.close (tie.spec sextet-requires is-type-requires returns returns-2 returns-3)
+type-of-spec =
+    tie.close (tie.spec (λ c κs. search needs) (λ c κs. search needs) returns returns-2 returns-3)

@@ -13,36 +13,6 @@ use Rattle.writing_sizes.proofs.text_count.Reads as text-count-reads
 enum-told : tie.Need-enum-told
 enum-told c = search needs
 
-enum-known-n : tie.Need-enum-known-n
-enum-known-n c = search needs
-
-wide-requires : tie.Need-wide-requires
-wide-requires c κs = search needs
-
-enum-known-n-2 : tie.Need-enum-known-n-2
-enum-known-n-2 c = search needs
-
-wide-requires-2 : tie.Need-wide-requires-2
-wide-requires-2 c κs = search needs
-
-count-for-requires : tie.Need-count-for-requires
-count-for-requires c κs = search needs
-
-add-result : tie.Need-add-result
-add-result c = search needs
-
-enum-known-n-3 : tie.Need-enum-known-n-3
-enum-known-n-3 c = search needs
-
-wide-requires-3 : tie.Need-wide-requires-3
-wide-requires-3 c κs = search needs
-
-text-count-requires : tie.Need-text-count-requires
-text-count-requires c κs = search needs
-
-add-result-2 : tie.Need-add-result-2
-add-result-2 c = search needs
-
 returns : tie.Need-returns
 unfolding unitsOf asNamed
 returns c = rw (c .enum-told .given .1)
@@ -63,18 +33,6 @@ pub units-of-spec : {M : Type 1} → statement M
 units-of-spec =
     tie.close
     (tie.spec
-    enum-told
-    enum-known-n
-    wide-requires
-    enum-known-n-2
-    wide-requires-2
-    count-for-requires
-    add-result
-    enum-known-n-3
-    wide-requires-3
-    text-count-requires
-    add-result-2
-    returns
-    returns-2
-    returns-3
+    enum-told (λ c. search needs) (λ c κs. search needs) (λ c. search needs) (λ c κs. search needs) (λ c κs. search needs)
+    (λ c. search needs) (λ c. search needs) (λ c κs. search needs) (λ c κs. search needs) (λ c. search needs) returns returns-2 returns-3
     returns-4)

@@ -7,9 +7,6 @@ use Rattle.writing_head.proofs.code_head.Reads as reads
 use Rattle.writing_head.proofs.code_head.Lts as lts
 use Rattle.writing_head.proofs.prepad_sextet.Reads as prepad-sextet-reads
 
-prepad-sextet-requires : tie.Need-prepad-sextet-requires
-prepad-sextet-requires c κs = search needs
-
 returns : tie.Need-returns
 returns c = λ s e. code-one _ s _ _ e (c .before .before .prepad-sextet .ensures) (c .if1 .taken)
 
@@ -20,4 +17,5 @@ returns-3 : tie.Need-returns-3
 returns-3 c = λ s e. code-four _ s _ _ e (c .before .before .before .before .prepad-sextet .ensures) (c .before .before .if1 .left) (c .if2 .left)
 
 pub code-head-spec : {M : Type 1} → statement M
-code-head-spec = tie.close (tie.spec prepad-sextet-requires returns returns-2 returns-3)
+code-head-spec =
+    tie.close (tie.spec (λ c κs. search needs) returns returns-2 returns-3)

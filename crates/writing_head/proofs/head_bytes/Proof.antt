@@ -8,15 +8,10 @@ use Rattle.writing_head.proofs.head_bytes.Lts as lts
 use Rattle.writing_head.proofs.head_of.Reads as head-of-reads
 use Rattle.writing_head.proofs.pack3.Reads as pack3-reads
 
-head-of-requires : tie.Need-head-of-requires
-head-of-requires c κs = search needs
-
-pack3-requires : tie.Need-pack3-requires
-pack3-requires c κs = search needs
-
 returns : tie.Need-returns
 unfolding headBytes
 returns c = λ p. rw (c .pack3 .ensures, c .before .head-of .ensures p)
 
 pub head-bytes-spec : {M : Type 1} → statement M
-head-bytes-spec = tie.close (tie.spec head-of-requires pack3-requires returns)
+head-bytes-spec =
+    tie.close (tie.spec (λ c κs. search needs) (λ c κs. search needs) returns)

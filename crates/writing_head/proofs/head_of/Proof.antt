@@ -18,36 +18,6 @@ use Rattle.writing_sizes.proofs.text_lead.Reads as text-lead-reads
 enum-told : tie.Need-enum-told
 enum-told c = search needs
 
-enum-known-n : tie.Need-enum-known-n
-enum-known-n c = search needs
-
-row-head-requires : tie.Need-row-head-requires
-row-head-requires c κs = search needs
-
-enum-known-n-2 : tie.Need-enum-known-n-2
-enum-known-n-2 c = search needs
-
-lead-for-requires : tie.Need-lead-for-requires
-lead-for-requires c κs = search needs
-
-count-for-requires : tie.Need-count-for-requires
-count-for-requires c κs = search needs
-
-variable-head-requires : tie.Need-variable-head-requires
-variable-head-requires c κs = search needs
-
-enum-known-n-3 : tie.Need-enum-known-n-3
-enum-known-n-3 c = search needs
-
-text-lead-requires : tie.Need-text-lead-requires
-text-lead-requires c κs = search needs
-
-text-count-requires : tie.Need-text-count-requires
-text-count-requires c κs = search needs
-
-variable-head-requires-2 : tie.Need-variable-head-requires-2
-variable-head-requires-2 c κs = search needs
-
 returns : tie.Need-returns
 unfolding headSextets asNamed padTo
 returns c = rw (c .enum-told .given .1) (λ _. refl)
@@ -74,18 +44,6 @@ pub head-of-spec : {M : Type 1} → statement M
 head-of-spec =
     tie.close
     (tie.spec
-    enum-told
-    enum-known-n
-    row-head-requires
-    enum-known-n-2
-    lead-for-requires
-    count-for-requires
-    variable-head-requires
-    enum-known-n-3
-    text-lead-requires
-    text-count-requires
-    variable-head-requires-2
-    returns
-    returns-2
-    returns-3
-    returns-4)
+    enum-told (λ c. search needs) (λ c κs. search needs) (λ c. search needs) (λ c κs. search needs) (λ c κs. search needs)
+    (λ c κs. search needs) (λ c. search needs) (λ c κs. search needs) (λ c κs. search needs) (λ c κs. search needs) returns returns-2
+    returns-3 returns-4)

@@ -12,24 +12,15 @@ use Rattle.writing_limits.proofs.text_fits.Lts as lts
 use Rattle.writing_limits.proofs.text_limit.Reads as text-limit-reads
 use Rattle.writing_sizes.proofs.fill_for.Reads as fill-for-reads
 
-text-limit-requires : tie.Need-text-limit-requires
-text-limit-requires c κs = search needs
-
 returns : tie.Need-returns
 returns c =
     let a = c .before .before .args in
     let h : textLimit (a .head) < a .chars + fillFor (a .chars) = omega (arith, c .before .text-limit .ensures .0) in
     rw (lt-leb _ _ h)
 
-fill-for-requires : tie.Need-fill-for-requires
-fill-for-requires c κs = search needs
-
-add-result : tie.Need-add-result
-add-result c = search needs
-
 returns-2 : tie.Need-returns-2
 returns-2 c = rw (c .fill-for .ensures .0, c .before .before .text-limit .ensures .0)
 
 pub text-fits-spec : {M : Type 1} → statement M
 text-fits-spec =
-    tie.close (tie.spec text-limit-requires returns fill-for-requires add-result returns-2)
+    tie.close (tie.spec (λ c κs. search needs) returns (λ c κs. search needs) (λ c. search needs) returns-2)

@@ -12,27 +12,6 @@ use Rattle.writing_chars.proofs.text_refusal.Reads as text-refusal-reads
 enum-told : tie.Need-enum-told
 enum-told c = search needs
 
-tag-refusal-requires : tie.Need-tag-refusal-requires
-tag-refusal-requires c κs = search needs
-
-enum-told-2 : tie.Need-enum-told-2
-enum-told-2 c = search needs
-
-tag-refusal-requires-2 : tie.Need-tag-refusal-requires-2
-tag-refusal-requires-2 c κs = search needs
-
-enum-told-3 : tie.Need-enum-told-3
-enum-told-3 c = search needs
-
-tag-refusal-requires-3 : tie.Need-tag-refusal-requires-3
-tag-refusal-requires-3 c κs = search needs
-
-enum-told-4 : tie.Need-enum-told-4
-enum-told-4 c = search needs
-
-text-refusal-requires : tie.Need-text-refusal-requires
-text-refusal-requires c κs = search needs
-
 returns : tie.Need-returns
 unfolding charsRefusal asNamed
 returns c = rw (c .before .enum-told .given .1) (c .tag-refusal .ensures)
@@ -53,15 +32,5 @@ pub chars-refusal-spec : {M : Type 1} → statement M
 chars-refusal-spec =
     tie.close
     (tie.spec
-    enum-told
-    tag-refusal-requires
-    enum-told-2
-    tag-refusal-requires-2
-    enum-told-3
-    tag-refusal-requires-3
-    enum-told-4
-    text-refusal-requires
-    returns
-    returns-2
-    returns-3
-    returns-4)
+    enum-told (λ c κs. search needs) (λ c. search needs) (λ c κs. search needs) (λ c. search needs) (λ c κs. search needs)
+    (λ c. search needs) (λ c κs. search needs) returns returns-2 returns-3 returns-4)

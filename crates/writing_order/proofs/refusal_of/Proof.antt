@@ -12,30 +12,18 @@ use Rattle.writing_code.proofs.is_named.Reads as is-named-reads
 use Rattle.writing_short.proofs.is_short.Reads as is-short-reads
 use Rattle.writing_order.proofs.chars_refusal.Reads as chars-refusal-reads
 
-is-named-requires : tie.Need-is-named-requires
-is-named-requires c κs = search needs
-
 returns : tie.Need-returns
 returns c = is-unknown _ _ _ _ (sym (c .before .is-named .ensures) ∙ not-true _ (c .if1 .taken))
-
-is-fit-requires : tie.Need-is-fit-requires
-is-fit-requires c κs = search needs
 
 returns-2 : tie.Need-returns-2
 returns-2 c =
     is-unfit _ _ _ _ (sym (c .before .before .before .is-named .ensures) ∙ not-false _ (c .before .before .if1 .left)) (sym (c .before .is-fit .ensures) ∙ not-true _ (c .if2 .taken))
-
-is-short-requires : tie.Need-is-short-requires
-is-short-requires c κs = search needs
 
 returns-3 : tie.Need-returns-3
 returns-3 c =
     let b = c .before .before .before in
     is-long _ _ _ _ (sym (b .before .before .is-named .ensures) ∙ not-false _ (b .before .if1 .left))
     (sym (b .is-fit .ensures) ∙ not-false _ (c .before .before .if2 .left)) (sym (c .before .is-short .ensures) ∙ not-true _ (c .if3 .taken))
-
-chars-refusal-requires : tie.Need-chars-refusal-requires
-chars-refusal-requires c κs = search needs
 
 returns-4 : tie.Need-returns-4
 returns-4 c =
@@ -49,11 +37,4 @@ pub refusal-of-spec : {M : Type 1} → statement M
 refusal-of-spec =
     tie.close
     (tie.spec
-    is-named-requires
-    returns
-    is-fit-requires
-    returns-2
-    is-short-requires
-    returns-3
-    chars-refusal-requires
-    returns-4)
+    (λ c κs. search needs) returns (λ c κs. search needs) returns-2 (λ c κs. search needs) returns-3 (λ c κs. search needs) returns-4)

@@ -7,14 +7,9 @@ use Rattle.writing_packed.proofs.first_size.Reads as reads
 use Rattle.writing_packed.proofs.first_size.Lts as lts
 use Rattle.writing_sizes.proofs.fill_for.Reads as fill-for-reads
 
-fill-for-requires : tie.Need-fill-for-requires
-fill-for-requires c κs = search needs
-
-add-result : tie.Need-add-result
-add-result c = search needs
-
 returns : tie.Need-returns
 returns c = let e = c .fill-for .ensures .0 in (rw e, rw e (first-sizes (c .before .args .chars) .0), rw e (first-sizes (c .before .args .chars) .1))
 
 pub first-size-spec : {M : Type 1} → statement M
-first-size-spec = tie.close (tie.spec fill-for-requires add-result returns)
+first-size-spec =
+    tie.close (tie.spec (λ c κs. search needs) (λ c. search needs) returns)

@@ -10,20 +10,8 @@ use Rattle.writing_head.proofs.head_bytes.Reads as head-bytes-reads
 use Rattle.writing_plan.proofs.planned_of.Reads as planned-of-reads
 use Rattle.writing_order.proofs.refusal_of.Reads as refusal-of-reads
 
-name-of-requires : tie.Need-name-of-requires
-name-of-requires c κs = search needs
-
-refusal-of-requires : tie.Need-refusal-of-requires
-refusal-of-requires c κs = search needs
-
 returns : tie.Need-returns
 returns c = plan-refused _ _ _ _ _ (rw (c .before .before .before .name-of .ensures) at (c .before .before .refusal-of .ensures)) (c .if1 .taken)
-
-planned-of-requires : tie.Need-planned-of-requires
-planned-of-requires c κs = search needs
-
-head-bytes-requires : tie.Need-head-bytes-requires
-head-bytes-requires c κs = search needs
 
 returns-2 : tie.Need-returns-2
 returns-2 c =
@@ -35,11 +23,4 @@ returns-2 c =
 
 pub plan-item-spec : {M : Type 1} → statement M
 plan-item-spec =
-    tie.close
-    (tie.spec
-    name-of-requires
-    refusal-of-requires
-    returns
-    planned-of-requires
-    head-bytes-requires
-    returns-2)
+    tie.close (tie.spec (λ c κs. search needs) (λ c κs. search needs) returns (λ c κs. search needs) (λ c κs. search needs) returns-2)

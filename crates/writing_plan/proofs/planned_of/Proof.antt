@@ -8,23 +8,8 @@ use Rattle.writing_plan.proofs.planned_of.Reads as reads
 use Rattle.writing_plan.proofs.planned_of.Lts as lts
 use Rattle.writing_code.proofs.units_of.Reads as units-of-reads
 
-units-of-requires : tie.Need-units-of-requires
-units-of-requires c κs = search needs
-
 enum-told : tie.Need-enum-told
 enum-told c = search needs
-
-enum-told-2 : tie.Need-enum-told-2
-enum-told-2 c = search needs
-
-enum-told-3 : tie.Need-enum-told-3
-enum-told-3 c = search needs
-
-enum-known-n : tie.Need-enum-known-n
-enum-known-n c = search needs
-
-cast-t6 : tie.Need-cast-t6
-cast-t6 c = search needs
 
 returns : tie.Need-returns
 unfolding plannedOf asNamed
@@ -46,13 +31,5 @@ pub planned-of-spec : {M : Type 1} → statement M
 planned-of-spec =
     tie.close
     (tie.spec
-    units-of-requires
-    enum-told
-    enum-told-2
-    enum-told-3
-    enum-known-n
-    cast-t6
-    returns
-    returns-2
-    returns-3
-    returns-4)
+    (λ c κs. search needs) enum-told (λ c. search needs) (λ c. search needs) (λ c. search needs) (λ c. search needs) returns returns-2
+    returns-3 returns-4)

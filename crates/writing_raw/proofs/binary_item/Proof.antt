@@ -4,9 +4,6 @@ use borrow.Author.Needs.{needs}
 use Rattle.writing_raw.proofs.binary_item.Statement.{statement}
 use Rattle.writing_raw.proofs.binary_item.Tie as tie
 
-is-sized-requires : tie.Need-is-sized-requires
-is-sized-requires c κs = search needs
-
 returns : tie.Need-returns
 returns c =
     let no = c .before .is-sized .ensures .1 (not-true _ (c .if1 .taken)) in
@@ -15,13 +12,9 @@ returns c =
 binary-sized-requires : tie.Need-binary-sized-requires
 binary-sized-requires c κs = c .before .before .is-sized .ensures .0 (not-false _ (c .before .if1 .left))
 
-same-length : tie.Need-same-length
-same-length c = search needs
-
 returns-2 : tie.Need-returns-2
 returns-2 c = let w = c .before .before .binary-sized .ensures in (λ _. w .0, λ _. w .1)
 
 pub binary-item-spec : {M : Type 1} → statement M
 binary-item-spec =
-    tie.close
-    (tie.spec is-sized-requires returns binary-sized-requires same-length returns-2)
+    tie.close (tie.spec (λ c κs. search needs) returns binary-sized-requires (λ c. search needs) returns-2)

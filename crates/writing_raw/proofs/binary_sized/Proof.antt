@@ -7,20 +7,8 @@ use Rattle.writing_raw.proofs.binary_sized.Reads as reads
 use Rattle.writing_raw.proofs.binary_sized.Lts as lts
 use Rattle.writing_raw.proofs.put_binary.Reads as put-binary-reads
 
-mul-size : tie.Need-mul-size
-mul-size c = search needs
-
 returns : tie.Need-returns
 returns c = let a = c .before .before .before .args in binary-no-room _ (a .head) (a .raw .now) (a .out .now) (search needs)
-
-sub-put-binary : tie.Need-sub-put-binary
-sub-put-binary c = search needs
-
-put-binary-requires : tie.Need-put-binary-requires
-put-binary-requires c κs = search needs
-
-same-length : tie.Need-same-length
-same-length c = search needs
 
 returns-2 : tie.Need-returns-2
 returns-2 c =
@@ -29,4 +17,4 @@ returns-2 c =
 
 pub binary-sized-spec : {M : Type 1} → statement M
 binary-sized-spec =
-    tie.close (tie.spec mul-size returns sub-put-binary put-binary-requires same-length returns-2)
+    tie.close (tie.spec (λ c. search needs) returns (λ c. search needs) (λ c κs. search needs) (λ c. search needs) returns-2)

@@ -17,17 +17,8 @@ returns c = (λ e. absurd (never e), λ _ s. omega (arith, s .some))
 returns-2 : tie.Need-returns-2
 returns-2 c = (λ e. absurd (never e), λ _ s. omega (arith, s .few))
 
-mul-if3 : tie.Need-mul-if3
-mul-if3 c = search needs
-
 returns-3 : tie.Need-returns-3
 returns-3 c = (λ e. absurd (never e), λ _ s. omega (arith, s .whole))
-
-mul-result : tie.Need-mul-result
-mul-result c = search needs
-
-add-result : tie.Need-add-result
-add-result c = search needs
 
 returns-4 : tie.Need-returns-4
 returns-4 c =
@@ -38,4 +29,4 @@ returns-4 c =
 
 pub is-sized-spec : {M : Type 1} → statement M
 is-sized-spec =
-    tie.close (tie.spec returns returns-2 mul-if3 returns-3 mul-result add-result returns-4)
+    tie.close (tie.spec returns returns-2 (λ c. search needs) returns-3 (λ c. search needs) (λ c. search needs) returns-4)

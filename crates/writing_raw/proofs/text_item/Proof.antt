@@ -4,9 +4,6 @@ use borrow.Author.Needs.{needs}
 use Rattle.writing_raw.proofs.text_item.Statement.{statement}
 use Rattle.writing_raw.proofs.text_item.Tie as tie
 
-is-sized-requires : tie.Need-is-sized-requires
-is-sized-requires c κs = search needs
-
 returns : tie.Need-returns
 returns c =
     let no = c .before .is-sized .ensures .1 (not-true _ (c .if1 .taken)) in
@@ -15,13 +12,9 @@ returns c =
 text-sized-requires : tie.Need-text-sized-requires
 text-sized-requires c κs = c .before .before .is-sized .ensures .0 (not-false _ (c .before .if1 .left))
 
-same-length : tie.Need-same-length
-same-length c = search needs
-
 returns-2 : tie.Need-returns-2
 returns-2 c = let w = c .before .before .text-sized .ensures in (λ _. w .0, λ _. w .1)
 
 pub text-item-spec : {M : Type 1} → statement M
 text-item-spec =
-    tie.close
-    (tie.spec is-sized-requires returns text-sized-requires same-length returns-2)
+    tie.close (tie.spec (λ c κs. search needs) returns text-sized-requires (λ c. search needs) returns-2)

@@ -14,33 +14,6 @@ use Rattle.writing_sizes.proofs.text_count.Reads as text-count-reads
 enum-told : tie.Need-enum-told
 enum-told c = search needs
 
-enum-told-2 : tie.Need-enum-told-2
-enum-told-2 c = search needs
-
-enum-known-n : tie.Need-enum-known-n
-enum-known-n c = search needs
-
-count-for-requires : tie.Need-count-for-requires
-count-for-requires c κs = search needs
-
-wide-requires : tie.Need-wide-requires
-wide-requires c κs = search needs
-
-is-shortest-requires : tie.Need-is-shortest-requires
-is-shortest-requires c κs = search needs
-
-enum-known-n-2 : tie.Need-enum-known-n-2
-enum-known-n-2 c = search needs
-
-text-count-requires : tie.Need-text-count-requires
-text-count-requires c κs = search needs
-
-wide-requires-2 : tie.Need-wide-requires-2
-wide-requires-2 c κs = search needs
-
-is-shortest-requires-2 : tie.Need-is-shortest-requires-2
-is-shortest-requires-2 c κs = search needs
-
 returns : tie.Need-returns
 unfolding isShort asNamed
 returns c = rw (c .enum-told .given .1)
@@ -65,17 +38,5 @@ pub is-short-spec : {M : Type 1} → statement M
 is-short-spec =
     tie.close
     (tie.spec
-    enum-told
-    enum-told-2
-    enum-known-n
-    count-for-requires
-    wide-requires
-    is-shortest-requires
-    enum-known-n-2
-    text-count-requires
-    wide-requires-2
-    is-shortest-requires-2
-    returns
-    returns-2
-    returns-3
-    returns-4)
+    enum-told (λ c. search needs) (λ c. search needs) (λ c κs. search needs) (λ c κs. search needs) (λ c κs. search needs)
+    (λ c. search needs) (λ c κs. search needs) (λ c κs. search needs) (λ c κs. search needs) returns returns-2 returns-3 returns-4)

@@ -7,12 +7,10 @@ use Rattle.writing_sizes.proofs.fill_for.Tie as tie
 use Rattle.writing_sizes.proofs.fill_for.Reads as reads
 use Rattle.writing_sizes.proofs.fill_for.Lts as lts
 
-sub-result : tie.Need-sub-result
-sub-result c = search needs
-
 returns : tie.Need-returns
 unfolding fillFor textCount
 returns c = (omega arith, omega arith, omega arith)
 
 pub fill-for-spec : {M : Type 1} → statement M
-fill-for-spec = tie.close (tie.spec sub-result returns)
+fill-for-spec =
+    tie.close (tie.spec (λ c. search needs) returns)

@@ -7,15 +7,10 @@ use Rattle.writing_sizes.proofs.lead_for.Reads as reads
 use Rattle.writing_sizes.proofs.lead_for.Lts as lts
 use Rattle.writing_sizes.proofs.narrow.Reads as narrow-reads
 
-sub-narrow : tie.Need-sub-narrow
-sub-narrow c = search needs
-
-narrow-requires : tie.Need-narrow-requires
-narrow-requires c κs = search needs
-
 returns : tie.Need-returns
 unfolding leadFor
 returns c = (c .narrow .ensures, omega (arith, c .narrow .ensures))
 
 pub lead-for-spec : {M : Type 1} → statement M
-lead-for-spec = tie.close (tie.spec sub-narrow narrow-requires returns)
+lead-for-spec =
+    tie.close (tie.spec (λ c. search needs) (λ c κs. search needs) returns)

@@ -7,9 +7,6 @@ use Rattle.writing_sizes.proofs.text_count.Tie as tie
 use Rattle.writing_sizes.proofs.text_count.Reads as reads
 use Rattle.writing_sizes.proofs.text_count.Lts as lts
 
-add-result : tie.Need-add-result
-add-result c = search needs
-
 returns : tie.Need-returns
 unfolding textCount fillFor
 returns c = (omega arith, omega arith)
@@ -19,4 +16,5 @@ unfolding textCount fillFor
 returns-2 c = (omega arith, omega arith)
 
 pub text-count-spec : {M : Type 1} → statement M
-text-count-spec = tie.close (tie.spec add-result returns returns-2)
+text-count-spec =
+    tie.close (tie.spec (λ c. search needs) returns returns-2)

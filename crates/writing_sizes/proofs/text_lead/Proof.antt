@@ -9,15 +9,6 @@ use Rattle.writing_sizes.proofs.text_lead.Lts as lts
 use Rattle.writing_sizes.proofs.fill_for.Reads as fill-for-reads
 use Rattle.writing_sizes.proofs.narrow.Reads as narrow-reads
 
-fill-for-requires : tie.Need-fill-for-requires
-fill-for-requires c κs = search needs
-
-sub-narrow : tie.Need-sub-narrow
-sub-narrow c = search needs
-
-narrow-requires : tie.Need-narrow-requires
-narrow-requires c κs = search needs
-
 returns : tie.Need-returns
 unfolding textLead
 returns c = (omega arith, omega arith)
@@ -28,4 +19,4 @@ returns-2 c = (omega (arith, c .narrow .ensures), omega (arith, c .narrow .ensur
 
 pub text-lead-spec : {M : Type 1} → statement M
 text-lead-spec =
-    tie.close (tie.spec fill-for-requires sub-narrow narrow-requires returns returns-2)
+    tie.close (tie.spec (λ c κs. search needs) (λ c. search needs) (λ c κs. search needs) returns returns-2)

@@ -11,15 +11,6 @@ use Rattle.writing_tags.proofs.tag_refusal.Lts as lts
 use Rattle.alphabet_numbers.proofs.number_at.Reads as number-at-reads
 use Rattle.writing_tags.proofs.tag_stranger.Reads as tag-stranger-reads
 
-tag-stranger-requires : tie.Need-tag-stranger-requires
-tag-stranger-requires c κs = search needs
-
-slice-aggregate-number-at : tie.Need-slice-aggregate-number-at
-slice-aggregate-number-at c = search needs
-
-number-at-requires : tie.Need-number-at-requires
-number-at-requires c κs = search needs
-
 returns : tie.Need-returns
 returns c =
     let d = c .before .before in
@@ -30,5 +21,4 @@ returns-2 c = tag-none _ _ _ (c .before .tag-stranger .ensures) (c .if1 .left)
 
 pub tag-refusal-spec : {M : Type 1} → statement M
 tag-refusal-spec =
-    tie.close
-    (tie.spec tag-stranger-requires slice-aggregate-number-at number-at-requires returns returns-2)
+    tie.close (tie.spec (λ c κs. search needs) (λ c. search needs) (λ c κs. search needs) returns returns-2)

@@ -12,26 +12,11 @@ use Rattle.writing_text.proofs.put_text.Reads as put-text-reads
 returns : tie.Need-returns
 returns c = (λ s. absurd (omega (arith, s .header)), λ s _. absurd (omega (arith, s .header)))
 
-text-count-requires : tie.Need-text-count-requires
-text-count-requires c κs = search needs
-
-add-size : tie.Need-add-size
-add-size c = search needs
-
-mul-size : tie.Need-mul-size
-mul-size c = search needs
-
 returns-2 : tie.Need-returns-2
 returns-2 c =
     let a = c .before .before .before .before .before .args in
     let w = text-none (a .header) (a .head) (a .chars .now) (a .out .now) _ (c .before .text-count .ensures .0) (c .if2 .taken) in
     (λ _. w .0, λ _ _. w .1)
-
-put-text-requires : tie.Need-put-text-requires
-put-text-requires c κs = search needs
-
-same-length : tie.Need-same-length
-same-length c = search needs
 
 returns-3 : tie.Need-returns-3
 returns-3 c =
@@ -44,11 +29,4 @@ pub text-in-text-spec : {M : Type 1} → statement M
 text-in-text-spec =
     tie.close
     (tie.spec
-    returns
-    text-count-requires
-    add-size
-    mul-size
-    returns-2
-    put-text-requires
-    same-length
-    returns-3)
+    returns (λ c κs. search needs) (λ c. search needs) (λ c. search needs) returns-2 (λ c κs. search needs) (λ c. search needs) returns-3)

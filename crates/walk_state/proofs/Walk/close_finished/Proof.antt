@@ -10,12 +10,6 @@ use borrow.Author.Needs.{needs}
 use Rattle.walk_state.proofs.Walk.close_finished.Statement.{statement}
 use Rattle.walk_state.proofs.Walk.close_finished.Tie as tie
 
-slice-aggregate-finish : tie.Need-slice-aggregate-finish
-slice-aggregate-finish c = search needs
-
-place-requires : tie.Need-place-requires
-place-requires c κs = search needs
-
 finish-requires : tie.Need-finish-requires
 finish-requires c κs = let l : length (c .before .before .before .args .self .ends) ≡ maxDepth = search needs in omega arith
 
@@ -24,4 +18,4 @@ returns c = own-moved (search needs) (c .before .finish .ensures) ∙ ap finishe
 
 pub close-finished-spec : {M : Type 1} → statement M
 close-finished-spec =
-    tie.close (tie.spec slice-aggregate-finish place-requires finish-requires returns)
+    tie.close (tie.spec (λ c. search needs) (λ c κs. search needs) finish-requires returns)

@@ -10,12 +10,6 @@ use borrow.Author.Needs.{needs}
 use Rattle.walk_state.proofs.Walk.open_group.Statement.{statement}
 use Rattle.walk_state.proofs.Walk.open_group.Tie as tie
 
-slice-aggregate-enter : tie.Need-slice-aggregate-enter
-slice-aggregate-enter c = search needs
-
-place-requires : tie.Need-place-requires
-place-requires c κs = search needs
-
 enter-requires : tie.Need-enter-requires
 enter-requires c κs = let l : length (c .before .before .before .args .self .ends) ≡ maxDepth = search needs in omega arith
 
@@ -25,4 +19,5 @@ returns c =
     own-moved (search needs) (c .before .enter .ensures) ∙ ap (λ (w : Walk). entered w (a .at) (a .end) (a .mark) (a .indexed)) (c .before .before .place .ensures)
 
 pub open-group-spec : {M : Type 1} → statement M
-open-group-spec = tie.close (tie.spec slice-aggregate-enter place-requires enter-requires returns)
+open-group-spec =
+    tie.close (tie.spec (λ c. search needs) (λ c κs. search needs) enter-requires returns)

@@ -10,15 +10,6 @@ use borrow.Author.Needs.{needs}
 use Rattle.walk_state.proofs.Walk.step.Statement.{statement}
 use Rattle.walk_state.proofs.Walk.step.Tie as tie
 
-slice-aggregate-advance : tie.Need-slice-aggregate-advance
-slice-aggregate-advance c = search needs
-
-place-requires : tie.Need-place-requires
-place-requires c κs = search needs
-
-advance-requires : tie.Need-advance-requires
-advance-requires c κs = search needs
-
 returns : tie.Need-returns
 returns c =
     let a = c .before .before .before .before .before .args in
@@ -26,4 +17,5 @@ returns c =
     own-moved (search needs) (c .before .advance .ensures (omega arith)) ∙ ap (λ (w : Walk). stepOver w (a .at) (a .end) (a .opens) (a .mark) (a .indexed)) (c .before .before .place .ensures)
 
 pub step-spec : {M : Type 1} → statement M
-step-spec = tie.close (tie.spec slice-aggregate-advance place-requires advance-requires returns)
+step-spec =
+    tie.close (tie.spec (λ c. search needs) (λ c κs. search needs) (λ c κs. search needs) returns)
