@@ -1,5 +1,6 @@
 // A text's units to binary, into a lent buffer: each goes by value through a leaf from four characters to three bytes. The leaf of
 // long streams looks up two characters at once.
+use widening::to_u32::wide;
 ghost use mathlib.Core.Path.{_≡_};
 ghost use mathlib.Core.List.{List, _++_, map};
 ghost use Prim.Native.Nat.{ℕ, _+_, _*_, _≤_, _<_};
@@ -12,12 +13,6 @@ ghost use Rattle.format.specs.Conversion.{firstStranger};
 ghost use Rattle.convert_pairs.specs.Pairs.{SextetPairs};
 ghost use Rattle.convert_pack.specs.Left.{Packed, packedLeft};
 ghost use Rattle.convert_pack.specs.Places.{Places};
-
-fn wide(x: u8) -> u32
-    ensures { λ r. ⌜ (r ≡ x) × (r < 256) ⌝ }
-{
-    x as u32
-}
 
 fn wider(x: u16) -> u32
     ensures { λ r. ⌜ r ≡ x ⌝ }

@@ -1,16 +1,11 @@
 // The tables by which long streams are converted, two characters a look-up. A table is built in each call, which some thousand units
 // make good: a constant one would be copied.
+use widening::to_u16::wide;
 ghost use mathlib.Core.Path.{_≡_};
 ghost use Prim.Native.Nat.{_+_, _*_, _≤_, _<_};
 ghost use lib.ListN.{length, getD};
 ghost use Rattle.convert_pairs.specs.Rows.{RowPut};
 ghost use Rattle.convert_pairs.specs.Pairs.{SextetPairs, CharacterPairs};
-
-fn wide(x: u8) -> u16
-    ensures { λ r. ⌜ (r ≡ x) × (r < 256) ⌝ }
-{
-    x as u16
-}
 
 // ---- two characters to twelve bits
 

@@ -1,15 +1,10 @@
 // Three bytes as four characters by a table of pairs that is lent, two characters at a look-up. Of another table nothing is said.
+use widening::to_u64::wide;
 ghost use mathlib.Core.Path.{_≡_};
 ghost use Prim.Native.Nat.{_/_, _<_};
 ghost use Rattle.base.specs.Digits.{numberOf};
 ghost use Rattle.format.specs.Units.{quadletOf};
 ghost use Rattle.convert_pairs.specs.Pairs.{CharacterPairs};
-
-fn wide(x: u8) -> u64
-    ensures { λ r. ⌜ (r ≡ x) × (r < 256) ⌝ }
-{
-    x as u64
-}
 
 // The second character of a pair.
 fn high(x: u16) -> u8

@@ -1,5 +1,6 @@
 // A binary's first units to text, into a lent buffer: each goes by value through a leaf from three bytes to four characters. The leaf
 // of long streams looks up two characters at once.
+use widening::to_u64::wide;
 ghost use mathlib.Core.Path.{_≡_};
 ghost use mathlib.Core.List.{List, _++_};
 ghost use Prim.Native.Nat.{ℕ, _+_, _*_, _≤_, _<_};
@@ -11,12 +12,6 @@ ghost use Rattle.format.specs.Units.{quadletOf};
 ghost use Rattle.convert_pairs.specs.Pairs.{CharacterPairs};
 ghost use Rattle.convert_unpack_units.specs.Numbers.{fourAt, Twelve};
 ghost use Rattle.convert_unpack_units.specs.First.{Unpacked, unpackedFirst};
-
-fn wide(x: u8) -> u64
-    ensures { λ r. ⌜ (r ≡ x) × (r < 256) ⌝ }
-{
-    x as u64
-}
 
 // ---- a unit read, and written
 

@@ -1,4 +1,5 @@
 // What an expectation file says, and what a report does. Both are read as bytes; nothing here knows of a stream.
+use widening::wide;
 ghost use mathlib.Core.Path.{_≡_};
 ghost use Prim.Native.Nat.{_+_, _*_, _<_, _≤_};
 ghost use mathlib.Core.List.{[], _∷_};
@@ -13,12 +14,6 @@ ghost use Rattle.expectation.specs.Bytes.{At, EndAt, Says};
 enum Laid {
     Short,
     Rows { count: usize, end: usize },
-}
-
-fn wide(x: u8) -> usize
-    ensures { λ r. ⌜ (r ≡ x) × (r < 256) ⌝ }
-{
-    x as usize
 }
 
 // Four bytes as a number, most significant first.

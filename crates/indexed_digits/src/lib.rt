@@ -1,17 +1,12 @@
 // The index and the ondex of an indexed item, by its first sextets. What is said holds of rows whose digits lie there.
 use format::IndexRow;
+use widening::wide;
 ghost use mathlib.Core.Path.{_≡_};
 ghost use Prim.Native.Nat.{_<_, _≤_};
 ghost use lib.ListN.{take, drop};
 ghost use Rattle.base.specs.Digits.{numberOf};
 ghost use Rattle.format.specs.Values.{indexOf, ondexOf};
 ghost use Rattle.indexed_digits.specs.Placed.{Placed};
-
-fn wide(x: u8) -> usize
-    ensures { λ r. ⌜ (r ≡ x) × (r < 256) ⌝ }
-{
-    x as usize
-}
 
 fn at_most(x: usize, most: usize) -> usize
     ensures { λ r. ⌜ (x ≤ most → r ≡ x) × (r ≤ most) ⌝ }

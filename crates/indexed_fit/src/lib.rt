@@ -1,16 +1,11 @@
 // Whether index, ondex and raw value fit an indexed code, 12, and whether it takes an ondex, 15.
 use format::IndexRow;
+use widening::wide;
 ghost use mathlib.Core.Path.{_≡_};
 ghost use Prim.Native.Nat.{_<_, _≤_, _/_, _^_};
 ghost use Rattle.format.specs.Judging.{ondexRight};
 ghost use Rattle.format.specs.Indexed.{indexedRawSize, fitsIndexed};
 ghost use Rattle.indexed_fit.specs.Digits.{Few};
-
-fn wide(x: u8) -> usize
-    ensures { λ r. ⌜ (r ≡ x) × (r < 256) ⌝ }
-{
-    x as usize
-}
 
 // The full size in units.
 pub fn units_of(c: IndexRow) -> usize

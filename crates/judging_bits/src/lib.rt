@@ -1,15 +1,10 @@
 // Bits among an item's first sextets: a sextet, and whether so many bits from one on are zero. The sextets are the item's own, 0 past
 // its end and past those that are held.
+use widening::to_u32::wide;
 ghost use mathlib.Core.Path.{_≡_};
 ghost use Prim.Native.Nat.{_-_, _<_, _≤_};
 ghost use lib.ListN.{getD};
 ghost use Rattle.format.specs.Judging.{zeroBits};
-
-fn wide(x: u8) -> u32
-    ensures { λ r. ⌜ (r ≡ x) × (r < 256) ⌝ }
-{
-    x as u32
-}
 
 pub fn sextet_at(cs: [u8; 12], i: usize) -> u8
     ensures { λ r. ⌜ r ≡ getD cs i 0 ⌝ }

@@ -1,16 +1,11 @@
 // What the header and first sextets of a fixed code's item decide: 8 and 10. The sextets are the item's own, 0 past its end.
 use format::CodeRow;
 use format::Verdict;
+use widening::to_u32::wide;
 ghost use mathlib.Core.Path.{_≡_};
 ghost use Prim.Native.Nat.{_<_};
 ghost use Rattle.format.specs.Judging.{prepadRight};
 ghost use Rattle.judging_fixed.specs.Checks.{fixedChecks};
-
-fn wide(x: u8) -> u32
-    ensures { λ r. ⌜ (r ≡ x) × (r < 256) ⌝ }
-{
-    x as u32
-}
 
 fn prepad_right(cs: [u8; 12], i: usize, prepad: u32) -> bool
     ensures { λ r. ⌜ r ≡ prepadRight cs i prepad ⌝ }

@@ -2,17 +2,12 @@
 // behind a group's header, and a group's 11 and 18.
 use format::CodeRow;
 use format::Verdict;
+use widening::to_u32::wide;
 ghost use mathlib.Core.Path.{_≡_};
 ghost use Prim.Native.Nat.{_-_, _<_};
 ghost use Rattle.format.specs.Registry.{zeroBitsOf, prepadOf};
 ghost use Rattle.format.specs.Judging.{isShortest};
 ghost use Rattle.judging_header.specs.Checks.{groupChecks};
-
-fn wide(x: u8) -> u32
-    ensures { λ r. ⌜ (r ≡ x) × (r < 256) ⌝ }
-{
-    x as u32
-}
 
 // ---- a fixed code's row: how many bits behind it are zero, and how many sextets stand before a tag
 

@@ -1,6 +1,7 @@
 // What the header and first sextets of an indexed item decide: 8 and 15. The sextets are the item's own, 0 past its end.
 use format::IndexRow;
 use format::Verdict;
+use widening::to_u32::wide;
 ghost use mathlib.Core.Path.{_≡_};
 ghost use Prim.Native.Nat.{_<_, _≤_};
 ghost use lib.Dec.{eqb};
@@ -10,12 +11,6 @@ ghost use Rattle.format.specs.Registry.{indexChars};
 ghost use Rattle.format.specs.Values.{ondexOf};
 ghost use Rattle.format.specs.Judging.{ondexRight};
 ghost use Rattle.judging_indexed.specs.Checks.{indexedChecks};
-
-fn wide(x: u8) -> u32
-    ensures { λ r. ⌜ (r ≡ x) × (r < 256) ⌝ }
-{
-    x as u32
-}
 
 // Whether so many digits from a sextet on are zero.
 fn digits_zero(cs: [u8; 12], from: usize, count: usize) -> bool

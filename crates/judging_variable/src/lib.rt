@@ -1,15 +1,10 @@
 // What the header and first sextets of a variable value decide: 18, 9, 8 and 16. The sextets are the item's own, 0 past its end.
 use format::Verdict;
+use widening::to_u32::wide;
 ghost use mathlib.Core.Path.{_≡_};
 ghost use Prim.Native.Nat.{_*_, _<_};
 ghost use Rattle.format.specs.Judging.{hasLead, zeroBits};
 ghost use Rattle.judging_variable.specs.Checks.{variableChecks};
-
-fn wide(x: u8) -> u32
-    ensures { λ r. ⌜ (r ≡ x) × (r < 256) ⌝ }
-{
-    x as u32
-}
 
 fn has_lead(lead: u8, count: usize) -> bool
     ensures { λ r. ⌜ r ≡ hasLead lead count ⌝ }

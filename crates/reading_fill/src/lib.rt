@@ -2,15 +2,10 @@
 // gives: two header units and 1,048,576 units at most.
 use format::Kind;
 use format::TextOffset;
+use widening::wide;
 ghost use mathlib.Core.Path.{_≡_};
 ghost use Prim.Native.Nat.{_-_, _*_, _<_, _≤_, min};
 ghost use Rattle.reading_fill.specs.Texts.{fillBy, textStart};
-
-fn wide(x: u8) -> usize
-    ensures { λ r. ⌜ (r ≡ x) × (r < 256) ⌝ }
-{
-    x as usize
-}
 
 fn left(total: usize, start: usize) -> usize
     ensures { λ r. ⌜ r ≡ total - start ⌝ }

@@ -4,17 +4,12 @@ use format::BinaryOffset;
 use format::Code;
 use format::Kind;
 use format::Primitive;
+use widening::wide;
 ghost use mathlib.Core.Path.{_≡_};
 ghost use Prim.Native.Nat.{_-_, _<_, _≤_, min};
 ghost use Rattle.format.specs.Values.{rawStart};
 ghost use Rattle.format.specs.Reading.{codeOf, isPrimitive, tagsOf, primitiveOf};
 ghost use Rattle.laws.specs.Framing.{Shaped};
-
-fn wide(x: u8) -> usize
-    ensures { λ r. ⌜ (r ≡ x) × (r < 256) ⌝ }
-{
-    x as usize
-}
 
 pub fn is_primitive(kind: Kind) -> bool
     ensures { λ r. ⌜ r ≡ isPrimitive kind ⌝ }

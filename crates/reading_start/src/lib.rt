@@ -3,16 +3,11 @@ use format::BinaryOffset;
 use format::CodeRow;
 use format::IndexRow;
 use format::TextOffset;
+use widening::wide;
 ghost use mathlib.Core.Path.{_≡_};
 ghost use Prim.Native.Nat.{_<_};
 ghost use Rattle.format.specs.declared.Kind.the-variants as Kind;
 ghost use Rattle.format.specs.Values.{rawStart};
-
-fn wide(x: u8) -> usize
-    ensures { λ r. ⌜ (r ≡ x) × (r < 256) ⌝ }
-{
-    x as usize
-}
 
 // Where a row's raw value starts, in the item's binary form.
 pub fn fixed_start(c: CodeRow) -> BinaryOffset

@@ -1,18 +1,13 @@
 // The tag characters of a framed primitive, by its first sextets. What is said holds of a row whose tag characters end with the item.
 use format::CodeRow;
 use format::Kind;
+use widening::wide;
 ghost use mathlib.Core.Path.{_≡_};
 ghost use Prim.Native.Nat.{_+_, _-_, _<_, _≤_};
 ghost use Rattle.format.specs.declared.Kind.the-variants as Kind;
 ghost use Rattle.format.specs.Values.{tagOf};
 ghost use Rattle.format.specs.Reading.{padded};
 ghost use Rattle.reading_tag.specs.Tags.{tagFrom, Taggable};
-
-fn wide(x: u8) -> usize
-    ensures { λ r. ⌜ (r ≡ x) × (r < 256) ⌝ }
-{
-    x as usize
-}
 
 fn left(total: usize, start: usize) -> usize
     ensures { λ r. ⌜ r ≡ total - start ⌝ }

@@ -1,15 +1,10 @@
 // An item's size by what its first unit opens and by the number that its second unit stands for.
 use format::Opening;
+use widening::wide;
 ghost use mathlib.Core.Path.{_≡_};
 ghost use Prim.Native.Nat.{_+_, _*_, _<_};
 ghost use lib.ListN.{getD};
 ghost use Rattle.format.specs.Registry.{extent};
-
-fn wide(x: u8) -> usize
-    ensures { λ r. ⌜ (r ≡ x) × (r < 256) ⌝ }
-{
-    x as usize
-}
 
 // The number that the second unit's four sextets stand for.
 pub fn number(u: [u8; 4]) -> usize

@@ -1,15 +1,10 @@
 // What a first unit that begins with `-` opens: a small group, a large one, or a genus/version.
 use format::Kind;
 use format::Opening;
+use widening::wide;
 ghost use mathlib.Core.Path.{_≡_};
 ghost use Prim.Native.Nat.{_<_};
 ghost use Rattle.registry_group.specs.Parts.{groupOpening};
-
-fn wide(x: u8) -> usize
-    ensures { λ r. ⌜ (r ≡ x) × (r < 256) ⌝ }
-{
-    x as usize
-}
 
 // By the sextets behind the `-`.
 pub fn group(b: u8, c: u8, d: u8) -> Opening

@@ -2,6 +2,7 @@
 use format::IndexRow;
 use format::Kind;
 use format::Opening;
+use widening::wide;
 ghost use mathlib.Core.Path.{_≡_};
 ghost use Prim.Native.Nat.{_+_, _<_, _≤_};
 ghost use Rattle.format.specs.Registry.{indexedRow, indexedBy};
@@ -130,12 +131,6 @@ const ROWS: [IndexRow; 12] = [
         current: 1,
     },
 ];
-
-fn wide(x: u8) -> usize
-    ensures { λ r. ⌜ (r ≡ x) × (r < 256) ⌝ }
-{
-    x as usize
-}
 
 // The table is named here alone.
 fn row_at(k: usize) -> IndexRow

@@ -2,6 +2,7 @@
 use format::CodeRow;
 use format::Kind;
 use format::Opening;
+use widening::wide;
 ghost use mathlib.Core.Path.{_≡_};
 ghost use Prim.Native.Nat.{_+_, _<_, _≤_};
 ghost use Rattle.format.specs.Registry.{fixed};
@@ -474,12 +475,6 @@ const ROWS: [CodeRow; 58] = [
         tag: 0,
     },
 ];
-
-fn wide(x: u8) -> usize
-    ensures { λ r. ⌜ (r ≡ x) × (r < 256) ⌝ }
-{
-    x as usize
-}
 
 // The table is named here alone.
 fn row_at(k: usize) -> CodeRow

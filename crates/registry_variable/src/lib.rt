@@ -1,16 +1,11 @@
 // The letters of the variable types, and what the selectors `4` to `6` and `7` to `9` open.
 use format::Kind;
 use format::Opening;
+use widening::wide;
 ghost use mathlib.Core.Path.{_≡_};
 ghost use Prim.Native.Nat.{_<_};
 ghost use Rattle.format.specs.Registry.{isType};
 ghost use Rattle.registry_variable.specs.Parts.{smallVariable, largeVariable};
-
-fn wide(x: u8) -> usize
-    ensures { λ r. ⌜ (r ≡ x) × (r < 256) ⌝ }
-{
-    x as usize
-}
 
 // Whether a sextet is a variable type's letter.
 pub fn is_type(t: u8) -> bool

@@ -1,15 +1,10 @@
 // A unit by value: four characters or three bytes, and the four sextets that both are. A function that reads a table is lent it,
 // since naming a constant table copies it.
+use widening::to_u32::wide;
 ghost use mathlib.Core.Path.{_≡_};
 ghost use Prim.Native.Nat.{_+_, _*_, _<_};
 ghost use lib.ListN.{getD};
 ghost use Rattle.format.specs.Units.{bytesOf, sextetsOf, tripletBy, quadletBy};
-
-fn wide(x: u8) -> u32
-    ensures { λ r. ⌜ (r ≡ x) × (r < 256) ⌝ }
-{
-    x as u32
-}
 
 // A number with a sextet behind it, and with a byte.
 fn with_sextet(n: u32, x: u8) -> u32

@@ -7,7 +7,7 @@ use Rattle.indexed_digits.proofs.number.Statement.{statement}
 use Rattle.indexed_digits.proofs.number.Tie as tie
 use Rattle.indexed_digits.proofs.number.Reads as reads
 use Rattle.indexed_digits.proofs.number.Lts as lts
-use Rattle.indexed_digits.proofs.wide.Reads as wide-reads
+use Rattle.widening.proofs.wide.Reads as wide-reads
 
 returns : tie.Need-returns
 returns c = λ _. rw (c .if1 .taken)

@@ -8,7 +8,7 @@ use Rattle.judging_bits.proofs.zero_bits.Reads as reads
 use Rattle.judging_bits.proofs.zero_bits.Lts as lts
 use Rattle.judging_bits.proofs.sextet_at.Reads as sextet-at-reads
 use Rattle.judging_bits.proofs.shift_for.Reads as shift-for-reads
-use Rattle.judging_bits.proofs.wide.Reads as wide-reads
+use Rattle.widening.proofs.to_u32.wide.Reads as wide-reads
 
 returns : tie.Need-returns
 returns c = sym (zero-past (c .before .args .cs) (c .before .args .i) _ (search needs) (search needs))

@@ -9,7 +9,7 @@ use Rattle.judging_fixed.proofs.fixed_checks.Reads as reads
 use Rattle.judging_fixed.proofs.fixed_checks.Lts as lts
 use Rattle.judging_header.proofs.prepad_of.Reads as prepad-of-reads
 use Rattle.judging_fixed.proofs.prepad_right.Reads as prepad-right-reads
-use Rattle.judging_fixed.proofs.wide.Reads as wide-reads
+use Rattle.widening.proofs.to_u32.wide.Reads as wide-reads
 use Rattle.judging_bits.proofs.zero_bits.Reads as zero-bits-reads
 use Rattle.judging_header.proofs.zeros_of.Reads as zeros-of-reads
 

@@ -5,7 +5,7 @@ use Rattle.judging_header.proofs.prepad_of.Statement.{statement}
 use Rattle.judging_header.proofs.prepad_of.Tie as tie
 use Rattle.judging_header.proofs.prepad_of.Reads as reads
 use Rattle.judging_header.proofs.prepad_of.Lts as lts
-use Rattle.judging_header.proofs.wide.Reads as wide-reads
+use Rattle.widening.proofs.to_u32.wide.Reads as wide-reads
 
 returns : tie.Need-returns
 returns c = simp (eq-eqb _ _ (c .if1 .taken))

@@ -4,7 +4,7 @@ use Rattle.judging_header.proofs.zeros_of.Statement.{statement}
 use Rattle.judging_header.proofs.zeros_of.Tie as tie
 use Rattle.judging_header.proofs.zeros_of.Reads as reads
 use Rattle.judging_header.proofs.zeros_of.Lts as lts
-use Rattle.judging_header.proofs.wide.Reads as wide-reads
+use Rattle.widening.proofs.to_u32.wide.Reads as wide-reads
 
 returns : tie.Need-returns
 returns c = simp (eq-eqb _ _ (c .before .before .if1 .taken), c .wide2 .ensures .0, c .before .wide .ensures .0)

@@ -6,7 +6,7 @@ use Rattle.judging_variable.proofs.lead_zero.Statement.{statement}
 use Rattle.judging_variable.proofs.lead_zero.Tie as tie
 use Rattle.judging_variable.proofs.lead_zero.Reads as reads
 use Rattle.judging_variable.proofs.lead_zero.Lts as lts
-use Rattle.judging_variable.proofs.wide.Reads as wide-reads
+use Rattle.widening.proofs.to_u32.wide.Reads as wide-reads
 use Rattle.judging_bits.proofs.zero_bits.Reads as zero-bits-reads
 
 returns : tie.Need-returns

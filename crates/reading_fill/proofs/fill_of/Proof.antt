@@ -7,7 +7,7 @@ use Rattle.reading_fill.proofs.fill_of.Statement.{statement}
 use Rattle.reading_fill.proofs.fill_of.Tie as tie
 use Rattle.reading_fill.proofs.fill_of.Reads as reads
 use Rattle.reading_fill.proofs.fill_of.Lts as lts
-use Rattle.reading_fill.proofs.wide.Reads as wide-reads
+use Rattle.widening.proofs.wide.Reads as wide-reads
 
 returns : tie.Need-returns
 unfolding fillBy

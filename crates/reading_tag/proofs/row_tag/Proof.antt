@@ -9,7 +9,7 @@ use Rattle.reading_tag.proofs.row_tag.Reads as reads
 use Rattle.reading_tag.proofs.row_tag.Lts as lts
 use Rattle.reading_tag.proofs.left.Reads as left-reads
 use Rattle.reading_tag.proofs.tag_from.Reads as tag-from-reads
-use Rattle.reading_tag.proofs.wide.Reads as wide-reads
+use Rattle.widening.proofs.wide.Reads as wide-reads
 
 returns : tie.Need-returns
 returns c = λ _. no-tag-row _ _ (sym (c .before .wide .ensures .0) ∙ c .if1 .taken)
