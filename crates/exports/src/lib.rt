@@ -210,7 +210,7 @@ pub extern "C" fn cesr_read_indexed_text(
     ensures { λ r. ⌜ now (out .exit) ≡ indexedLeft (readIndexedText (now (stream .entry)) at (length (now (out .entry)))) (now (stream .entry)) at (now (out .entry)) ⌝ }
     ensures { λ r. ⌜ now (info .exit) ≡ textInfo (readIndexedText (now (stream .entry)) at (length (now (out .entry)))) (now (info .entry)) ⌝ }
 {
-    exports_indexed_text::read_indexed_text(stream, at, out, info, answer)
+    exports_indexed_calls::read_indexed_text(stream, at, out, info, answer)
 }
 
 // The raw value lies in the stream, where info says. answer: its length, or the place in the binary.
@@ -225,7 +225,7 @@ pub extern "C" fn cesr_read_indexed_binary(
     ensures { λ r. ⌜ now (answer .exit) ≡ binaryValue (readIndexedBinary (now (stream .entry)) at) ⌝ }
     ensures { λ r. ⌜ now (info .exit) ≡ binaryInfo (readIndexedBinary (now (stream .entry)) at) (now (info .entry)) ⌝ }
 {
-    exports_indexed_binary::read_indexed_binary(stream, at, info, answer)
+    exports_indexed_calls::read_indexed_binary(stream, at, info, answer)
 }
 
 // answer: the length written, or 0, the place of every refusal.
@@ -243,7 +243,7 @@ pub extern "C" fn cesr_write_indexed_text(
     ensures { λ r. ⌜ now (answer .exit) ≡ textWrittenValue (writeIndexedText (indexCodeFrom selector letter) index ondex (now (raw .entry)) (length (now (out .entry)))) ⌝ }
     ensures { λ r. ⌜ now (out .exit) ≡ textIndexedLeft (writeIndexedText (indexCodeFrom selector letter) index ondex (now (raw .entry)) (length (now (out .entry)))) (indexCodeFrom selector letter) index ondex (now (raw .entry)) (now (out .entry)) ⌝ }
 {
-    exports_indexed_writing::write_indexed_text(selector, letter, index, ondex, raw, out, answer)
+    exports_indexed_calls::write_indexed_text(selector, letter, index, ondex, raw, out, answer)
 }
 
 // answer: the length written, or 0, the place of every refusal.
@@ -261,7 +261,7 @@ pub extern "C" fn cesr_write_indexed_binary(
     ensures { λ r. ⌜ now (answer .exit) ≡ binaryWrittenValue (writeIndexedBinary (indexCodeFrom selector letter) index ondex (now (raw .entry)) (length (now (out .entry)))) ⌝ }
     ensures { λ r. ⌜ now (out .exit) ≡ binaryIndexedLeft (writeIndexedBinary (indexCodeFrom selector letter) index ondex (now (raw .entry)) (length (now (out .entry)))) (indexCodeFrom selector letter) index ondex (now (raw .entry)) (now (out .entry)) ⌝ }
 {
-    exports_indexed_writing::write_indexed_binary(selector, letter, index, ondex, raw, out, answer)
+    exports_indexed_calls::write_indexed_binary(selector, letter, index, ondex, raw, out, answer)
 }
 
 // ---- the walk over a lent state

@@ -23,7 +23,7 @@ fn walk_on(
     ensures { λ r. ⌜ now (state .exit) ≡ stateBehind (walkOn (domain form) (now (stream .entry)) budget (walkOf (now (state .entry)))) (now (state .entry)) ⌝ }
 {
     let p = exports_place::place_of(state);
-    let went = instalments_lent::go_on(state, p, form, stream, budget);
+    let went = instalments_walk::go_on(state, p, form, stream, budget);
     let next = went.place;
     let pause = went.pause;
     exports_pause::put_behind(state, went.items, next);

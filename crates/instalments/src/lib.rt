@@ -1,5 +1,5 @@
 // An instalment of the walk, on by at most a stated number of items: what it gives, the state, how many they were, and why it is over. Its
-// definition and what is claimed of it stand in specs/; the walk itself is in instalments_walk, and in lent slots in instalments_lent.
+// definition and what is claimed of it stand in specs/; the walk itself is in instalments_walk.
 use format::BinaryOffset;
 use format::TextOffset;
 use walk_state::Place;

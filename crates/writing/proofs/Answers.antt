@@ -15,7 +15,7 @@ use Rattle.format.specs.Writing.{writtenBytes, writeText, writeBinary, textItem
 use Rattle.format.specs.Writing.Writing.{refused, written}
 use Rattle.writing_raw.specs.Item.{Sized, rawItem, roomFor, binaryIn, textIn}
 use Rattle.writing_head.specs.Heads.{TextSized}
-use Rattle.writing_plan.proofs.Plans.{Ready, TextReady}
+use Rattle.writing.proofs.Plans.{Ready, TextReady}
 use Rattle.writing_fill.specs.Filled.{textItem}
 
 module _ (code : Code) (tag : List ℕ) (tags : ℕ) (raw d : List ℕ) where

@@ -22,7 +22,7 @@ use Rattle.format.specs.Writing.{textOutcome, binaryOutcome, writeText, writeBi
 use Rattle.format.specs.Writing.Writing.{refused, written}
 use Rattle.judging.proofs.Laws.{to-end}
 use Rattle.writing_at.specs.Cursor.{textFrom, binaryFrom, writeTextAt, writeBinaryAt, textLeftAt, binaryLeftAt}
-use Rattle.writing_plan.proofs.Plans.{Held, held}
+use Rattle.writing.proofs.Plans.{Held, held}
 
 -- ---- what is written is there, and within the room
 

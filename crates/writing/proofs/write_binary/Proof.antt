@@ -1,13 +1,13 @@
 -- `writing::write_binary` meets its contract: refused as planned, or the item. Assumes nothing.
 use Rattle.writing.proofs.Answers.{binary-refused, binary-done, chars-in-binary}
-use Rattle.writing_plan.proofs.Plans.{told}
+use Rattle.writing.proofs.Plans.{told}
 use borrow.Author.Needs.{needs}
 use Rattle.writing.proofs.write_binary.Statement.{statement}
 use Rattle.writing.proofs.write_binary.Tie as tie
 use Rattle.writing.proofs.write_binary.Reads as reads
 use Rattle.writing.proofs.write_binary.Lts as lts
 use Rattle.writing_raw.proofs.binary_item.Reads as binary-item-reads
-use Rattle.writing_plan.proofs.plan_item.Reads as plan-item-reads
+use Rattle.writing.proofs.plan_item.Reads as plan-item-reads
 use Rattle.writing_packed.proofs.text_in_binary.Reads as text-in-binary-reads
 
 returns : tie.Need-returns

@@ -1,13 +1,13 @@
 -- `writing::write_text` meets its contract: refused as planned, or the item. Assumes nothing.
 use Rattle.writing.proofs.Answers.{text-refused, text-done, chars-in-text}
-use Rattle.writing_plan.proofs.Plans.{told}
+use Rattle.writing.proofs.Plans.{told}
 use borrow.Author.Needs.{needs}
 use Rattle.writing.proofs.write_text.Statement.{statement}
 use Rattle.writing.proofs.write_text.Tie as tie
 use Rattle.writing.proofs.write_text.Reads as reads
 use Rattle.writing.proofs.write_text.Lts as lts
 use Rattle.writing_raw.proofs.text_item.Reads as text-item-reads
-use Rattle.writing_plan.proofs.plan_item.Reads as plan-item-reads
+use Rattle.writing.proofs.plan_item.Reads as plan-item-reads
 use Rattle.writing_text.proofs.text_in_text.Reads as text-in-text-reads
 
 returns : tie.Need-returns
