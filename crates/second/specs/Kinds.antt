@@ -1,0 +1,18 @@
+-- format's judgeKind by the kinds that no group's items stand in. Assumes nothing.
+use Prim.Native.Nat.{ℕ}
+use mathlib.Core.List.{List}
+use Rattle.format.specs.declared.CodeRow.{CodeRow}
+use Rattle.format.specs.declared.IndexRow.{IndexRow}
+use Rattle.format.specs.declared.Kind.the-variants.{Fixed, Variable, Indexed}
+use Rattle.format.specs.declared.Verdict.{Verdict}
+use Rattle.format.specs.declared.Verdict.the-variants.{Accepted}
+use Rattle.format.specs.Judging.{judgeKind}
+
+unfoldable pub fixedOf : CodeRow → ℕ → List ℕ → Verdict
+fixedOf c h s = judgeKind (Fixed c) h s (λ letter h′ ws. Accepted)
+
+unfoldable pub variableOf : ℕ → ℕ → ℕ → ℕ → List ℕ → Verdict
+variableOf t lead count h s = judgeKind (Variable t lead count) h s (λ letter h′ ws. Accepted)
+
+unfoldable pub indexedOf : IndexRow → ℕ → List ℕ → Verdict
+indexedOf c h s = judgeKind (Indexed c) h s (λ letter h′ ws. Accepted)
