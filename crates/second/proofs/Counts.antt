@@ -1,173 +1,162 @@
--- The items of a text counted, and a verdict counted back. Assumes nothing.
+-- The items of a text counted, a verdict counted back, and the stores of a row. Assumes nothing.
 use mathlib.Core.Path.{_≡_, refl, sym, ap, _∙_}
 use mathlib.Core.Bool.{Bool, true, false}
 use mathlib.Core.List.{List, [], _∷_, _++_, append-nil}
 use mathlib.Core.Logic.{⊎-elim}
 use Prim.Native.Nat.{ℕ, zero, suc, _+_, _-_, _*_, _/_, _%_, _<_, _≤_}
-use native.Mathlib.Nat.{add-mul, add-assoc}
+use native.Mathlib.Nat.{add-mul, mul-add, mul-comm, mul-le-mul}
 use native.Mathlib.Omega.{arith}
 use mir.Syntax.{w64}
 use mir.Val as val
-use lib.ListN.{length, take, drop, length-drop}
+use lib.ListN.{length, take, drop, set, length-drop}
 use lib.Seq.{sets, take-all, drop-drop, length-take-le}
-use borrow.Author.Tests.{lt-ltb, le-ltb}
+use borrow.Author.Tests.{eq-eqb, ne-eqb}
 use Rattle.base.specs.Cases.{lt-or-ge}
 use Rattle.format.specs.declared.Kind.{Kind}
 use Rattle.format.specs.declared.Framed.{Framed}
 use Rattle.format.specs.declared.Framed.the-variants.{Item, Unframed}
 use Rattle.format.specs.declared.Verdict.{Verdict}
 use Rattle.format.specs.declared.Verdict.the-variants.{Accepted, Refused}
-use Rattle.format.specs.declared.Form.{Form}
-use Rattle.format.specs.declared.Form.the-variants.{Text, Binary}
-use Rattle.format.specs.Units.{domain, text, textSextets}
-use Rattle.format.specs.Framing.{frame, frameWith, frameRuled, frameNext, ruled, scale}
-use Rattle.format.specs.declared.ToText.{ToText}
-use Rattle.format.specs.declared.ToText.the-variants as T
-use Rattle.format.specs.Conversion.{toText, binaryToText, textLeft}
+use Rattle.format.specs.Units.{text, textSextets}
+use Rattle.format.specs.Framing.{frame, frameRuled, frameNext, scale}
 use Rattle.format.specs.Judging.{shift}
 use Rattle.format.specs.Report.{rows, rowsIn, frameIn, placed, be4, verdictByte, refusal, refusalBytes, concat}
-use Rattle.laws.specs.Conversion.{length-to-text, text-joins}
 use Rattle.laws.specs.Domains.{text-reader}
 use Rattle.laws.specs.Frames.{frames}
 use Rattle.laws.specs.Items.{rowsAt, rows-nil, rows-refused, rows-item}
-use Rattle.second.proofs.Laws.{text-units, near-place}
+use Rattle.format.specs.declared.Reported.the-variants as R
+use Rattle.filling.specs.Stores.{be4-long, sets-append}
 use Rattle.second.specs.Places.{Near}
+use Rattle.second.specs.Reports.{endAnswer, endLeft}
+use Rattle.second.proofs.Groups.{near-place}
 
 -- ---- so many items up to a unit
 
-pub record Counted (t : List ℕ) (stop at n : ℕ) : Type 0 where
-  pub is-stop : stop ≡ length t / 4
-  pub inside : at ≤ stop
-  pub few : n ≤ at
-  pub left : length (rowsIn text t) ≡ n + length (rowsAt text (at * 4) (drop (at * 4) t))
+pub record Counted (t : List ℕ) (start n : ℕ) : Type 0 where
+  pub long : length t ≤ 4194304
+  pub inside : 4 * start ≤ length t
+  pub few : n ≤ start
+  pub left : length (rowsIn text t) ≡ n + length (rowsAt text (start * 4) (drop (start * 4) t))
 
-pub counted-start : (t : List ℕ) → Counted t (length t / 4) 0 0
+pub counted-start : (t : List ℕ) → length t ≤ 4194304 → Counted t 0 0
 unfolding rows
-counted-start t =
+counted-start t l =
     let z : (m : ℕ) → m ≡ 0 + m = λ m. omega arith in
-    record { is-stop = refl; inside = omega arith; few = omega arith; left = z _ }
+    record { long = l; inside = omega arith; few = omega arith; left = z _ }
 
--- fewer characters than a unit
-short : (xs : List ℕ) → length xs < 4 → frameIn text xs ≡ Unframed 4 0
-unfolding frameIn frameRuled frame frameWith ruled scale
-short xs h = rw (text-units xs, lt-ltb (length xs / 4) 1 (omega arith))
-
-none-left : (o : ℕ) (xs : List ℕ) → length xs < 4 → length (rowsAt text o xs) ≡ 0
-none-left o [] h = ap length (rows-nil text text-reader o)
-none-left o (x ∷ xs) h = ap length (rows-refused text text-reader o (x ∷ xs) (omega arith) (short (x ∷ xs) h))
-
-module _ (t : List ℕ) (stop at n : ℕ) (w : Counted t stop at n) where
-  all-few : length t ≤ 4194304 → n ≤ 1048576
-  all-few a = omega (arith, w .few, w .inside, w .is-stop)
-
-  pub counted-end : length t ≤ 4194304 → stop ≤ at → (n ≡ length (rowsIn text t)) × (n ≤ 1048576)
-  counted-end a h =
-      (omega (arith, w .left, none-left (at * 4) (drop (at * 4) t) (omega (arith, length-drop (at * 4) t, w .is-stop, w .inside))), all-few a)
-
-  module _ (lt : at < stop) (f : Framed) (ef : f ≡ frameNext false true (textSextets (take (length t - 4 * at) (drop (4 * at) t)))) where
-    here : f ≡ frameRuled (textSextets (drop (at * 4) t))
-    unfolding frameNext frameRuled
-    here =
-        let z : 4 * at ≡ at * 4 = omega arith in
-        ef ∙ rw (z, take-all (length t - at * 4) (drop (at * 4) t) (omega (arith, length-drop (at * 4) t)))
-
-    some : 0 < length (drop (at * 4) t)
-    some = omega (arith, length-drop (at * 4) t, w .is-stop)
-
-    pub counted-stop : length t ≤ 4194304 → (m p : ℕ) → f ≡ Unframed m p → (n ≡ length (rowsIn text t)) × (n ≤ 1048576)
-    unfolding frameIn scale
-    counted-stop a m p e =
-        let g : frameIn text (drop (at * 4) t) ≡ Unframed m p = rw (← here, e) in
-        (omega (arith, w .left, ap length (rows-refused text text-reader (at * 4) (drop (at * 4) t) some g)), all-few a)
-
-    module _ (k : Kind) (h m : ℕ) (e : f ≡ Item k h m) where
-      item : frameIn text (drop (at * 4) t) ≡ Item k (h * 4) (m * 4)
-      unfolding frameIn scale
-      item = rw (← here, e)
-
-      pub sizes : (0 < m) × (at + m ≤ stop)
-      sizes =
-          let b = frames text text-reader .within (drop (at * 4) t) k (h * 4) (m * 4) item in
-          (omega (arith, b), omega (arith, b, length-drop (at * 4) t, w .is-stop))
-
-      pub at-fits : length t ≤ 4194304 → val.Fits w64 (at + m)
-      at-fits a = omega (arith, sizes, w .is-stop)
-
-      pub less : stop - (at + m) < stop - at
-      less = omega (arith, sizes)
-
-      pub counted-more : Counted t stop (at + m) (n + 1)
-      counted-more =
-          let z : at * 4 + m * 4 ≡ (at + m) * 4 = omega arith in
-          let q : length (rowsAt text (at * 4) (drop (at * 4) t)) ≡ suc (length (rowsAt text ((at + m) * 4) (drop ((at + m) * 4) t))) =
-          ap length (rows-item text text-reader (at * 4) (drop (at * 4) t) item) ∙ rw (drop-drop (m * 4) (at * 4) t, z) in
-          record { is-stop = w .is-stop; inside = sizes .1; few = omega (arith, sizes, w .few); left = omega (arith, w .left, q) }
-
-  pub n-fits : length t ≤ 4194304 → val.Fits w64 (n + 1)
-  n-fits a = omega (arith, w .few, w .inside, w .is-stop)
-
--- ---- a verdict counted back
-
-pub units-text : (f : Form) (n : ℕ) → f ≡ Text → n * 4 ≡ n * domain f .unit
-units-text f n e = rw e
-
-pub units-binary : (f : Form) (n : ℕ) → f ≡ Binary → n * 3 ≡ n * domain f .unit
-units-binary f n e = rw e
-
-pub back-few : (f : Form) (n x : ℕ) → x ≡ n * domain f .unit → x ≤ n * 4
-back-few Text n x e = omega arith
-back-few Binary n x e = omega arith
-
-pub back-place : (v : Verdict) (m p : ℕ) → v ≡ Refused m p → Near 4194312 v → p ≤ 4194312
-back-place v m p e h = near-place 4194312 v m p e h
-
-pub back-none : (u at : ℕ) (v : Verdict) → v ≡ Accepted → v ≡ shift (at * u) (placed u v)
-unfolding shift placed
-back-none u at v e = rw e
-
-pub back-some : (u at : ℕ) (v : Verdict) (m p x : ℕ) → v ≡ Refused m p → x ≡ (at + p / 4) * u → Refused m (x + p % 4) ≡ shift (at * u) (placed u v)
-unfolding shift placed
-back-some u at v m p x e q = rw e (ap (Refused m) (ap (λ (j : ℕ). j + p % 4) (q ∙ add-mul at (p / 4) u) ∙ add-assoc (at * u) (p / 4 * u) (p % 4)))
-
--- ---- the text of a binary's whole triplets
-
-none : (s : List ℕ) → length s ≡ 0 → s ≡ []
+none : (s : List ℕ) → length s ≤ 0 → s ≡ []
 none [] e = refl
 none (x ∷ s) e = absurd (omega arith)
 
-triplets-text : (s : List ℕ) → toText (take (3 * (length s / 3)) s) ≡ toText s
-triplets-text s =
-    let z : length s / 3 * 3 ≡ 3 * (length s / 3) = omega arith in
-    let r : toText (drop (length s / 3 * 3) s) ≡ [] =
-    none _ (length-to-text (drop (length s / 3 * 3) s) ∙ omega (arith, length-drop (length s / 3 * 3) s)) in
-    rw (← z) (sym (text-joins s (length s / 3) (omega arith) ∙ rw (r, append-nil)))
+module _ (t : List ℕ) (start n : ℕ) (w : Counted t start n) where
+  pub start-fits : val.Fits w64 (4 * start)
+  start-fits = omega (arith, w .inside)
 
-pub to-text-left : (s work : List ℕ) (r : ToText) (x : List ℕ) → length s ≤ 3145728 → length s / 3 * 4 ≤ length work
-    → r ≡ binaryToText (take (3 * (length s / 3)) s) (length work) → x ≡ textLeft r (take (3 * (length s / 3)) s) work
-    → x ≡ toText s ++ drop (length s / 3 * 4) work
-unfolding binaryToText textLeft
-to-text-left s work r x a b e q =
-    let n : length (take (3 * (length s / 3)) s) ≡ 3 * (length s / 3) = length-take-le (3 * (length s / 3)) s (omega arith) in
-    let c : 3 * (length s / 3) / 3 ≡ length s / 3 = omega arith in
-    q ∙ rw (
-      e,
-      n,
-      le-ltb 3145728 (3 * (length s / 3)) (omega arith),
-      le-ltb 0 (3 * (length s / 3) % 3) (omega arith),
-      c,
-      le-ltb (length work) (length s / 3 * 4) b,
-      triplets-text s,
-    )
+  pub n-fits : val.Fits w64 (n + 1)
+  n-fits = omega (arith, w .few, w .inside, w .long)
+
+  module _ (f : Framed) (ef : f ≡ frameNext false true (textSextets (take (length t - 4 * start) (drop (4 * start) t)))) where
+    here : f ≡ frameRuled (textSextets (drop (start * 4) t))
+    unfolding frameNext frameRuled
+    here =
+        let z : 4 * start ≡ start * 4 = omega arith in
+        ef ∙ rw (z, take-all (length t - start * 4) (drop (start * 4) t) (omega (arith, length-drop (start * 4) t)))
+
+    pub counted-stop : (m p : ℕ) → f ≡ Unframed m p → (n ≡ length (rowsIn text t)) × (n ≤ 1048576)
+    unfolding frameIn scale
+    counted-stop m p e =
+        let g : frameIn text (drop (start * 4) t) ≡ Unframed m p = rw (← here, e) in
+        let no : length (rowsAt text (start * 4) (drop (start * 4) t)) ≡ 0 =
+        ⊎-elim (λ some. ap length (rows-refused text text-reader (start * 4) (drop (start * 4) t) some g))
+        (λ all. rw (none (drop (start * 4) t) all) (ap length (rows-nil text text-reader (start * 4))))
+        (lt-or-ge 0 (length (drop (start * 4) t))) in
+        (omega (arith, w .left, no), omega (arith, w .few, w .inside, w .long))
+
+    module _ (k : Kind) (h m : ℕ) (e : f ≡ Item k h m) where
+      item : frameIn text (drop (start * 4) t) ≡ Item k (h * 4) (m * 4)
+      unfolding frameIn scale
+      item = rw (← here, e)
+
+      pub sizes : (0 < m) × (4 * (start + m) ≤ length t)
+      sizes =
+          let b = frames text text-reader .within (drop (start * 4) t) k (h * 4) (m * 4) item in
+          (omega (arith, b), omega (arith, b, length-drop (start * 4) t, w .inside))
+
+      pub end-fits : val.Fits w64 (start + m)
+      end-fits = omega (arith, sizes)
+
+      pub less : length t - 4 * (start + m) < length t - 4 * start
+      less = omega (arith, sizes)
+
+      pub counted-more : Counted t (start + m) (n + 1)
+      counted-more =
+          let z : start * 4 + m * 4 ≡ (start + m) * 4 = omega arith in
+          let q : length (rowsAt text (start * 4) (drop (start * 4) t)) ≡ suc (length (rowsAt text ((start + m) * 4) (drop ((start + m) * 4) t))) =
+          ap length (rows-item text text-reader (start * 4) (drop (start * 4) t) item) ∙ rw (drop-drop (m * 4) (start * 4) t, z) in
+          record { long = w .long; inside = sizes .1; few = omega (arith, sizes, w .few); left = omega (arith, w .left, q) }
+
+-- ---- a verdict counted back
+
+module _ (unit start : ℕ) (v : Verdict) where
+  pub back-none : v ≡ Accepted → v ≡ shift (start * unit) (placed unit v)
+  unfolding shift placed
+  back-none e = rw e
+
+  module _ (m p : ℕ) (e : v ≡ Refused m p) where
+    pub back-some : (r : Verdict) → r ≡ Refused m (unit * (start + p / 4) + p % 4) → r ≡ shift (start * unit) (placed unit v)
+    unfolding shift placed
+    back-some r er =
+        er ∙ rw e (ap (Refused m) (rw (mul-add unit start (p / 4), mul-comm unit start, mul-comm unit (p / 4)) (omega arith)))
+
+    module _ (u : unit ≤ 4) (s : start ≤ 1048576) (near : Near 4194312 v) where
+      product : unit * (start + p / 4) ≤ 4 * 2097154
+      product = mul-le-mul {n₁ = unit} {m₁ = start + p / 4} {n₂ = 4} {m₂ = 2097154} u (omega (arith, near-place 4194312 v m p e near))
+
+      pub back-fits : val.Fits w64 (unit * (start + p / 4))
+      back-fits = omega (arith, product)
+
+      pub sum-fits : val.Fits w64 (unit * (start + p / 4) + p % 4)
+      sum-fits = omega (arith, product)
 
 -- ---- an item's row, and its refusal's
 
-module _ (out : List ℕ) (at to i o n : ℕ) (v : Verdict) where
-  pub item-good : {after : List ℕ} → v ≡ Accepted → after ≡ sets out at (be4 o ++ (be4 n ++ (0 ∷ [])))
-      → (0 ≡ length (refusal i v)) × (after ≡ sets (sets out at (be4 o ++ (be4 n ++ (verdictByte v ∷ [])))) to (concat refusalBytes (refusal i v)))
-  unfolding refusal concat verdictByte
-  item-good e f = rw e (refl, f)
+behind4 : (l o : List ℕ) (i j v : ℕ) (bs : List ℕ) → o ≡ sets l i (be4 v) → j ≡ i + 4 → sets o j bs ≡ sets l i (be4 v ++ bs)
+behind4 l o i j v bs e q =
+    let z : j ≡ i + length (be4 v) = omega (arith, be4-long v) in
+    rw (e, z) (sets-append l i (be4 v) bs)
 
-  pub item-bad : {mid after : List ℕ} (m p : ℕ) → v ≡ Refused m p → mid ≡ sets out at (be4 o ++ (be4 n ++ (m ∷ []))) → after ≡ sets mid to (be4 i ++ (m ∷ be4 p))
-      → (1 ≡ length (refusal i v)) × (after ≡ sets (sets out at (be4 o ++ (be4 n ++ (verdictByte v ∷ [])))) to (concat refusalBytes (refusal i v)))
-  unfolding refusal refusalBytes concat verdictByte
-  item-bad m p e f g = rw e (refl, g ∙ rw (f, append-nil))
+module _ (out o₁ o₂ : List ℕ) (i offset size : ℕ) (e₁ : o₁ ≡ sets out (4 + 9 * i) (be4 offset)) (e₂ : o₂ ≡ sets o₁ (8 + 9 * i) (be4 size)) where
+  row-stored : (b : ℕ) → set o₂ (12 + 9 * i) b ≡ sets out (4 + 9 * i) (be4 offset ++ (be4 size ++ (b ∷ [])))
+  row-stored b =
+      behind4 o₁ o₂ (8 + 9 * i) (12 + 9 * i) size (b ∷ []) e₂ (omega arith)
+      ∙ behind4 out o₁ (4 + 9 * i) (8 + 9 * i) offset (be4 size ++ (b ∷ [])) e₁ (omega arith)
+
+  module _ (p : ℕ) (v : Verdict) where
+    pub item-good : v ≡ Accepted
+        → (0 ≡ length (refusal i v)) × (set o₂ (12 + 9 * i) 0 ≡ sets (sets out (4 + 9 * i) (be4 offset ++ (be4 size ++ (verdictByte v ∷ [])))) p (concat refusalBytes (refusal i v)))
+    unfolding refusal concat verdictByte
+    item-good e = rw e (refl, row-stored 0)
+
+    pub item-bad : (m q : ℕ) → v ≡ Refused m q → (o₃ o₄ : List ℕ) → o₃ ≡ sets (set o₂ (12 + 9 * i) m) p (be4 i) → o₄ ≡ sets (set o₃ (p + 4) m) (p + 5) (be4 q)
+        → (1 ≡ length (refusal i v)) × (o₄ ≡ sets (sets out (4 + 9 * i) (be4 offset ++ (be4 size ++ (verdictByte v ∷ [])))) p (concat refusalBytes (refusal i v)))
+    unfolding refusal refusalBytes concat verdictByte
+    item-bad m q e o₃ o₄ e₃ e₄ = rw e (refl, e₄ ∙ by ∙ rw (row-stored m, append-nil))
+      where
+        by : sets (set o₃ (p + 4) m) (p + 5) (be4 q) ≡ sets (set o₂ (12 + 9 * i) m) p (be4 i ++ (m ∷ be4 q))
+        by = let z : p + 5 ≡ suc (p + 4) = omega arith in rw z (behind4 (set o₂ (12 + 9 * i) m) o₃ p (p + 4) i (m ∷ be4 q) e₃ refl)
+
+-- ---- what is behind the rows
+
+module _ (n k rest offset number : ℕ) (out o₁ o₂ : List ℕ) (e₁ : o₁ ≡ sets out (4 + 9 * n) (be4 k)) (e₂ : o₂ ≡ sets o₁ (8 + 9 * n + 9 * k) (be4 rest)) where
+  pub end-none : rest ≡ 0 → (R.Written (8 + 9 * n + 9 * k + 4) ≡ endAnswer n k rest) × (o₂ ≡ endLeft n k rest offset number out)
+  unfolding endAnswer endLeft
+  end-none z = (rw (eq-eqb rest 0 z) (ap R.Written (omega arith)), e₂ ∙ rw (e₁, eq-eqb rest 0 z))
+
+  pub end-some : (rest ≡ 0 → ⊥) → (o₃ : List ℕ) → o₃ ≡ sets o₂ (8 + 9 * n + 9 * k + 4) (be4 offset)
+      → (R.Written (8 + 9 * n + 9 * k + 9) ≡ endAnswer n k rest) × (set o₃ (8 + 9 * n + 9 * k + 8) number ≡ endLeft n k rest offset number out)
+  unfolding endAnswer endLeft
+  end-some z o₃ e₃ =
+      let y : 8 + 9 * n + 9 * k + 4 ≡ 12 + 9 * n + 9 * k = omega arith in (
+        rw (ne-eqb rest 0 z) (ap R.Written (omega arith)),
+        behind4 o₂ o₃ (8 + 9 * n + 9 * k + 4) (8 + 9 * n + 9 * k + 8) offset (number ∷ []) e₃ (omega arith) ∙ rw (e₂, e₁, ne-eqb rest 0 z, y),
+      )

@@ -1,6 +1,6 @@
 -- Groups, whose items are judged one by one: what the steps of the cycle say, and where their places lie. Assumes nothing.
 use mathlib.Core.Path.{_≡_, refl, sym, ap, _∙_, subst}
-use mathlib.Core.Bool.{Bool, true, false}
+use mathlib.Core.Bool.{Bool, true, false, not}
 use mathlib.Core.List.{List, [], _∷_, map}
 use Prim.Native.Nat.{ℕ, zero, suc, _+_, _-_, _*_, _/_, _%_, _<_, _≤_}
 use native.Mathlib.Omega.{arith}
@@ -9,6 +9,7 @@ use mir.Syntax.{w64}
 use mir.Val as val
 use lib.ListN.{length, take, drop, length-map, length-drop}
 use lib.Seq.{slice, take-all, length-take-le}
+use borrow.Author.Tests.{lt-ltb}
 use Rattle.base.specs.Pick.{pick, pick-by}
 use Rattle.base.specs.Lists.{map-take, map-drop}
 use Rattle.format.specs.declared.CodeRow.{CodeRow}
@@ -26,13 +27,16 @@ use Rattle.format.specs.Units.{textSextets}
 use Rattle.format.specs.Registry.{openingBy, isIndexed, isOverrideable}
 use Rattle.format.specs.Framing.{sextet, fit, known, second, headed, frameWith, isOurs, ruled, frameBy, frameNext}
 use Rattle.format.specs.Judging.{shift, andThen, unless, isShortest, scan, behind, judgeKind, ownCheck, group, judgeWith}
-use Rattle.laws.specs.Framing.{by-with}
+use Rattle.laws.specs.Framing.{Shaped, Lawful, Good, by-with, by-good}
 use Rattle.laws.specs.Levels.{part, part-length, take-of-drop, any-item, item-sizes, level, level-end, level-refused, level-item}
+use Rattle.second_framing.proofs.Found.{text-length, text-units, text-rest}
 use Rattle.second.specs.Places.{Near, Told}
-use Rattle.second.specs.Kinds.{fixedOf, variableOf, indexedOf}
-use Rattle.second.proofs.Laws.{text-length, text-units, text-rest, near-place}
+use Rattle.second.specs.Kinds.{Own, fixedOf, variableOf, indexedOf}
 
 -- ---- where a place lies
+
+pub near-place : (n : ℕ) (v : Verdict) (m p : ℕ) → v ≡ Refused m p → Near n v → p ≤ n
+near-place n v m p e h = rw e at h
 
 near-zero : (n m : ℕ) → Near n (Refused m 0)
 near-zero n m = omega arith
@@ -136,21 +140,30 @@ next-head t false s = by-head t s
 pub place-head : (t first : Bool) (s : List ℕ) (m p : ℕ) → frameNext t first s ≡ Unframed m p → p ≤ 7
 place-head t first s m p e = subst Head e (next-head t first s)
 
+-- an item has the shape of its kind
+pub item-shape : (t : Bool) (s : List ℕ) (k : Kind) (h n : ℕ) → frameBy t s ≡ Item k h n → Shaped k h n
+item-shape t s k h n e =
+    let g : Lawful (frameWith (openingBy t)) (sextet s) (length s / 4) k h n = subst (Good (frameWith (openingBy t)) (sextet s) (length s / 4)) e (by-good t s) in
+    g .shape
+
 -- ---- an item by its kind
 
-module _ (k : Kind) (h : ℕ) (t : List ℕ) (l : ℕ) (long : 4 * h ≤ length t) where
+module _ (k : Kind) (h : ℕ) (t : List ℕ) (l : ℕ) (own : Own k h t) where
   long′ : 4 * h ≤ length (textSextets t)
-  long′ = rw (text-length t) long
+  long′ = rw (text-length t) (own .inside)
 
   pub judged-fixed : (c : CodeRow) → k ≡ Fixed c → (r : Verdict) → r ≡ fixedOf c h (textSextets t)
       → Told (judgeKind k h (textSextets t) (group l)) (length t + 8) r
   unfolding fixedOf judgeKind
   judged-fixed c e r q = record { is = rw e q; near = rw (q, ← text-length t) (near-fixed c h (textSextets t) long′) }
 
-  pub judged-variable : (a b n : ℕ) → k ≡ Variable a b n → (r : Verdict) → r ≡ variableOf a b n h (textSextets t)
+  pub judged-variable : (a b n : ℕ) → k ≡ Variable a b n → (r : Verdict) → r ≡ variableOf a b (length t / 4 - h) h (textSextets t)
       → Told (judgeKind k h (textSextets t) (group l)) (length t + 8) r
   unfolding variableOf judgeKind
-  judged-variable a b n e r q = record { is = rw e q; near = rw (q, ← text-length t) (near-variable a b n h (textSextets t) long′) }
+  judged-variable a b n e r q =
+      let m : length t / 4 - h ≡ n = omega (arith, subst (λ (j : Kind). Shaped j h (length t / 4)) e (own .shape) .1) in
+      let q′ : r ≡ variableOf a b n h (textSextets t) = rw m at q in
+      record { is = rw e q′; near = rw (q′, ← text-length t) (near-variable a b n h (textSextets t) long′) }
 
   pub judged-indexed : (c : IndexRow) → k ≡ Indexed c → (r : Verdict) → r ≡ indexedOf c h (textSextets t)
       → Told (judgeKind k h (textSextets t) (group l)) (length t + 8) r
@@ -161,152 +174,171 @@ module _ (k : Kind) (h : ℕ) (t : List ℕ) (l : ℕ) (long : 4 * h ≤ length 
   unfolding judgeKind
   judged-genus e = record { is = rw e; near = omega arith }
 
-  rest-length : length (take (length t - 4 * h) (drop (4 * h) t)) ≡ length t - 4 * h
-  rest-length = length-take-le (length t - 4 * h) (drop (4 * h) t) (omega (arith, length-drop (4 * h) t))
-
-  pub judged-group : (letter : ℕ) → k ≡ Group letter → (r : Verdict)
-      → Told (group l letter h (textSextets (take (length t - 4 * h) (drop (4 * h) t)))) (4 * h + length (take (length t - 4 * h) (drop (4 * h) t)) + 8) r
+  pub judged-group : (letter : ℕ) → k ≡ Group letter → (r : Verdict) → Told (group l letter h (drop (4 * h) (textSextets t))) (length t + 8) r
       → Told (judgeKind k h (textSextets t) (group l)) (length t + 8) r
   unfolding judgeKind
-  judged-group letter e r q =
-      record { is = rw (e, ← text-rest t (4 * h)) (q .is); near = near-wider _ _ r (omega (arith, rest-length)) (q .near) }
+  judged-group letter e r q = record { is = rw e (q .is); near = q .near }
 
-  pub group-asks : length t % 4 ≡ 0 → length t ≤ 4194304
-      → (length (take (length t - 4 * h) (drop (4 * h) t)) % 4 ≡ 0) × (4 * h + length (take (length t - 4 * h) (drop (4 * h) t)) ≤ 4194304)
-  group-asks a b = rw rest-length (omega arith, omega arith)
+-- ---- a group's own checks
 
--- ---- a group
+behind-units : (h : ℕ) (t : List ℕ) → length (drop (4 * h) (textSextets t)) / 4 ≡ length t / 4 - h
+behind-units h t = omega (arith, length-drop (4 * h) (textSextets t), text-length t)
 
-shift-zero : (v : Verdict) → shift 0 v ≡ v
-unfolding shift
-shift-zero Accepted = refl
-shift-zero (Refused m p) = ap (Refused m) (omega arith)
+module _ (letter h : ℕ) (t : List ℕ) (l : ℕ) (inside : 4 * h ≤ length t) (x : Bool) (ex : x ≡ isShortest h (length t / 4 - h)) (u v : Verdict)
+    (eu : u ≡ andThen Accepted (unless 11 (ltb 0 l))) (ev : v ≡ andThen u (unless 18 x)) where
+  own-near : Near (length t + 8) v
+  own-near =
+      rw (ev, eu)
+      (near-then (length t + 8) (andThen Accepted (unless 11 (ltb 0 l))) (unless 18 x)
+      (near-then (length t + 8) Accepted (unless 11 (ltb 0 l)) (omega arith) (near-unless (length t + 8) 11 (ltb 0 l)))
+      (near-unless (length t + 8) 18 x))
 
-whole-part : (t : List ℕ) → length t % 4 ≡ 0 → part (textSextets t) 0 (length t / 4) ≡ textSextets t
-whole-part t e = take-all (4 * (length t / 4)) (textSextets t) (omega (arith, text-length t))
-
-pub group-none : (letter h : ℕ) (t : List ℕ) (l : ℕ) → l ≡ 0
-    → Told (group l letter h (textSextets t)) (4 * h + length t + 8) (Refused 11 0)
-unfolding group ownCheck
-group-none letter h t l e = record { is = rw e; near = omega arith }
-
-module _ (letter h : ℕ) (t : List ℕ) (l : ℕ) (some : l ≡ 0 → ⊥) (whole : length t % 4 ≡ 0) (x y : Bool) (ex : x ≡ isIndexed letter) (ey : y ≡ isOverrideable letter)
-    (v : Verdict) (ev : Told (level (textSextets t) x (l - 1) y 0 (length t / 4)) (length t + 8) v) (b : Bool) (eb : b ≡ isShortest h (length t / 4))
-    (u w r : Verdict) (eu : u ≡ unless 18 b) (ew : w ≡ shift (4 * h) v) (er : r ≡ andThen u w) where
-  group-is : (m : ℕ) → l ≡ suc m → r ≡ group l letter h (textSextets t)
-  unfolding group ownCheck level judgeWith
-  group-is m e =
-      let z : l - 1 ≡ m = omega arith in
-      let y4 : 4 * 0 ≡ 0 = omega arith in
-      er ∙ rw (e, eu, ew, eb, text-units t, ev .is, z, ex, ey, y4, whole-part t whole, shift-zero)
-
-  pub group-some : Told (group l letter h (textSextets t)) (4 * h + length t + 8) r
-  group-some =
-      let z : l ≡ suc (l - 1) = pred l some in
-      record { is = group-is (l - 1) z; near = rw (er, eu, ew) (near-then _ _ _ (near-unless _ 18 b) (near-shift (4 * h) (length t + 8) (4 * h + length t + 8) v (omega arith) (ev .near))) }
+  pub group-refused : (m p : ℕ) → v ≡ Refused m p → Told (group l letter h (drop (4 * h) (textSextets t))) (length t + 8) v
+  unfolding group ownCheck andThen unless
+  group-refused m p e = record {
+    is = by l x eu ex ev;
+    near = own-near;
+  }
     where
-      pred : (n : ℕ) → (n ≡ 0 → ⊥) → n ≡ suc (n - 1)
-      pred zero f = absurd (f refl)
-      pred (suc n) f = omega arith
+      by : (l : ℕ) (x : Bool) → u ≡ andThen Accepted (unless 11 (ltb 0 l)) → x ≡ isShortest h (length t / 4 - h) → v ≡ andThen u (unless 18 x)
+          → v ≡ group l letter h (drop (4 * h) (textSextets t))
+      by zero x a b c = c ∙ rw a
+      by (suc l) false a b c = c ∙ rw (a, lt-ltb 0 (suc l) (omega arith), behind-units h t, ← b)
+      by (suc l) true a b c =
+          let o : v ≡ Accepted = c ∙ rw (a, lt-ltb 0 (suc l) (omega arith)) in
+          let z : _≡_ {A = ℕ} 0 1 = cc in
+          absurd (omega arith)
 
--- what counting on asks
-pub shift-asks : (h : ℕ) (t : List ℕ) (u v : Verdict) → 4 * h + length t ≤ 4194304 → Told u (length t + 8) v → Near 4194312 v
-shift-asks h t u v l n = near-wider (length t + 8) 4194312 v (omega arith) (n .near)
+  pub group-entered : v ≡ Accepted → (0 < l) × (x ≡ true)
+  unfolding andThen unless
+  group-entered e = by l x eu ev
+    where
+      by : (l : ℕ) (x : Bool) → u ≡ andThen Accepted (unless 11 (ltb 0 l)) → v ≡ andThen u (unless 18 x) → (0 < l) × (x ≡ true)
+      by (suc l) true a c = (omega arith, refl)
+      by (suc l) false a c =
+          let o : v ≡ Refused 18 0 = c ∙ rw (a, lt-ltb 0 (suc l) (omega arith)) in
+          let z : _≡_ {A = ℕ} 0 1 = cc in
+          absurd (omega arith)
+      by zero x a c =
+          let o : v ≡ Refused 11 0 = c ∙ rw a in
+          let z : _≡_ {A = ℕ} 0 1 = cc in
+          absurd (omega arith)
 
 -- ---- its items one by one
 
-pub record Left (t : List ℕ) (x first : Bool) (l stop at : ℕ) (marked : Bool) : Type 0 where
-  pub is-stop : stop ≡ length t / 4
-  pub inside : at ≤ stop
-  pub leaves : level (textSextets t) x l first 0 (length t / 4) ≡ level (textSextets t) x l marked at stop
+pub record Left (letter h : ℕ) (t : List ℕ) (l : ℕ) (x : Bool) (marked : Bool) (start : ℕ) : Type 0 where
+  pub some : 0 < l
+  pub whole : length t % 4 ≡ 0
+  pub long : length t ≤ 4194304
+  pub inside : 4 * start ≤ length t
+  pub leaves : group l letter h (drop (4 * h) (textSextets t)) ≡ level (textSextets t) x (l - 1) marked start (length t / 4)
 
-pub left-start : (t : List ℕ) (x first : Bool) (l : ℕ) → Left t x first l (length t / 4) 0 first
-left-start t x first l = record { is-stop = refl; inside = omega arith; leaves = refl }
+whole-part : (t : List ℕ) (at : ℕ) → length t % 4 ≡ 0 → part (textSextets t) at (length t / 4) ≡ drop (4 * at) (textSextets t)
+whole-part t at e = ap (drop (4 * at)) (take-all (4 * (length t / 4)) (textSextets t) (omega (arith, text-length t)))
 
-module _ (t : List ℕ) (x first : Bool) (l stop at : ℕ) (marked : Bool) (w : Left t x first l stop at marked) where
-  pub left-end : stop ≤ at → Told (level (textSextets t) x l first 0 (length t / 4)) (length t + 8) Accepted
-  left-end h =
-      let z : at ≡ stop = omega (arith, w .inside) in
-      record { is = sym (w .leaves ∙ rw z (level-end (textSextets t) x l marked stop)); near = omega arith }
+pub left-start : (letter h : ℕ) (t : List ℕ) (l : ℕ) (inside : 4 * h ≤ length t) → length t % 4 ≡ 0 → length t ≤ 4194304 → (x : Bool) (ex : x ≡ isShortest h (length t / 4 - h)) (u v : Verdict)
+    (eu : u ≡ andThen Accepted (unless 11 (ltb 0 l))) (ev : v ≡ andThen u (unless 18 x)) → v ≡ Accepted → (y z : Bool) → y ≡ isIndexed letter → z ≡ isOverrideable letter
+    → Left letter h t l y z h
+unfolding group ownCheck level judgeWith andThen unless
+left-start letter h t l inside whole long x ex u v eu ev e y z ey ez =
+    let g = group-entered letter h t l inside x ex u v eu ev e in
+    record { some = g .0; whole = whole; long = long; inside = inside; leaves = by l (g .0) (sym ex ∙ g .1) }
+  where
+    by : (l : ℕ) → 0 < l → isShortest h (length t / 4 - h) ≡ true
+        → group l letter h (drop (4 * h) (textSextets t)) ≡ level (textSextets t) y (l - 1) z h (length t / 4)
+    by zero lt o = absurd (omega arith)
+    by (suc l) lt o =
+        let m : suc l - 1 ≡ l = omega arith in
+        rw (behind-units h t, o, m, ey, ez, whole-part t h whole)
 
-  module _ (whole : length t % 4 ≡ 0) (lt : at < stop) (f : Framed)
-      (ef : f ≡ frameNext x marked (textSextets (take (length t - 4 * at) (drop (4 * at) t)))) where
-    size4 : 4 * stop ≡ length t
-    size4 = omega (arith, w .is-stop)
+module _ (letter h : ℕ) (t : List ℕ) (l : ℕ) (x marked : Bool) (start : ℕ) (w : Left letter h t l x marked start) where
+  pub left-end : length t ≤ 4 * start → Told (group l letter h (drop (4 * h) (textSextets t))) (length t + 8) Accepted
+  left-end q =
+      let z : start ≡ length t / 4 = omega (arith, w .inside) in
+      record { is = sym (w .leaves ∙ rw z (level-end (textSextets t) x (l - 1) marked (length t / 4))); near = omega arith }
 
-    long : 4 * stop ≤ length (textSextets t)
-    long = rw (text-length t) (omega (arith, size4))
+  module _ (lt : 4 * start < length t) (f : Framed)
+      (ef : f ≡ frameNext x marked (textSextets (take (length t - 4 * start) (drop (4 * start) t)))) where
+    units : 4 * (length t / 4) ≡ length t
+    units = omega (arith, w .whole)
 
-    rest : textSextets (take (length t - 4 * at) (drop (4 * at) t)) ≡ part (textSextets t) at stop
-    rest = text-rest t (4 * at) ∙ ap (drop (4 * at)) (sym (take-all (4 * stop) (textSextets t) (omega (arith, text-length t, size4))))
+    long : 4 * (length t / 4) ≤ length (textSextets t)
+    long = rw (text-length t) (omega (arith, units))
 
-    next : f ≡ frameNext x marked (part (textSextets t) at stop)
-    next = ef ∙ ap (frameNext x marked) rest
+    next : f ≡ frameNext x marked (part (textSextets t) start (length t / 4))
+    next = ef ∙ ap (frameNext x marked) (text-rest t (4 * start) ∙ sym (whole-part t start (w .whole)))
 
-    pub left-unframed : (m p : ℕ) → f ≡ Unframed m p
-        → Told (level (textSextets t) x l first 0 (length t / 4)) (length t + 8) (Refused m (4 * at + p))
-    left-unframed m p e = record {
-      is = sym (w .leaves ∙ level-refused (textSextets t) x l marked at stop m p long lt (sym next ∙ e));
-      near = omega (arith, place-head x marked _ m p (sym ef ∙ e), size4);
-    }
+    pub left-unframed : (m p : ℕ) → f ≡ Unframed m p → (r : Verdict) → r ≡ Refused m (4 * start + p)
+        → Told (group l letter h (drop (4 * h) (textSextets t))) (length t + 8) r
+    left-unframed m p e r er =
+        rw er record {
+          is = sym (w .leaves ∙ level-refused (textSextets t) x (l - 1) marked start (length t / 4) m p long (omega (arith, units)) (sym next ∙ e));
+          near = omega (arith, place-head x marked _ m p (sym ef ∙ e));
+        }
 
-    pub place-fits : length t ≤ 4194304 → (m p : ℕ) → f ≡ Unframed m p → val.Fits w64 (4 * at + p)
-    place-fits a m p e = omega (arith, place-head x marked _ m p (sym ef ∙ e), size4)
+    pub place-fits : (m p : ℕ) → f ≡ Unframed m p → val.Fits w64 (4 * start + p)
+    place-fits m p e = omega (arith, w .long, place-head x marked _ m p (sym ef ∙ e))
 
-    module _ (k : Kind) (h n : ℕ) (e : f ≡ Item k h n) where
-      pub sizes : (0 < h) × (h ≤ n) × (at + n ≤ stop)
+    module _ (k : Kind) (head n : ℕ) (e : f ≡ Item k head n) where
+      item : frameBy x (part (textSextets t) start (length t / 4)) ≡ Item k head n
+      item = any-item x marked _ k head n (sym next ∙ e)
+
+      pub sizes : (0 < head) × (head ≤ n) × (4 * (start + n) ≤ length t)
       sizes =
-          let b = item-sizes x (part (textSextets t) at stop) k h n (any-item x marked _ k h n (sym next ∙ e)) in
-          (b .0, b .1, omega (arith, b .2, part-length (textSextets t) at stop long))
+          let b = item-sizes x (part (textSextets t) start (length t / 4)) k head n item in
+          (b .0, b .1, omega (arith, b .2, part-length (textSextets t) start (length t / 4) long, units))
 
-      pub end-fits : length t ≤ 4194304 → val.Fits w64 (at + n)
-      end-fits a = omega (arith, sizes, size4)
+      pub end-fits : val.Fits w64 (start + n)
+      end-fits = omega (arith, sizes, w .long)
 
-      pub chars-fit : length t ≤ 4194304 → val.Fits w64 (4 * (at + n))
-      chars-fit a = omega (arith, sizes, size4)
+      pub chars-fit : val.Fits w64 (4 * (start + n))
+      chars-fit = omega (arith, sizes, w .long)
 
-      pub end-inside : 4 * (at + n) ≤ length t
-      end-inside = omega (arith, sizes, size4)
+      pub end-inside : 4 * (start + n) ≤ length t
+      end-inside = sizes .2
 
-      pub less : stop - (at + n) < stop - at
+      pub less : length t - 4 * (start + n) < length t - 4 * start
       less = omega (arith, sizes)
 
-      own-length : length (take (4 * (at + n) - 4 * at) (drop (4 * at) t)) ≡ 4 * n
-      own-length = length-take-le (4 * (at + n) - 4 * at) (drop (4 * at) t) (omega (arith, length-drop (4 * at) t, sizes, size4)) ∙ omega arith
+      abbrev own : List ℕ
+      own = take (4 * (start + n) - 4 * start) (drop (4 * start) t)
 
-      own : textSextets (take (4 * (at + n) - 4 * at) (drop (4 * at) t)) ≡ part (textSextets t) at (at + n)
+      own-length : length own ≡ 4 * n
+      own-length = length-take-le (4 * (start + n) - 4 * start) (drop (4 * start) t) (omega (arith, length-drop (4 * start) t, sizes)) ∙ omega arith
+
+      own-part : textSextets own ≡ part (textSextets t) start (start + n)
       unfolding textSextets
-      own =
-          let d : ℕ = 4 * (at + n) - 4 * at in
-          let z : 4 * at + d ≡ 4 * (at + n) = omega arith in
-          ap (map sextetOf) (take-of-drop d (4 * at) t) ∙ map-drop sextetOf (4 * at) (take (4 * at + d) t)
-          ∙ ap (drop (4 * at)) (map-take sextetOf (4 * at + d) t) ∙ ap (λ (j : ℕ). drop (4 * at) (take j (map sextetOf t))) z
+      own-part =
+          let d : ℕ = 4 * (start + n) - 4 * start in
+          let z : 4 * start + d ≡ 4 * (start + n) = omega arith in
+          ap (map sextetOf) (take-of-drop d (4 * start) t) ∙ map-drop sextetOf (4 * start) (take (4 * start + d) t)
+          ∙ ap (drop (4 * start)) (map-take sextetOf (4 * start + d) t) ∙ ap (λ (j : ℕ). drop (4 * start) (take j (map sextetOf t))) z
 
-      pub asks-head : 4 * h ≤ length (take (4 * (at + n) - 4 * at) (drop (4 * at) t))
-      asks-head = rw own-length (omega (arith, sizes))
+      pub judge-asks : Own k head own
+      judge-asks =
+          let z : length own / 4 ≡ n = omega (arith, own-length) in
+          record {
+            inside = omega (arith, own-length, sizes);
+            whole = omega (arith, own-length);
+            long = omega (arith, own-length, sizes, w .long);
+            shape = rw z (item-shape x _ k head n item);
+          }
 
-      pub asks-whole : length (take (4 * (at + n) - 4 * at) (drop (4 * at) t)) % 4 ≡ 0
-      asks-whole = rw own-length (omega arith)
-
-      pub asks-long : length t ≤ 4194304 → length (take (4 * (at + n) - 4 * at) (drop (4 * at) t)) ≤ 4194304
-      asks-long a = rw own-length (omega (arith, sizes, size4))
-
-      module _ (v : Verdict)
-          (ev : Told (judgeKind k h (textSextets (take (4 * (at + n) - 4 * at) (drop (4 * at) t))) (group l)) (length (take (4 * (at + n) - 4 * at) (drop (4 * at) t)) + 8) v) where
-        on : level (textSextets t) x l first 0 (length t / 4) ≡ andThen (shift (4 * at) v) (level (textSextets t) x l false (at + n) stop)
+      module _ (v : Verdict) (ev : Told (judgeKind k head (textSextets own) (group (l - 1))) (length own + 8) v) where
+        on : group l letter h (drop (4 * h) (textSextets t)) ≡ andThen (shift (4 * start) v) (level (textSextets t) x (l - 1) false (start + n) (length t / 4))
         on =
-            w .leaves ∙ level-item (textSextets t) x l marked at stop k h n long (w .inside) (sym next ∙ e)
-            ∙ rw (ev .is, own)
+            w .leaves ∙ level-item (textSextets t) x (l - 1) marked start (length t / 4) k head n long (omega (arith, units)) (sym next ∙ e)
+            ∙ rw (ev .is, own-part)
 
-        pub left-refused : (m p : ℕ) → v ≡ Refused m p
-            → Told (level (textSextets t) x l first 0 (length t / 4)) (length t + 8) (Refused m (4 * at + p))
+        pub left-refused : (m p : ℕ) → v ≡ Refused m p → (r : Verdict) → r ≡ Refused m (4 * start + p)
+            → Told (group l letter h (drop (4 * h) (textSextets t))) (length t + 8) r
         unfolding andThen shift
-        left-refused m p q =
-            record { is = sym (on ∙ rw q); near = omega (arith, near-place _ v m p q (ev .near), own-length, sizes, size4) }
+        left-refused m p q r er =
+            rw er record { is = sym (on ∙ rw q); near = omega (arith, near-place _ v m p q (ev .near), own-length, sizes) }
 
-        pub left-place : length t ≤ 4194304 → (m p : ℕ) → v ≡ Refused m p → val.Fits w64 (4 * at + p)
-        left-place a m p q = omega (arith, near-place _ v m p q (ev .near), own-length, sizes, size4)
+        pub left-place : (m p : ℕ) → v ≡ Refused m p → val.Fits w64 (4 * start + p)
+        left-place m p q = omega (arith, w .long, near-place _ v m p q (ev .near), own-length, sizes)
 
-        pub left-on : v ≡ Accepted → Left t x first l stop (at + n) false
+        pub left-on : v ≡ Accepted → Left letter h t l x false (start + n)
         unfolding andThen shift
-        left-on q = record { is-stop = w .is-stop; inside = sizes .2; leaves = on ∙ rw q }
+        left-on q = record { some = w .some; whole = w .whole; long = w .long; inside = sizes .2; leaves = on ∙ rw q }

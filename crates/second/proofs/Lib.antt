@@ -1,4 +1,4 @@
-pub mod Laws
+pub mod Judging
 pub mod Groups
 pub mod Counts
 pub mod Rows

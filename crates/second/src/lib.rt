@@ -1,699 +1,258 @@
-// A plain second judge (02 m), to be read by eye: a text is framed and judged by plain recursion over its groups, in the papers' order and
-// by their names. It shares with the first engine the tables of alphabet and registry with their look-ups, and conversion; no more.
-// Everything is over a text `t`, from an item's start to the enclosing end; places are counted from its start.
+// A plain second judge (02 m), to be read by eye: a text is framed and judged by plain recursion over its groups, in the papers' order and by
+// their names. It shares with the first engine the tables of alphabet and registry with their look-ups, and conversion; no more.
+// Places count characters of a text `t`, which is an item or begins with one; `|` and `&` ask both sides.
 use format::CodeRow;
-use format::Form;
 use format::Framed;
 use format::IndexRow;
 use format::Kind;
-use format::Opening;
 use format::Reported;
 use format::Verdict;
+use registry_extent::number;
+use second_framing::at;
+use second_framing::first;
+use second_framing::frame;
+use second_framing::strangers;
 ghost use mathlib.Core.Path.{_≡_};
 ghost use mathlib.Core.List.{[], _∷_, _++_};
 ghost use Prim.Native.Nat.{_+_, _-_, _*_, _/_, _%_, _≤_, _<_};
-ghost use lib.Dec.{eqb};
-ghost use lib.ListN.{length, take, drop};
+ghost use lib.ListN.{length, drop};
 ghost use lib.Seq.{sets};
-ghost use Rattle.base.specs.Digits.{numberOf};
-ghost use Rattle.format.specs.declared.Framed.the-variants.{Unframed};
-ghost use Rattle.format.specs.Alphabet.{strangerNumber};
-ghost use Rattle.format.specs.Units.{textSextets, text, binary, domain};
-ghost use Rattle.format.specs.Conversion.{toText};
+ghost use Rattle.format.specs.declared.Verdict.the-variants.{Refused};
+ghost use Rattle.format.specs.Units.{textSextets, text, binary};
 ghost use Rattle.format.specs.Report.{reportAnswer, reportLeft, rowsIn, placed, be4, verdictByte, refusal, refusalBytes, concat};
-ghost use Rattle.format.specs.Registry.{zeroBitsOf, prepadOf, indexChars};
-ghost use Rattle.format.specs.Values.{ondexOf};
-ghost use Rattle.format.specs.Texts.{fills, fillOf, textRight, valueRight};
-ghost use Rattle.format.specs.Framing.{sextet, fit, known, second, headed, digits4, isOurs, ruled, frameBy, frameNext};
-ghost use Rattle.format.specs.Judging.{shift, andThen, unless, isShortest, behind, hasLead, zeroBits, prepadRight, ondexRight, judgeKind, group};
-ghost use Rattle.laws.specs.Levels.{level};
+ghost use Rattle.format.specs.Judging.{shift, andThen, unless, isShortest, zeroBits, judgeKind, group};
 ghost use Rattle.second_claims.specs.Second.{secondBinary, workLeft};
+ghost use Rattle.second.specs.Kinds.{Own, fixedOf, variableOf, indexedOf};
 ghost use Rattle.second.specs.Places.{Near, Told};
-ghost use Rattle.second.specs.Reports.{Given, Ready, Written, Answered};
-ghost use Rattle.second.specs.Kinds.{fixedOf, variableOf, indexedOf};
-
-// ---- sextets
-
-fn sextet(t: &[u8], i: usize) -> u8
-    ensures { λ r. ⌜ r ≡ sextet (textSextets (now (t .entry))) i ⌝ }
-{
-    if i < t.len() {
-        alphabet::sextet(t[i])
-    } else {
-        0
-    }
-}
-
-fn wide(x: u8) -> usize
-    ensures { λ r. ⌜ (r ≡ x) × (r < 256) ⌝ }
-{
-    x as usize
-}
-
-// ---- framing: 4 (first unit), 5 or 19, 6, 4 (second unit), 5 or 19, 4 (extent), 7
-
-fn fit(kind: Kind, head: usize, size: usize, len: usize) -> Framed
-    ensures { λ r. ⌜ r ≡ fit kind head size len ⌝ }
-{
-    if len < size {
-        return Framed::Unframed {
-            number: 4,
-            place: 0,
-        };
-    }
-    Framed::Item { kind, head, size }
-}
-
-fn strange(v: u8, place: usize) -> Framed
-    ensures { λ r. ⌜ r ≡ Unframed (strangerNumber v) place ⌝ }
-{
-    let number = alphabet_numbers::stranger_number(v);
-    Framed::Unframed { number, place }
-}
-
-// The first bad character of the unit from sextet i on.
-fn known(t: &[u8], i: usize, next: Framed) -> Framed
-    requires { ⌜ i ≤ 4 ⌝ }
-    ensures { λ r. ⌜ r ≡ known (sextet (textSextets (now (t .entry)))) i next ⌝ }
-{
-    let a = sextet(t, i);
-    let b = sextet(t, i + 1);
-    let c = sextet(t, i + 2);
-    let d = sextet(t, i + 3);
-    if 64 <= a {
-        return strange(a, i);
-    }
-    if 64 <= b {
-        return strange(b, i + 1);
-    }
-    if 64 <= c {
-        return strange(c, i + 2);
-    }
-    if 64 <= d {
-        return strange(d, i + 3);
-    }
-    next
-}
-
-fn second(t: &[u8], len: usize, next: Framed) -> Framed
-    ensures { λ r. ⌜ r ≡ second (sextet (textSextets (now (t .entry)))) len next ⌝ }
-{
-    if len < 2 {
-        return Framed::Unframed {
-            number: 4,
-            place: 0,
-        };
-    }
-    known(t, 4, next)
-}
-
-fn headed(op: Opening, t: &[u8], len: usize) -> Framed
-    ensures { λ r. ⌜ r ≡ headed op (sextet (textSextets (now (t .entry)))) len ⌝ }
-{
-    let unit = [sextet(t, 4), sextet(t, 5), sextet(t, 6), sextet(t, 7)];
-    let size = registry_extent::extent(op, unit);
-    let count = registry_extent::number(unit);
-    match op {
-        Opening::Unknown => Framed::Unframed {
-            number: 6,
-            place: 0,
-        },
-        Opening::Short { kind, size } => fit(kind, 1, size, len),
-        Opening::Long { kind, size: _ } => second(t, len, fit(kind, 2, size, len)),
-        Opening::LargeVariable { letter, lead } => {
-            let kind = Kind::Variable {
-                letter,
-                lead,
-                count,
-            };
-            second(t, len, fit(kind, 2, size, len))
-        }
-        Opening::LargeGroup { letter, digit: _ } => {
-            second(t, len, fit(Kind::Group { letter }, 2, size, len))
-        }
-        Opening::Version => second(t, len, fit(Kind::Genus, 2, size, len)),
-    }
-}
-
-// By the table that is asked.
-fn frame_by(indexed: bool, t: &[u8]) -> Framed
-    ensures { λ r. ⌜ r ≡ frameBy indexed (textSextets (now (t .entry))) ⌝ }
-{
-    let len = t.len() / 4;
-    if len < 1 {
-        return Framed::Unframed {
-            number: 4,
-            place: 0,
-        };
-    }
-    let unit = [sextet(t, 0), sextet(t, 1), sextet(t, 2), sextet(t, 3)];
-    let op = registry::opening_by(indexed, unit);
-    known(t, 0, headed(op, t, len))
-}
-
-// Whether a genus/version is `AAACAA`.
-fn is_ours(t: &[u8]) -> bool
-    ensures { λ r. ⌜ r ≡ isOurs (sextet (textSextets (now (t .entry)))) ⌝ }
-{
-    let high = wide(sextet(t, 2)) * 64 + wide(sextet(t, 3));
-    let unit = [sextet(t, 4), sextet(t, 5), sextet(t, 6), sextet(t, 7)];
-    high * 16777216 + registry_extent::number(unit) == 8192
-}
-
-fn ruled(t: &[u8], framed: Framed) -> Framed
-    ensures { λ r. ⌜ r ≡ ruled (sextet (textSextets (now (t .entry)))) framed ⌝ }
-{
-    match framed {
-        Framed::Item {
-            kind,
-            head: _,
-            size: _,
-        } => match kind {
-            Kind::Fixed(_) => framed,
-            Kind::Variable {
-                letter: _,
-                lead: _,
-                count: _,
-            } => framed,
-            Kind::Group { letter: _ } => framed,
-            Kind::Genus => {
-                if is_ours(t) {
-                    return framed;
-                }
-                Framed::Unframed {
-                    number: 7,
-                    place: 0,
-                }
-            }
-            Kind::Indexed(_) => framed,
-        },
-        Framed::Unframed {
-            number: _,
-            place: _,
-        } => framed,
-    }
-}
-
-// A group's or a stream's next item: 7 is asked where `first` says.
-fn frame_next(indexed: bool, first: bool, t: &[u8]) -> Framed
-    ensures { λ r. ⌜ r ≡ frameNext indexed first (textSextets (now (t .entry))) ⌝ }
-{
-    let framed = frame_by(indexed, t);
-    if first { ruled(t, framed) } else { framed }
-}
-
-// ---- verdicts
-
-// The first refusal stands.
-fn and_then(v: Verdict, w: Verdict) -> Verdict
-    ensures { λ r. ⌜ r ≡ andThen v w ⌝ }
-{
-    match v {
-        Verdict::Accepted => w,
-        Verdict::Refused {
-            number: _,
-            place: _,
-        } => v,
-    }
-}
-
-fn unless(number: u8, right: bool) -> Verdict
-    ensures { λ r. ⌜ r ≡ unless number right ⌝ }
-{
-    if right {
-        return Verdict::Accepted;
-    }
-    Verdict::Refused { number, place: 0 }
-}
-
-// The place counted on from o.
-fn shift(o: usize, v: Verdict) -> Verdict
-    requires { ⌜ (o ≤ 4194304) × Near 4194312 v ⌝ }
-    ensures { λ r. ⌜ r ≡ shift o v ⌝ }
-{
-    match v {
-        Verdict::Accepted => v,
-        Verdict::Refused { number, place } => Verdict::Refused {
-            number,
-            place: o + place,
-        },
-    }
-}
+ghost use Rattle.second.specs.Reports.{formOf, Given, Answered, endAnswer, endLeft};
 
 // ---- judging a primitive: 5 or 19 behind the header, 18, 9, 8, 16, 10; an indexed item: 5 or 19, 8, 15
 
-// The first character outside the alphabet behind a header of h units.
-fn behind(h: usize, t: &[u8]) -> Verdict
-    requires { ⌜ 4 * h ≤ length (now t) ⌝ }
-    ensures { λ r. ⌜ r ≡ behind h (textSextets (now (t .entry))) ⌝ }
+// The first refusal stands: a verdict, and where that accepts, a number unless a test passes.
+fn unless(v: Verdict, number: u8, right: bool) -> Verdict
+    ensures { λ r. ⌜ r ≡ andThen v (unless number right) ⌝ }
 {
-    let mut i = 4 * h;
-    while i < t.len() {
-        let v = sextet(t, i);
-        if 64 <= v {
-            let number = alphabet_numbers::stranger_number(v);
-            return Verdict::Refused { number, place: i };
+    if let Verdict::Accepted = v {
+        if !right {
+            return Verdict::Refused { number, place: 0 };
         }
-        i = i + 1;
     }
-    Verdict::Accepted
+    v
 }
 
-fn is_shortest(h: usize, count: usize) -> bool
-    ensures { λ r. ⌜ r ≡ isShortest h count ⌝ }
+// 18: a large header counts 4,096 units or more.
+fn is_shortest(head: usize, count: usize) -> bool
+    ensures { λ r. ⌜ r ≡ isShortest head count ⌝ }
 {
-    if h == 1 { true } else { 4096 <= count }
+    (head == 1) | (4096 <= count)
 }
 
-fn has_lead(lead: u8, count: usize) -> bool
-    ensures { λ r. ⌜ r ≡ hasLead lead count ⌝ }
-{
-    if 0 < lead { 0 < count } else { true }
-}
-
-fn behind_bits(z: usize) -> usize
-    ensures { λ r. ⌜ (r ≡ 18 - z) × (r ≤ 18) ⌝ }
-{
-    if z < 18 { 18 - z } else { 0 }
-}
-
-// The first z bits, of 18 at most, from sextet i on are zero.
+// 8: the first z bits, of 18 at most, from a sextet on are zero.
 fn zero_bits(t: &[u8], i: usize, z: usize) -> bool
     requires { ⌜ i ≤ 4194304 ⌝ }
     ensures { λ r. ⌜ r ≡ zeroBits (textSextets (now (t .entry))) i z ⌝ }
 {
-    let bits = (wide(sextet(t, i)) * 64 + wide(sextet(t, i + 1))) * 64 + wide(sextet(t, i + 2));
-    bits >> behind_bits(z) == 0
+    let bits = number([0, at(t, i), at(t, i + 1), at(t, i + 2)]);
+    bits >> (if z < 18 { 18 - z } else { 0 }) == 0
 }
 
-fn zero_bits_of(c: CodeRow) -> usize
-    ensures { λ r. ⌜ r ≡ zeroBitsOf c ⌝ }
+fn fixed(c: CodeRow, head: usize, t: &[u8]) -> Verdict
+    requires { ⌜ 4 * head ≤ length (now t) ⌝ }
+    ensures { λ r. ⌜ r ≡ fixedOf c head (textSextets (now (t .entry))) ⌝ }
 {
-    let pad = c.pad;
-    let lead = c.lead;
-    if c.tag == 0 {
-        return 2 * wide(pad) + 8 * wide(lead);
-    }
-    0
-}
-
-fn prepad_of(c: CodeRow) -> usize
-    ensures { λ r. ⌜ r ≡ prepadOf c ⌝ }
-{
-    let chars = c.chars;
-    let tag = c.tag;
-    let size = c.size;
-    let used = wide(chars) + wide(tag);
-    let full = wide(size);
-    if tag == 0 {
-        return 0;
-    }
-    if used < full { full - used } else { 0 }
-}
-
-fn prepad_right(t: &[u8], i: usize, prepad: usize) -> bool
-    ensures { λ r. ⌜ r ≡ prepadRight (textSextets (now (t .entry))) i prepad ⌝ }
-{
-    if prepad == 0 {
-        return true;
-    }
-    sextet(t, i) == 63
-}
-
-// So many `A` stand in front.
-fn fills(f: usize, t: &[u8]) -> bool
-    ensures { λ r. ⌜ r ≡ fills f (textSextets (now (t .entry))) ⌝ }
-{
-    let mut i = 0;
-    while i < f {
-        if t.len() <= i {
-            return false;
-        }
-        if sextet(t, i) != 0 {
-            return false;
-        }
-        i = i + 1;
-    }
-    true
-}
-
-fn fill_of(lead: u8, t: &[u8]) -> usize
-    ensures { λ r. ⌜ r ≡ fillOf lead (textSextets (now (t .entry))) ⌝ }
-{
-    if lead == 0 {
-        if fills(1, t) {
-            return 1;
-        }
-        return 0;
-    }
-    wide(lead) + 1
-}
-
-fn text_right(lead: u8, t: &[u8]) -> bool
-    ensures { λ r. ⌜ r ≡ textRight lead (textSextets (now (t .entry))) ⌝ }
-{
-    let f = fill_of(lead, t);
-    if fills(f, t) {
-        return !fills(1, &t[f..]);
-    }
-    false
-}
-
-fn value_right(letter: u8, lead: u8, t: &[u8]) -> bool
-    ensures { λ r. ⌜ r ≡ valueRight letter lead (textSextets (now (t .entry))) ⌝ }
-{
-    if letter == 0 {
-        return text_right(lead, t);
-    }
-    true
-}
-
-// So many digits from a sextet on are zero.
-fn digits_zero(t: &[u8], from: usize, count: usize) -> bool
-    requires { ⌜ (from ≤ 510) × (count ≤ 255) ⌝ }
-    ensures { λ r. ⌜ r ≡ eqb (numberOf 64 (take count (drop from (textSextets (now (t .entry)))))) 0 ⌝ }
-{
-    let mut i = 0;
-    while i < count {
-        if sextet(t, from + i) != 0 {
-            return false;
-        }
-        i = i + 1;
-    }
-    true
-}
-
-fn ondex_right(c: IndexRow, t: &[u8]) -> bool
-    ensures { λ r. ⌜ r ≡ ondexRight c (ondexOf c (textSextets (now (t .entry)))) ⌝ }
-{
-    let chars = c.chars;
-    let index = c.index;
-    let ondex = c.ondex;
-    if c.current == 0 {
-        return true;
-    }
-    digits_zero(t, wide(chars) + wide(index), wide(ondex))
-}
-
-fn fixed(c: CodeRow, h: usize, t: &[u8]) -> Verdict
-    requires { ⌜ 4 * h ≤ length (now t) ⌝ }
-    ensures { λ r. ⌜ r ≡ fixedOf c h (textSextets (now (t .entry))) ⌝ }
-{
-    let chars = c.chars;
-    let i = wide(chars);
-    let zeros = unless(8, zero_bits(t, i, zero_bits_of(c)));
-    let prepad = unless(10, prepad_right(t, i, prepad_of(c)));
-    and_then(behind(h, t), and_then(zeros, prepad))
-}
-
-fn variable(letter: u8, lead: u8, count: usize, h: usize, t: &[u8]) -> Verdict
-    requires { ⌜ (4 * h ≤ length (now t)) × (length (now t) ≤ 4194304) ⌝ }
-    ensures { λ r. ⌜ r ≡ variableOf letter lead count h (textSextets (now (t .entry))) ⌝ }
-{
-    let shortest = unless(18, is_shortest(h, count));
-    let led = unless(9, has_lead(lead, count));
-    let zeros = unless(8, zero_bits(t, 4 * h, 8 * wide(lead)));
-    let filled = unless(16, value_right(letter, lead, &t[4 * h..]));
-    and_then(
-        behind(h, t),
-        and_then(shortest, and_then(led, and_then(zeros, filled))),
+    let code = c.chars as usize;
+    let v = strangers(t, 4 * head, t.len());
+    let v = unless(v, 8, zero_bits(t, code, registry_reading::zero_bits(c)));
+    unless(
+        v,
+        10,
+        (registry_reading::prepad(c) == 0) | (at(t, code) == 63),
     )
 }
 
-fn indexed(c: IndexRow, h: usize, t: &[u8]) -> Verdict
-    requires { ⌜ 4 * h ≤ length (now t) ⌝ }
-    ensures { λ r. ⌜ r ≡ indexedOf c h (textSextets (now (t .entry))) ⌝ }
+// 16: `A` is filled in front of a text as often as its lead says, and once more; where that is 0 not at all will do.
+fn variable(letter: u8, lead: u8, head: usize, t: &[u8]) -> Verdict
+    requires { ⌜ (4 * head ≤ length (now t)) × (length (now t) ≤ 4194304) ⌝ }
+    ensures { λ r. ⌜ r ≡ variableOf letter lead (length (now (t .entry)) / 4 - head) head (textSextets (now (t .entry))) ⌝ }
 {
-    let chars = c.chars;
-    let index = c.index;
-    let ondex = c.ondex;
-    let bits = c.zeros;
-    let i = wide(chars) + wide(index) + wide(ondex);
-    let zeros = unless(8, zero_bits(t, i, wide(bits)));
-    let current = unless(15, ondex_right(c, t));
-    and_then(behind(h, t), and_then(zeros, current))
+    let lead = lead as usize;
+    let count = t.len() / 4 - head;
+    let fill = first(t, 4 * head, t.len(), 1) - 4 * head;
+    let v = strangers(t, 4 * head, t.len());
+    let v = unless(v, 18, is_shortest(head, count));
+    let v = unless(v, 9, (lead == 0) | (0 < count));
+    let v = unless(v, 8, zero_bits(t, 4 * head, 8 * lead));
+    unless(
+        v,
+        16,
+        (letter != 0) | (fill == lead + 1) | ((fill == 0) & (lead == 0)),
+    )
+}
+
+fn indexed(c: IndexRow, head: usize, t: &[u8]) -> Verdict
+    requires { ⌜ 4 * head ≤ length (now t) ⌝ }
+    ensures { λ r. ⌜ r ≡ indexedOf c head (textSextets (now (t .entry))) ⌝ }
+{
+    let ondex = c.chars as usize + c.index as usize;
+    let value = ondex + c.ondex as usize;
+    let v = strangers(t, 4 * head, t.len());
+    let v = unless(v, 8, zero_bits(t, value, c.zeros as usize));
+    unless(
+        v,
+        15,
+        (c.current == 0) | (first(t, ondex, value, 1) == value),
+    )
 }
 
 // ---- judging by kind, and the groups: 11, 18, then the items one by one, each framed (an inner 7 next), then judged
 
-// An item of a kind with a header of h units, where so many groups may be entered.
-fn judge(kind: Kind, h: usize, t: &[u8], levels: usize) -> Verdict
-    requires { ⌜ (4 * h ≤ length (now t)) × (length (now t) % 4 ≡ 0) × (length (now t) ≤ 4194304) ⌝ }
-    ensures { λ r. ⌜ Told (judgeKind kind h (textSextets (now (t .entry))) (group levels)) (length (now (t .entry)) + 8) r ⌝ }
+fn refused(number: u8, place: usize) -> Verdict
+    ensures { λ r. ⌜ r ≡ Refused number place ⌝ }
+{
+    Verdict::Refused { number, place }
+}
+
+// An item, the whole text, with a header of so many units, where so many groups may be entered.
+fn judge(kind: Kind, head: usize, t: &[u8], levels: usize) -> Verdict
+    requires { ⌜ Own kind head (now t) ⌝ }
+    ensures { λ r. ⌜ Told (judgeKind kind head (textSextets (now (t .entry))) (group levels)) (length (now (t .entry)) + 8) r ⌝ }
 {
     match kind {
-        Kind::Fixed(c) => fixed(c, h, t),
-        Kind::Variable {
-            letter,
-            lead,
-            count,
-        } => variable(letter, lead, count, h, t),
-        Kind::Group { letter } => group(letter, h, &t[4 * h..], levels),
+        Kind::Fixed(c) => fixed(c, head, t),
+        Kind::Variable { letter, lead, .. } => variable(letter, lead, head, t),
+        Kind::Group { letter } => group(letter, head, t, levels),
         Kind::Genus => Verdict::Accepted,
-        Kind::Indexed(c) => indexed(c, h, t),
+        Kind::Indexed(c) => indexed(c, head, t),
     }
 }
 
-// A group of a letter with a header of h units, by what is behind the header.
-fn group(letter: u8, h: usize, t: &[u8], levels: usize) -> Verdict
-    requires { ⌜ (length (now t) % 4 ≡ 0) × (4 * h + length (now t) ≤ 4194304) ⌝ }
-    ensures { λ r. ⌜ Told (group levels letter h (textSextets (now (t .entry)))) (4 * h + length (now (t .entry)) + 8) r ⌝ }
+// A group, the whole text, by its letter: 7 is asked of its first item if of any.
+fn group(letter: u8, head: usize, t: &[u8], levels: usize) -> Verdict
+    requires { ⌜ (4 * head ≤ length (now t)) × (length (now t) % 4 ≡ 0) × (length (now t) ≤ 4194304) ⌝ }
+    ensures { λ r. ⌜ Told (group levels letter head (drop (4 * head) (textSextets (now (t .entry))))) (length (now (t .entry)) + 8) r ⌝ }
 {
-    if levels == 0 {
-        return Verdict::Refused {
-            number: 11,
-            place: 0,
-        };
+    let v = unless(Verdict::Accepted, 11, 0 < levels);
+    let v = unless(v, 18, is_shortest(head, t.len() / 4 - head));
+    if let Verdict::Refused { .. } = v {
+        return v;
     }
-    let shortest = unless(18, is_shortest(h, t.len() / 4));
     let indexed = registry::is_indexed(letter);
-    let first = registry::is_overrideable(letter);
-    let v = items(t, indexed, first, levels - 1);
-    and_then(shortest, shift(4 * h, v))
-}
-
-// The items one by one, where so many more groups may be entered. Positions count units.
-fn items(t: &[u8], indexed: bool, first: bool, levels: usize) -> Verdict
-    requires { ⌜ (length (now t) % 4 ≡ 0) × (length (now t) ≤ 4194304) ⌝ }
-    ensures { λ r. ⌜ Told (level (textSextets (now (t .entry))) indexed levels first 0 (length (now (t .entry)) / 4)) (length (now (t .entry)) + 8) r ⌝ }
-{
-    let stop = t.len() / 4;
-    let mut at = 0;
-    let mut marked = first;
-    while at < stop {
-        match frame_next(indexed, marked, &t[4 * at..]) {
-            Framed::Unframed { number, place } => {
-                return Verdict::Refused {
-                    number,
-                    place: 4 * at + place,
-                };
-            }
+    let mut asked = registry::is_overrideable(letter);
+    let mut start = head;
+    while 4 * start < t.len() {
+        match frame(indexed, asked, &t[4 * start..]) {
+            Framed::Unframed { number, place } => return refused(number, 4 * start + place),
             Framed::Item { kind, head, size } => {
-                let end = at + size;
-                match judge(kind, head, &t[4 * at..4 * end], levels) {
-                    Verdict::Refused { number, place } => {
-                        return Verdict::Refused {
-                            number,
-                            place: 4 * at + place,
-                        };
-                    }
-                    Verdict::Accepted => {
-                        at = end;
-                        marked = false;
-                    }
+                let v = judge(kind, head, &t[4 * start..4 * (start + size)], levels - 1);
+                if let Verdict::Refused { number, place } = v {
+                    return refused(number, 4 * start + place);
                 }
+                start = start + size;
+                asked = false;
             }
         }
     }
     Verdict::Accepted
 }
 
-// ---- the report: the items counted, since room is asked by them; then their rows, each refused item's refusal behind the rows
+// ---- the report: items, refusals, remainder
 
 // How many items stand at top level before the end or the first that is not framed.
 fn count(t: &[u8]) -> usize
     requires { ⌜ length (now t) ≤ 4194304 ⌝ }
     ensures { λ r. ⌜ (r ≡ length (rowsIn text (now (t .entry)))) × (r ≤ 1048576) ⌝ }
 {
-    let stop = t.len() / 4;
-    let mut at = 0;
+    let mut start = 0;
     let mut n = 0;
-    while at < stop {
-        match frame_next(false, true, &t[4 * at..]) {
-            Framed::Unframed {
-                number: _,
-                place: _,
-            } => {
-                return n;
-            }
-            Framed::Item {
-                kind: _,
-                head: _,
-                size,
-            } => {
-                at = at + size;
-                n = n + 1;
-            }
-        }
+    while let Framed::Item { size, .. } = frame(false, true, &t[4 * start..]) {
+        start = start + size;
+        n = n + 1;
     }
     n
 }
 
-// So many units in elements of a stream.
-fn elements(form: Form, units: usize) -> usize
-    requires { ⌜ units ≤ 4194304 ⌝ }
-    ensures { λ r. ⌜ r ≡ units * domain form .unit ⌝ }
-{
-    match form {
-        Form::Text => units * 4,
-        Form::Binary => units * 3,
-    }
-}
-
-// The verdict on the item at a unit, counted back to the stream's start and elements.
-fn counted_back(form: Form, at: usize, v: Verdict) -> Verdict
-    requires { ⌜ (at ≤ 1048576) × Near 4194312 v ⌝ }
-    ensures { λ r. ⌜ r ≡ shift (at * domain form .unit) (placed (domain form .unit) v) ⌝ }
-{
-    match v {
-        Verdict::Accepted => v,
-        Verdict::Refused { number, place } => {
-            let start = elements(form, at + place / 4);
-            Verdict::Refused {
-                number,
-                place: start + place % 4,
-            }
-        }
-    }
-}
-
 // A number in four bytes, the highest first.
-fn put_number(out: &mut [u8], at: usize, v: usize)
-    requires { ⌜ at + 4 ≤ length (now out) ⌝ }
-    ensures { λ _. ⌜ now (out .exit) ≡ sets (now (out .entry)) at (be4 v) ⌝ }
+fn put(out: &mut [u8], p: usize, v: usize)
+    requires { ⌜ p + 4 ≤ length (now out) ⌝ }
+    ensures { λ _. ⌜ now (out .exit) ≡ sets (now (out .entry)) p (be4 v) ⌝ }
 {
-    out[at] = (v / 16777216 % 256) as u8;
-    out[at + 1] = (v / 65536 % 256) as u8;
-    out[at + 2] = (v / 256 % 256) as u8;
-    out[at + 3] = (v % 256) as u8;
+    out[p] = (v / 16777216 % 256) as u8;
+    out[p + 1] = (v / 65536 % 256) as u8;
+    out[p + 2] = (v / 256 % 256) as u8;
+    out[p + 3] = (v % 256) as u8;
 }
 
-fn put_row(out: &mut [u8], at: usize, offset: usize, size: usize, number: u8)
-    requires { ⌜ at + 9 ≤ length (now out) ⌝ }
-    ensures { λ _. ⌜ now (out .exit) ≡ sets (now (out .entry)) at (be4 offset ++ (be4 size ++ (number ∷ []))) ⌝ }
+// The i-th item's row, and at p its refusal's, if there is one: how many there are.
+fn put_item(out: &mut [u8], i: usize, p: usize, offset: usize, size: usize, v: Verdict) -> usize
+    requires { ⌜ (13 + 9 * i ≤ p) × (p + 9 ≤ length (now out)) ⌝ }
+    ensures { λ r. ⌜ (r ≡ length (refusal i v)) × (now (out .exit) ≡ sets (sets (now (out .entry)) (4 + 9 * i) (be4 offset ++ (be4 size ++ (verdictByte v ∷ [])))) p (concat refusalBytes (refusal i v))) ⌝ }
 {
-    put_number(out, at, offset);
-    put_number(out, at + 4, size);
-    out[at + 8] = number;
+    put(out, 4 + 9 * i, offset);
+    put(out, 8 + 9 * i, size);
+    let Verdict::Refused { number, place } = v else {
+        out[12 + 9 * i] = 0;
+        return 0;
+    };
+    out[12 + 9 * i] = number;
+    put(out, p, i);
+    out[p + 4] = number;
+    put(out, p + 5, place);
+    1
 }
 
-fn put_refusal(out: &mut [u8], at: usize, index: usize, number: u8, place: usize)
-    requires { ⌜ at + 9 ≤ length (now out) ⌝ }
-    ensures { λ _. ⌜ now (out .exit) ≡ sets (now (out .entry)) at (be4 index ++ (number ∷ be4 place)) ⌝ }
-{
-    put_number(out, at, index);
-    out[at + 4] = number;
-    put_number(out, at + 5, place);
-}
-
-fn put_remainder(out: &mut [u8], at: usize, offset: usize, number: u8)
-    requires { ⌜ at + 5 ≤ length (now out) ⌝ }
-    ensures { λ _. ⌜ now (out .exit) ≡ sets (now (out .entry)) at (be4 offset ++ (number ∷ [])) ⌝ }
-{
-    put_number(out, at, offset);
-    out[at + 4] = number;
-}
-
-// The i-th of n items, of which k were refused before it: its row, and its refusal's; how many refusals it adds.
-fn put_item(
-    out: &mut [u8],
-    n: usize,
-    i: usize,
-    k: usize,
-    offset: usize,
-    size: usize,
-    v: Verdict,
-) -> usize
-    requires { ⌜ (i < n) × (k ≤ i) × (n ≤ 4194304) × (17 + 18 * n ≤ length (now out)) ⌝ }
-    ensures { λ r. ⌜ (r ≡ length (refusal i v)) × (now (out .exit) ≡ sets (sets (now (out .entry)) (4 + 9 * i) (be4 offset ++ (be4 size ++ (verdictByte v ∷ [])))) (8 + 9 * n + 9 * k) (concat refusalBytes (refusal i v))) ⌝ }
-{
-    match v {
-        Verdict::Accepted => {
-            put_row(out, 4 + 9 * i, offset, size, 0);
-            0
-        }
-        Verdict::Refused { number, place } => {
-            put_row(out, 4 + 9 * i, offset, size, number);
-            put_refusal(out, 8 + 9 * n + 9 * k, i, number, place);
-            1
-        }
-    }
-}
-
-// The counts of refusals and of remainders behind the rows of n items: where they end.
-fn put_counts(out: &mut [u8], n: usize, k: usize, rest: usize) -> usize
+// Behind the rows of n items the count of refusals, at p the count of remainders, and the one there may be: the report's length.
+fn put_end(out: &mut [u8], n: usize, k: usize, rest: usize, offset: usize, number: u8) -> Reported
     requires { ⌜ (k ≤ n) × (n ≤ 4194304) × (17 + 18 * n ≤ length (now out)) ⌝ }
-    ensures { λ r. ⌜ (r ≡ 12 + 9 * n + 9 * k) × (now (out .exit) ≡ sets (sets (now (out .entry)) (4 + 9 * n) (be4 k)) (8 + 9 * n + 9 * k) (be4 rest)) ⌝ }
+    ensures { λ r. ⌜ (r ≡ endAnswer n k rest) × (now (out .exit) ≡ endLeft n k rest offset number (now (out .entry))) ⌝ }
 {
-    put_number(out, 4 + 9 * n, k);
-    put_number(out, 8 + 9 * n + 9 * k, rest);
-    12 + 9 * n + 9 * k
-}
-
-// The counts, and a remainder: the report's length.
-fn put_rest(out: &mut [u8], n: usize, k: usize, offset: usize, number: u8) -> usize
-    requires { ⌜ (k ≤ n) × (n ≤ 4194304) × (17 + 18 * n ≤ length (now out)) ⌝ }
-    ensures { λ r. ⌜ (r ≡ 17 + 9 * n + 9 * k) × (now (out .exit) ≡ sets (sets (sets (now (out .entry)) (4 + 9 * n) (be4 k)) (8 + 9 * n + 9 * k) (be4 1)) (12 + 9 * n + 9 * k) (be4 offset ++ (number ∷ []))) ⌝ }
-{
-    let at = put_counts(out, n, k, 1);
-    put_remainder(out, at, offset, number);
-    at + 5
-}
-
-// The report of a stream's n items, by the text it is judged by: its length.
-fn put_all(form: Form, s: &[u8], t: &[u8], out: &mut [u8], n: usize) -> usize
-    requires { ⌜ Ready form (now s) (now t) n (now out) ⌝ }
-    ensures { λ r. ⌜ Written form (now (s .entry)) (now (out .entry)) r (now (out .exit)) ⌝ }
-{
-    let stop = t.len() / 4;
-    put_number(out, 0, n);
-    let mut at = 0;
-    let mut i = 0;
-    let mut k = 0;
-    while at < stop {
-        match frame_next(false, true, &t[4 * at..]) {
-            Framed::Unframed { number, place: _ } => {
-                return put_rest(out, n, k, elements(form, at), number);
-            }
-            Framed::Item { kind, head, size } => {
-                let end = at + size;
-                let v = judge(kind, head, &t[4 * at..4 * end], 64);
-                let offset = elements(form, at);
-                let long = elements(form, size);
-                k = k + put_item(out, n, i, k, offset, long, counted_back(form, at, v));
-                at = end;
-                i = i + 1;
-            }
-        }
+    let p = 8 + 9 * n + 9 * k;
+    put(out, 4 + 9 * n, k);
+    put(out, p, rest);
+    if rest == 0 {
+        return Reported::Written(p + 4);
     }
-    let end = elements(form, stop);
-    if end < s.len() {
-        return put_rest(out, n, k, end, 4);
-    }
-    put_counts(out, n, k, 0)
+    put(out, p + 4, offset);
+    out[p + 8] = number;
+    Reported::Written(p + 9)
 }
 
-// Of a stream within the limit.
-fn report(form: Form, s: &[u8], t: &[u8], out: &mut [u8]) -> Reported
-    requires { ⌜ Given form (now s) (now t) ⌝ }
-    ensures { λ r. ⌜ Answered form (now (s .entry)) (now (out .entry)) r (now (out .exit)) ⌝ }
+// The verdict on the item at a unit, its place counted from the stream's start, so many elements to the unit.
+fn placed(unit: usize, start: usize, v: Verdict) -> Verdict
+    requires { ⌜ (unit ≤ 4) × (start ≤ 1048576) × Near 4194312 v ⌝ }
+    ensures { λ r. ⌜ r ≡ shift (start * unit) (placed unit v) ⌝ }
+{
+    if let Verdict::Refused { number, place } = v {
+        return refused(number, unit * (start + place / 4) + place % 4);
+    }
+    v
+}
+
+// The report of a stream of so many elements to the unit, by the text it is judged by.
+fn report(unit: usize, s: &[u8], t: &[u8], out: &mut [u8]) -> Reported
+    requires { ⌜ Given unit (now s) (now t) ⌝ }
+    ensures { λ r. ⌜ Answered (formOf unit) (now (s .entry)) (now (out .entry)) r (now (out .exit)) ⌝ }
 {
     let n = count(t);
     if out.len() < 17 + 18 * n {
         return Reported::Refused(3, 0);
     }
-    let length = put_all(form, s, t, out, n);
-    Reported::Written(length)
+    put(out, 0, n);
+    let mut start = 0;
+    let mut i = 0;
+    let mut k = 0;
+    while unit * start < s.len() {
+        match frame(false, true, &t[4 * start..]) {
+            Framed::Unframed { number, .. } => return put_end(out, n, k, 1, unit * start, number),
+            Framed::Item { kind, head, size } => {
+                let v = judge(kind, head, &t[4 * start..4 * (start + size)], 64);
+                let v = placed(unit, start, v);
+                k = k + put_item(out, i, 8 + 9 * n + 9 * k, unit * start, unit * size, v);
+                start = start + size;
+                i = i + 1;
+            }
+        }
+    }
+    put_end(out, n, k, 0, 0, 0)
 }
 
 // ---- the calls
@@ -706,32 +265,22 @@ pub fn report_text(stream: &[u8], out: &mut [u8]) -> Reported
     if 4194304 < stream.len() {
         return Reported::Refused(1, 0);
     }
-    report(Form::Text, stream, stream, out)
+    report(4, stream, stream, out)
 }
 
-// The text of a binary's whole triplets, in the working room: how many characters.
-fn to_text(s: &[u8], work: &mut [u8]) -> usize
-    requires { ⌜ (length (now s) ≤ 3145728) × (length (now s) / 3 * 4 ≤ length (now work)) ⌝ }
-    ensures { λ r. ⌜ r ≡ length (now (s .entry)) / 3 * 4 ⌝ }
-    ensures { λ _. ⌜ now (work .exit) ≡ toText (now (s .entry)) ++ drop (length (now (s .entry)) / 3 * 4) (now (work .entry)) ⌝ }
-{
-    let triplets = s.len() / 3;
-    convert::binary_to_text(&s[..3 * triplets], work);
-    triplets * 4
-}
-
-// The report of a binary, by its text in lent working room: 1, then 3 where that is less than 4 characters to the triplet.
+// The report of a binary, by the text of its whole triplets in lent working room: 1, then 3 where that is less.
 pub fn report_binary(stream: &[u8], work: &mut [u8], out: &mut [u8]) -> Reported
     ensures { λ r. ⌜ r ≡ secondBinary (now (stream .entry)) (length (now (work .entry))) (length (now (out .entry))) ⌝ }
     ensures { λ _. ⌜ now (work .exit) ≡ workLeft (now (stream .entry)) (now (work .entry)) ⌝ }
     ensures { λ r. ⌜ now (out .exit) ≡ reportLeft r binary (now (stream .entry)) (now (out .entry)) ⌝ }
 {
+    let triplets = stream.len() / 3;
     if 3145728 < stream.len() {
         return Reported::Refused(1, 0);
     }
-    if work.len() < stream.len() / 3 * 4 {
+    if work.len() < 4 * triplets {
         return Reported::Refused(3, 0);
     }
-    let c = to_text(stream, work);
-    report(Form::Binary, stream, &work[..c], out)
+    convert::binary_to_text(&stream[..3 * triplets], work);
+    report(3, stream, &work[..4 * triplets], out)
 }

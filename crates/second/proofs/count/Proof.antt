@@ -1,48 +1,40 @@
 -- `second::count` meets its contract. Assumes nothing.
-use Rattle.second.proofs.Counts.{Counted, counted-start, counted-end, counted-stop, at-fits, n-fits, less, counted-more}
-use Prim.Native.Nat.{_-_}
+use lib.ListN.{length}
+use Prim.Native.Nat.{_-_, _*_}
+use Rattle.second.proofs.Counts.{Counted, counted-start, start-fits, n-fits, counted-stop, end-fits, less, counted-more}
 use borrow.Author.Needs.{needs}
 use Rattle.second.proofs.count.Statement.{statement}
 use Rattle.second.proofs.count.Tie as tie
-use Rattle.second.proofs.count.Reads as reads
-use Rattle.second.proofs.count.Lts as lts
-use Rattle.second.proofs.frame_next.Reads as frame-next-reads
 
 abbrev Inv-loop : tie.InvT-loop
-Inv-loop t stop at₀ n₀ at n = Counted t stop at n
+Inv-loop t start₀ n₀ start n = Counted t start n
 
 abbrev μ-loop : tie.MeasureT-loop
-μ-loop t stop at₀ n₀ at n = stop - at
+μ-loop t start₀ n₀ start n = length t - 4 * start
 
 loop-holds : tie.Need-loop-holds Inv-loop μ-loop
 loop-holds c = search counted-start
 
-mul-frame-next : tie.Need-mul-frame-next Inv-loop μ-loop
-mul-frame-next c = search needs
+mul-frame : tie.Need-mul-frame Inv-loop μ-loop
+mul-frame c = search start-fits
 
-sub-frame-next : tie.Need-sub-frame-next Inv-loop μ-loop
-sub-frame-next c = search needs
+sub-frame : tie.Need-sub-frame Inv-loop μ-loop
+sub-frame c = search needs
 
-part-frame-next-start : tie.Need-part-frame-next-start Inv-loop μ-loop
-part-frame-next-start c = search needs
+part-frame-start : tie.Need-part-frame-start Inv-loop μ-loop
+part-frame-start c = search needs
 
-part-frame-next-end : tie.Need-part-frame-next-end Inv-loop μ-loop
-part-frame-next-end c = search needs
+part-frame-end : tie.Need-part-frame-end Inv-loop μ-loop
+part-frame-end c = search needs
 
-frame-next-requires : tie.Need-frame-next-requires Inv-loop μ-loop
-frame-next-requires c κs = search needs
-
-enum-told : tie.Need-enum-told Inv-loop μ-loop
-enum-told c = search needs
-
-returns : tie.Need-returns Inv-loop μ-loop
-returns c = counted-stop _ _ _ _ (c .before .before .before .before .before .loop .inv) (c .before .before .before .before .loop-test .taken) _ (c .before .before .frame-next .ensures) (c .before .before .before .before .before .before .before .pre) _ _ (c .enum-told .given .1)
+frame-requires : tie.Need-frame-requires Inv-loop μ-loop
+frame-requires c κs = search needs
 
 enum-known-size : tie.Need-enum-known-size Inv-loop μ-loop
 enum-known-size c = search needs
 
-add-at : tie.Need-add-at Inv-loop μ-loop
-add-at c = search at-fits
+add-start : tie.Need-add-start Inv-loop μ-loop
+add-start c = search end-fits
 
 add-n : tie.Need-add-n Inv-loop μ-loop
 add-n c = search n-fits
@@ -53,8 +45,11 @@ loop-less c = search less
 loop-again : tie.Need-loop-again Inv-loop μ-loop
 loop-again c = search counted-more
 
-returns-2 : tie.Need-returns-2 Inv-loop μ-loop
-returns-2 c = counted-end _ _ _ _ (c .before .loop .inv) (c .before .before .before .pre) (c .loop-test .left)
+enum-told : tie.Need-enum-told Inv-loop μ-loop
+enum-told c = search needs
+
+returns : tie.Need-returns Inv-loop μ-loop
+returns c = counted-stop _ _ _ (c .before .before .before .before .loop .inv) _ (c .before .before .frame .ensures) _ _ (c .enum-told .given .1)
 
 pub count-spec : {M : Type 1} → statement M
 count-spec =
@@ -63,16 +58,15 @@ count-spec =
     Inv-loop
     μ-loop
     loop-holds
-    mul-frame-next
-    sub-frame-next
-    part-frame-next-start
-    part-frame-next-end
-    frame-next-requires
-    enum-told
-    returns
+    mul-frame
+    sub-frame
+    part-frame-start
+    part-frame-end
+    frame-requires
     enum-known-size
-    add-at
+    add-start
     add-n
     loop-less
     loop-again
-    returns-2)
+    enum-told
+    returns)

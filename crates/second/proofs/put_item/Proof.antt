@@ -1,86 +1,107 @@
 -- `second::put_item` meets its contract. Assumes nothing.
+use native.Mathlib.Omega.{arith}
+use lib.ListN.{length-set}
 use Rattle.second.proofs.Counts.{item-good, item-bad}
-use Prim.Native.Nat.{_+_, _*_}
-use denote.Ref.{now}
 use borrow.Author.Needs.{needs}
 use Rattle.second.proofs.put_item.Statement.{statement}
 use Rattle.second.proofs.put_item.Tie as tie
-use Rattle.second.proofs.put_item.Reads as reads
-use Rattle.second.proofs.put_item.Lts as lts
-use Rattle.second.proofs.put_refusal.Reads as put-refusal-reads
-use Rattle.second.proofs.put_row.Reads as put-row-reads
 
-enum-told : tie.Need-enum-told
-enum-told c = search needs
+mul-put : tie.Need-mul-put
+mul-put c = search needs
 
-mul-put-row : tie.Need-mul-put-row
-mul-put-row c = search needs
+add-put : tie.Need-add-put
+add-put c = search needs
 
-add-put-row : tie.Need-add-put-row
-add-put-row c = search needs
+put-requires : tie.Need-put-requires
+put-requires c κs = search needs
 
-put-row-requires : tie.Need-put-row-requires
-put-row-requires c κs = search needs
+mul-put-2 : tie.Need-mul-put-2
+mul-put-2 c = search needs
+
+add-put-2 : tie.Need-add-put-2
+add-put-2 c = search needs
+
+put-requires-2 : tie.Need-put-requires-2
+put-requires-2 c κs = search needs
 
 enum-known-v : tie.Need-enum-known-v
 enum-known-v c = search needs
 
-mul-put-row-2 : tie.Need-mul-put-row-2
-mul-put-row-2 c = search needs
+enum-told : tie.Need-enum-told
+enum-told c = search needs
 
-add-put-row-2 : tie.Need-add-put-row-2
-add-put-row-2 c = search needs
+mul-out : tie.Need-mul-out
+mul-out c = search needs
 
-put-row-requires-2 : tie.Need-put-row-requires-2
-put-row-requires-2 c κs = search needs
+add-out : tie.Need-add-out
+add-out c = search needs
 
-mul-put-refusal : tie.Need-mul-put-refusal
-mul-put-refusal c = search needs
-
-add-put-refusal : tie.Need-add-put-refusal
-add-put-refusal c = search needs
-
-mul-put-refusal-2 : tie.Need-mul-put-refusal-2
-mul-put-refusal-2 c = search needs
-
-add-put-refusal-2 : tie.Need-add-put-refusal-2
-add-put-refusal-2 c = search needs
-
-put-refusal-requires : tie.Need-put-refusal-requires
-put-refusal-requires c κs = search needs
+slice-write-out : tie.Need-slice-write-out
+slice-write-out c = search needs
 
 same-length : tie.Need-same-length
-same-length c = search needs
+same-length c = simp length-set (search needs)
 
 returns : tie.Need-returns
-returns c = let a = c .before .before .before .before .before .before .before .args in
-    item-good (now (a .out)) (4 + 9 * a .i) (8 + 9 * a .n + 9 * a .k) (a .i) (a .offset) (a .size) (a .v) (c .before .before .before .before .enum-told .given .1) (c .before .before .put-row .ensures)
+returns c = item-good _ _ _ _ _ _ (c .before .before .before .before .before .before .before .before .put .ensures) (c .before .before .before .before .put2 .ensures) _ _ (c .enum-told .given .1)
+
+mul-out-2 : tie.Need-mul-out-2
+mul-out-2 c = search needs
+
+add-out-2 : tie.Need-add-out-2
+add-out-2 c = search needs
+
+slice-write-out-2 : tie.Need-slice-write-out-2
+slice-write-out-2 c = search needs
+
+put-requires-3 : tie.Need-put-requires-3
+put-requires-3 c κs = simp length-set (omega arith)
+
+add-out-3 : tie.Need-add-out-3
+add-out-3 c = search needs
+
+slice-write-out-3 : tie.Need-slice-write-out-3
+slice-write-out-3 c = omega (arith, simp length-set at (c .before .before .put3 .kept .0))
+
+add-put-3 : tie.Need-add-put-3
+add-put-3 c = search needs
+
+put-requires-4 : tie.Need-put-requires-4
+put-requires-4 c κs = simp length-set (omega (arith, simp length-set at (c .before .before .before .put3 .kept .0)))
 
 same-length-2 : tie.Need-same-length-2
-same-length-2 c = search needs
+same-length-2 c = omega (arith, simp length-set at (c .before .before .put4 .kept .0), simp length-set at (c .before .before .before .before .before .before .put3 .kept .0))
 
 returns-2 : tie.Need-returns-2
-returns-2 c = let a = c .before .before .before .before .before .before .before .before .before .before .before .before .args in
-    item-bad (now (a .out)) (4 + 9 * a .i) (8 + 9 * a .n + 9 * a .k) (a .i) (a .offset) (a .size) (a .v) _ _ (c .before .before .before .before .before .before .before .before .before .v .given .1) (c .before .before .before .before .before .before .put-row2 .ensures) (c .before .before .put-refusal .ensures)
+returns-2 c = let b = c .before .before .before .before .before .before in
+    let w = b .before .before .before in
+    let q = w .before .before .before .before in
+    item-bad _ _ _ _ _ _ (q .before .before .before .before .put .ensures) (q .put2 .ensures) _ _ _ _ (w .v .given .1) _ _ (b .put3 .ensures) (c .before .before .put4 .ensures)
 
 pub put-item-spec : {M : Type 1} → statement M
 put-item-spec =
     tie.close
     (tie.spec
-    enum-told
-    mul-put-row
-    add-put-row
-    put-row-requires
+    mul-put
+    add-put
+    put-requires
+    mul-put-2
+    add-put-2
+    put-requires-2
     enum-known-v
-    mul-put-row-2
-    add-put-row-2
-    put-row-requires-2
-    mul-put-refusal
-    add-put-refusal
-    mul-put-refusal-2
-    add-put-refusal-2
-    put-refusal-requires
+    enum-told
+    mul-out
+    add-out
+    slice-write-out
     same-length
     returns
+    mul-out-2
+    add-out-2
+    slice-write-out-2
+    put-requires-3
+    add-out-3
+    slice-write-out-3
+    add-put-3
+    put-requires-4
     same-length-2
     returns-2)

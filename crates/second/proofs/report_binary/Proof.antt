@@ -1,35 +1,55 @@
 -- `second::report_binary` meets its contract. Assumes nothing.
-use Rattle.format.specs.Report.{reportLeft}
 use Rattle.second.proofs.Answers.{binary-long, work-short, text-fits, binary-given, binary-answer}
-use mathlib.Core.Path.{refl, sym}
-use lib.Seq.{length-take-le}
 use denote.Ref.{now}
+use mathlib.Core.Path.{sym}
+use native.Mathlib.Omega.{arith}
+use lib.Seq.{length-take-le}
 use borrow.Author.Needs.{needs}
 use Rattle.second.proofs.report_binary.Statement.{statement}
 use Rattle.second.proofs.report_binary.Tie as tie
 
 returns : tie.Need-returns
-unfolding reportLeft
-returns c = let l = binary-long (now (c .before .before .before .before .args .stream)) (now (c .before .before .before .before .args .work)) (now (c .before .before .before .before .args .out)) (c .if1 .taken) in (l .0, (l .1, refl))
+returns c =
+    let a = c .before .before .before .before .args in
+    let l = binary-long (now (a .stream)) (now (a .work)) (now (a .out)) (c .if1 .taken) in
+    (l .0, (l .1, l .2))
 
 mul-if2 : tie.Need-mul-if2
 mul-if2 c = search needs
 
 returns-2 : tie.Need-returns-2
-unfolding reportLeft
-returns-2 c = let l = work-short (now (c .before .before .before .before .before .args .stream)) (now (c .before .before .before .before .before .args .work)) (now (c .before .before .before .before .before .args .out)) (c .before .if1 .left) (c .if2 .taken) in (l .0, (l .1, refl))
+returns-2 c =
+    let a = c .before .before .before .before .before .args in
+    let l = work-short (now (a .stream)) (now (a .work)) (c .before .if1 .left) (now (a .out)) (c .if2 .taken) in
+    (l .0, (l .1, l .2))
 
-to-text-requires : tie.Need-to-text-requires
-to-text-requires c κs = search needs
+mul-binary-to-text : tie.Need-mul-binary-to-text
+mul-binary-to-text c = search needs
+
+slice-aggregate-binary-to-text : tie.Need-slice-aggregate-binary-to-text
+slice-aggregate-binary-to-text c =
+    sym (length-take-le _ _ (omega arith))
+
+binary-to-text-requires : tie.Need-binary-to-text-requires
+binary-to-text-requires c κs = search needs
+
+mul-report : tie.Need-mul-report
+mul-report c = search needs
 
 slice-reshare-prefix-report : tie.Need-slice-reshare-prefix-report
 slice-reshare-prefix-report c = search needs
 
 slice-aggregate-report : tie.Need-slice-aggregate-report
-slice-aggregate-report c = sym (length-take-le _ _ (text-fits (now (c .before .before .before .before .before .before .before .before .before .before .args .stream)) (now (c .before .before .before .before .before .before .before .before .before .before .args .work)) (now (c .before .before .before .before .before .before .before .before .before .before .args .out)) (c .before .before .before .before .before .before .if1 .left) (c .before .before .before .before .before .if2 .left) _ (c .before .before .before .to-text .ensures .1) _ (c .before .before .before .to-text .ensures .0)))
+slice-aggregate-report c =
+    let b = c .before .before .before in
+    let a = b .before .before .before .before in
+    sym (length-take-le _ _ (text-fits (now (a .before .before .before .before .args .stream)) (now (a .before .before .before .before .args .work)) (a .if1 .left) (b .before .before .before .if2 .left) _ (b .binary-to-text .ensures .0) _ (b .binary-to-text .ensures .1)))
 
 report-requires : tie.Need-report-requires
-report-requires c κs = binary-given (now (c .before .before .before .before .before .before .before .before .before .before .before .args .stream)) (now (c .before .before .before .before .before .before .before .before .before .before .before .args .work)) (now (c .before .before .before .before .before .before .before .before .before .before .before .args .out)) (c .before .before .before .before .before .before .before .if1 .left) (c .before .before .before .before .before .before .if2 .left) _ (c .before .before .before .before .to-text .ensures .1) _ (c .before .before .before .before .to-text .ensures .0)
+report-requires c κs =
+    let b = c .before .before .before .before in
+    let a = b .before .before .before .before in
+    binary-given (now (a .before .before .before .before .args .stream)) (now (a .before .before .before .before .args .work)) (a .if1 .left) (b .before .before .before .if2 .left) _ (b .binary-to-text .ensures .0) _ (b .binary-to-text .ensures .1)
 
 same-length : tie.Need-same-length
 same-length c = search needs
@@ -38,7 +58,27 @@ same-length-2 : tie.Need-same-length-2
 same-length-2 c = search needs
 
 returns-3 : tie.Need-returns-3
-returns-3 c = let l = binary-answer (now (c .before .before .before .before .before .before .before .before .before .before .before .before .before .before .args .stream)) (now (c .before .before .before .before .before .before .before .before .before .before .before .before .before .before .args .work)) (now (c .before .before .before .before .before .before .before .before .before .before .before .before .before .before .args .out)) (c .before .before .before .before .before .before .before .before .before .before .if1 .left) (c .before .before .before .before .before .before .before .before .before .if2 .left) _ (c .before .before .before .before .before .before .before .to-text .ensures .1) _ (c .before .before .before .before .before .before .before .to-text .ensures .0) _ (c .before .before .report .ensures .answer) in (l .0, (l .1, c .before .before .report .ensures .left))
+returns-3 c =
+    let r = c .before .before in
+    let b = r .before .before .before .before .before in
+    let a = b .before .before .before .before in
+    let l = binary-answer (now (a .before .before .before .before .args .stream)) (now (a .before .before .before .before .args .work)) (a .if1 .left) (b .before .before .before .if2 .left) _ (b .binary-to-text .ensures .0) _ (b .binary-to-text .ensures .1) (now (a .before .before .before .before .args .out)) _ _ (r .report .ensures) in
+    (l .0, (l .1, l .2))
 
 pub report-binary-spec : {M : Type 1} → statement M
-report-binary-spec = tie.close (tie.spec returns mul-if2 returns-2 to-text-requires slice-reshare-prefix-report slice-aggregate-report report-requires same-length same-length-2 returns-3)
+report-binary-spec =
+    tie.close
+    (tie.spec
+    returns
+    mul-if2
+    returns-2
+    mul-binary-to-text
+    slice-aggregate-binary-to-text
+    binary-to-text-requires
+    mul-report
+    slice-reshare-prefix-report
+    slice-aggregate-report
+    report-requires
+    same-length
+    same-length-2
+    returns-3)

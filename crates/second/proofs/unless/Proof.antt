@@ -1,17 +1,23 @@
 -- `second::unless` meets its contract. Assumes nothing.
-use Rattle.format.specs.Judging.{unless}
+use Rattle.second.proofs.Judging.{unless-wrong, unless-right, unless-stands}
+use borrow.Author.Needs.{needs}
 use Rattle.second.proofs.unless.Statement.{statement}
 use Rattle.second.proofs.unless.Tie as tie
-use Rattle.second.proofs.unless.Reads as reads
-use Rattle.second.proofs.unless.Lts as lts
+
+enum-told : tie.Need-enum-told
+enum-told c = search needs
 
 returns : tie.Need-returns
-unfolding unless
-returns c = rw (c .if1 .taken)
+returns c = search unless-wrong
+
+enum-told-2 : tie.Need-enum-told-2
+enum-told-2 c = search needs
 
 returns-2 : tie.Need-returns-2
-unfolding unless
-returns-2 c = rw (c .if1 .left)
+returns-2 c = search unless-right
+
+returns-3 : tie.Need-returns-3
+returns-3 c = search unless-stands
 
 pub unless-spec : {M : Type 1} → statement M
-unless-spec = tie.close (tie.spec returns returns-2)
+unless-spec = tie.close (tie.spec enum-told returns enum-told-2 returns-2 returns-3)

@@ -1,76 +1,52 @@
 -- `second::zero_bits` meets its contract. Assumes nothing.
-use Rattle.format.specs.Judging.{zeroBits}
+use mathlib.Core.Path.{_≡_}
+use Prim.Native.Nat.{_-_}
+use mathlib.Core.Logic.{⊎-elim}
+use Rattle.second.proofs.Judging.{zero-is}
+use Prim.Native.Nat.{_/_, _^_}
+use native.Mathlib.Omega.{arith}
 use borrow.Author.Needs.{needs}
 use Rattle.second.proofs.zero_bits.Statement.{statement}
 use Rattle.second.proofs.zero_bits.Tie as tie
-use Rattle.second.proofs.zero_bits.Reads as reads
-use Rattle.second.proofs.zero_bits.Lts as lts
-use Rattle.second.proofs.behind_bits.Reads as behind-bits-reads
-use Rattle.second.proofs.sextet.Reads as sextet-reads
-use Rattle.second.proofs.wide.Reads as wide-reads
 
-sextet-requires : tie.Need-sextet-requires
-sextet-requires c κs = search needs
+at-requires : tie.Need-at-requires
+at-requires c κs = search needs
 
-wide-requires : tie.Need-wide-requires
-wide-requires c κs = search needs
+add-at : tie.Need-add-at
+add-at c = search needs
 
-mul-bits : tie.Need-mul-bits
-mul-bits c = search needs
+at-requires-2 : tie.Need-at-requires-2
+at-requires-2 c κs = search needs
 
-add-sextet : tie.Need-add-sextet
-add-sextet c = search needs
+add-at-2 : tie.Need-add-at-2
+add-at-2 c = search needs
 
-sextet-requires-2 : tie.Need-sextet-requires-2
-sextet-requires-2 c κs = search needs
+at-requires-3 : tie.Need-at-requires-3
+at-requires-3 c κs = search needs
 
-wide-requires-2 : tie.Need-wide-requires-2
-wide-requires-2 c κs = search needs
+number-requires : tie.Need-number-requires
+number-requires c κs = search needs
 
-add-bits : tie.Need-add-bits
-add-bits c = search needs
-
-mul-bits-2 : tie.Need-mul-bits-2
-mul-bits-2 c = search needs
-
-add-sextet-2 : tie.Need-add-sextet-2
-add-sextet-2 c = search needs
-
-sextet-requires-3 : tie.Need-sextet-requires-3
-sextet-requires-3 c κs = search needs
-
-wide-requires-3 : tie.Need-wide-requires-3
-wide-requires-3 c κs = search needs
-
-add-bits-2 : tie.Need-add-bits-2
-add-bits-2 c = search needs
-
-behind-bits-requires : tie.Need-behind-bits-requires
-behind-bits-requires c κs = search needs
+sub-result : tie.Need-sub-result
+sub-result c = search needs
 
 shr-result : tie.Need-shr-result
-shr-result c = search needs
+shr-result c = ⊎-elim (λ a. omega arith) (λ b. omega arith) (c .before .if1 .came)
 
 returns : tie.Need-returns
-unfolding zeroBits
-returns c = rw (c .behind-bits .ensures .0, c .before .wide3 .ensures .0, c .before .before .sextet3 .ensures, c .before .before .before .wide2 .ensures .0, c .before .before .before .before .sextet2 .ensures, c .before .before .before .before .before .wide .ensures .0, c .before .before .before .before .before .before .sextet .ensures)
+returns c = let z = c .before .before .before .before .before .before .before .args .z in
+    let m : c .before .if1 .result ≡ 18 - z = ⊎-elim (λ a. omega arith) (λ b. omega arith) (c .before .if1 .came) in search (zero-is, m)
 
 pub zero-bits-spec : {M : Type 1} → statement M
 zero-bits-spec =
     tie.close
     (tie.spec
-    sextet-requires
-    wide-requires
-    mul-bits
-    add-sextet
-    sextet-requires-2
-    wide-requires-2
-    add-bits
-    mul-bits-2
-    add-sextet-2
-    sextet-requires-3
-    wide-requires-3
-    add-bits-2
-    behind-bits-requires
+    at-requires
+    add-at
+    at-requires-2
+    add-at-2
+    at-requires-3
+    number-requires
+    sub-result
     shr-result
     returns)
