@@ -26,7 +26,7 @@ ghost use Rattle.second.specs.Kinds.{Own, fixedOf, variableOf, indexedOf
 ghost use Rattle.second.specs.Places.{Near, Told};
 ghost use Rattle.second.specs.Reports.{formOf, Given, Answered, endAnswer, endLeft};
 
-// ---- judging a primitive: 5 or 19 behind the header, 18, 9, 8, 16, 10; an indexed item: 5 or 19, 8, 15
+// ---- judging a primitive or an indexed item, 5 or 19 being asked behind the header
 
 // The first refusal stands: a verdict, and where that accepts, a number unless a test passes.
 fn unless(v: Verdict, number: u8, right: bool) -> Verdict
@@ -47,7 +47,7 @@ fn is_shortest(head: usize, count: usize) -> bool
     (head == 1) | (4096 <= count)
 }
 
-// 8: the first z bits, of 18 at most, from a sextet on are zero.
+// 8: the first z bits, of 18 at most, from a place on are zero.
 fn zero_bits(t: &[u8], i: usize, z: usize) -> bool
     requires { ⌜ i ≤ 4194304 ⌝ }
     ensures { λ r. ⌜ r ≡ zeroBits (textSextets (now (t .entry))) i z ⌝ }
@@ -56,6 +56,7 @@ fn zero_bits(t: &[u8], i: usize, z: usize) -> bool
     bits >> (if z < 18 { 18 - z } else { 0 }) == 0
 }
 
+// A fixed code's: 5 or 19, 8, 10.
 fn fixed(c: CodeRow, head: usize, t: &[u8]) -> Verdict
     requires { ⌜ 4 * head ≤ length (now t) ⌝ }
     ensures { λ r. ⌜ r ≡ fixedOf c head (textSextets (now (t .entry))) ⌝ }
@@ -63,14 +64,11 @@ fn fixed(c: CodeRow, head: usize, t: &[u8]) -> Verdict
     let code = c.chars as usize;
     let v = strangers(t, 4 * head, t.len());
     let v = unless(v, 8, zero_bits(t, code, registry_reading::zero_bits(c)));
-    unless(
-        v,
-        10,
-        (registry_reading::prepad(c) == 0) | (at(t, code) == 63),
-    )
+    let begun = (registry_reading::prepad(c) == 0) | (at(t, code) == 63);
+    unless(v, 10, begun)
 }
 
-// 16: `A` is filled in front of a text as often as its lead says, and once more; where that is 0 not at all will do.
+// A variable type's: 5 or 19, 18, 9, 8, 16. In front of a text `A` stands once more than its lead says; where that is 0, once or not at all.
 fn variable(letter: u8, lead: u8, head: usize, t: &[u8]) -> Verdict
     requires { ⌜ (4 * head ≤ length (now t)) × (length (now t) ≤ 4194304) ⌝ }
     ensures { λ r. ⌜ r ≡ variableOf letter lead (length (now (t .entry)) / 4 - head) head (textSextets (now (t .entry))) ⌝ }
@@ -82,13 +80,11 @@ fn variable(letter: u8, lead: u8, head: usize, t: &[u8]) -> Verdict
     let v = unless(v, 18, is_shortest(head, count));
     let v = unless(v, 9, (lead == 0) | (0 < count));
     let v = unless(v, 8, zero_bits(t, 4 * head, 8 * lead));
-    unless(
-        v,
-        16,
-        (letter != 0) | (fill == lead + 1) | ((fill == 0) & (lead == 0)),
-    )
+    let filled = (letter != 0) | (fill == lead + 1) | ((fill == 0) & (lead == 0));
+    unless(v, 16, filled)
 }
 
+// An indexed item: 5 or 19, 8, 15.
 fn indexed(c: IndexRow, head: usize, t: &[u8]) -> Verdict
     requires { ⌜ 4 * head ≤ length (now t) ⌝ }
     ensures { λ r. ⌜ r ≡ indexedOf c head (textSextets (now (t .entry))) ⌝ }
@@ -97,11 +93,8 @@ fn indexed(c: IndexRow, head: usize, t: &[u8]) -> Verdict
     let value = ondex + c.ondex as usize;
     let v = strangers(t, 4 * head, t.len());
     let v = unless(v, 8, zero_bits(t, value, c.zeros as usize));
-    unless(
-        v,
-        15,
-        (c.current == 0) | (first(t, ondex, value, 1) == value),
-    )
+    let current = (c.current == 0) | (first(t, ondex, value, 1) == value);
+    unless(v, 15, current)
 }
 
 // ---- judging by kind, and the groups: 11, 18, then the items one by one, each framed (an inner 7 next), then judged
@@ -126,7 +119,7 @@ fn judge(kind: Kind, head: usize, t: &[u8], levels: usize) -> Verdict
     }
 }
 
-// A group, the whole text, by its letter: 7 is asked of its first item if of any.
+// A group, the whole text, by its letter: 7 is asked of its first item, if of any. Starts count units.
 fn group(letter: u8, head: usize, t: &[u8], levels: usize) -> Verdict
     requires { ⌜ (4 * head ≤ length (now t)) × (length (now t) % 4 ≡ 0) × (length (now t) ≤ 4194304) ⌝ }
     ensures { λ r. ⌜ Told (group levels letter head (drop (4 * head) (textSextets (now (t .entry))))) (length (now (t .entry)) + 8) r ⌝ }
@@ -200,7 +193,7 @@ fn put_item(out: &mut [u8], i: usize, p: usize, offset: usize, size: usize, v: V
     1
 }
 
-// Behind the rows of n items the count of refusals, at p the count of remainders, and the one there may be: the report's length.
+// Behind the rows of n items the count of refusals, behind their k rows the count of remainders, and the one there may be.
 fn put_end(out: &mut [u8], n: usize, k: usize, rest: usize, offset: usize, number: u8) -> Reported
     requires { ⌜ (k ≤ n) × (n ≤ 4194304) × (17 + 18 * n ≤ length (now out)) ⌝ }
     ensures { λ r. ⌜ (r ≡ endAnswer n k rest) × (now (out .exit) ≡ endLeft n k rest offset number (now (out .entry))) ⌝ }

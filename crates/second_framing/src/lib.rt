@@ -22,7 +22,7 @@ pub fn at(t: &[u8], i: usize) -> u8
     if i < t.len() { sextet(t[i]) } else { 0 }
 }
 
-// The first place whose sextet is not below a limit; the last one where there is none.
+// The first place from i on whose sextet is not below a limit; `to` where there is none before it.
 pub fn first(t: &[u8], mut i: usize, to: usize, limit: u8) -> usize
     ensures { λ r. ⌜ First (textSextets (now (t .entry))) i to limit r ⌝ }
 {
@@ -32,7 +32,7 @@ pub fn first(t: &[u8], mut i: usize, to: usize, limit: u8) -> usize
     i
 }
 
-// 5 or 19: the first bad character.
+// 5 or 19: the first bad character from one place to another.
 pub fn strangers(t: &[u8], from: usize, to: usize) -> Verdict
     ensures { λ r. ⌜ Bad (textSextets (now (t .entry))) from to r ⌝ }
 {

@@ -46,8 +46,8 @@ zero-bits-requires c κs = search needs
 unless-requires-3 : tie.Need-unless-requires-3
 unless-requires-3 c κs = search needs
 
-add-unless : tie.Need-add-unless
-add-unless c = search needs
+add-filled : tie.Need-add-filled
+add-filled c = search needs
 
 unless-requires-4 : tie.Need-unless-requires-4
 unless-requires-4 c κs = search needs
@@ -73,6 +73,6 @@ variable-spec =
     mul-zero-bits-2
     zero-bits-requires
     unless-requires-3
-    add-unless
+    add-filled
     unless-requires-4
     returns)
