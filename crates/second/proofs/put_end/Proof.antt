@@ -36,7 +36,9 @@ same-length : tie.Need-same-length
 same-length c = search needs
 
 returns : tie.Need-returns
-returns c = end-none _ _ _ _ _ _ _ _ (c .before .before .before .before .before .before .before .put .ensures) (c .before .before .before .put2 .ensures) (c .if1 .taken)
+returns c =
+    let q = c .before .before .before in
+    end-none _ _ _ _ _ _ _ _ (q .before .before .before .before .put .ensures) (q .put2 .ensures) (c .if1 .taken)
 
 add-put-2 : tie.Need-add-put-2
 add-put-2 c = search needs
@@ -58,7 +60,8 @@ same-length-2 c = simp length-set (search needs)
 
 returns-2 : tie.Need-returns-2
 returns-2 c = let w = c .before .before .before .before in
-    end-some _ _ _ _ _ _ _ _ (w .before .before .before .before .before .before .before .put .ensures) (w .before .before .before .put2 .ensures) (w .if1 .left) _ (c .before .before .put3 .ensures)
+    let q = w .before .before .before in
+    end-some _ _ _ _ _ _ _ _ (q .before .before .before .before .put .ensures) (q .put2 .ensures) (w .if1 .left) _ (c .before .before .put3 .ensures)
 
 pub put-end-spec : {M : Type 1} → statement M
 put-end-spec =

@@ -43,7 +43,9 @@ same-length : tie.Need-same-length
 same-length c = simp length-set (search needs)
 
 returns : tie.Need-returns
-returns c = item-good _ _ _ _ _ _ (c .before .before .before .before .before .before .before .before .put .ensures) (c .before .before .before .before .put2 .ensures) _ _ (c .enum-told .given .1)
+returns c =
+    let q = c .before .before .before .before in
+    item-good _ _ _ _ _ _ (q .before .before .before .before .put .ensures) (q .put2 .ensures) _ _ (c .enum-told .given .1)
 
 mul-out-2 : tie.Need-mul-out-2
 mul-out-2 c = search needs

@@ -34,7 +34,9 @@ shr-result : tie.Need-shr-result
 shr-result c = ⊎-elim (λ a. omega arith) (λ b. omega arith) (c .before .if1 .came)
 
 returns : tie.Need-returns
-returns c = let z = c .before .before .before .before .before .before .before .args .z in
+returns c =
+    let q = c .before .before .before in
+    let z = q .before .before .before .before .args .z in
     let m : c .before .if1 .result ≡ 18 - z = ⊎-elim (λ a. omega arith) (λ b. omega arith) (c .before .if1 .came) in search (zero-is, m)
 
 pub zero-bits-spec : {M : Type 1} → statement M
