@@ -3,7 +3,7 @@
 # The options of a command.
 _cesr_options() {
   case $1 in
-    judge) echo --form --manifest --all --json --report --html --junit --sarif --help ;;
+    judge) echo --form --engine --manifest --all --json --report --html --junit --sarif --help ;;
     convert) echo --to --out --help ;;
     show | manifest) echo --form --help ;;
     group) echo --form --out --help ;;
@@ -30,6 +30,7 @@ _cesr() {
   else
     case $before in
       --form | --to) words="text binary" ;;
+      --engine) words="first second both" ;;
       *) [[ $word = -* ]] || return
         words=$(_cesr_options "${COMP_WORDS[1]}") ;;
     esac

@@ -14,6 +14,7 @@ complete -c cesr -n __fish_use_subcommand -l version -s V -d 'the version'
 complete -c cesr -l help -s h -d 'the help'
 
 complete -c cesr -n '__fish_seen_subcommand_from judge show manifest expect' -l form -x -a 'text binary' -d 'the form, in place of a guess'
+complete -c cesr -n '__fish_seen_subcommand_from judge' -l engine -x -a 'first second both' -d 'which engine judges'
 complete -c cesr -n '__fish_seen_subcommand_from judge' -l manifest -r -d 'the streams of a list'
 complete -c cesr -n '__fish_seen_subcommand_from judge' -l all -d 'every item'
 complete -c cesr -n '__fish_seen_subcommand_from judge compare' -l json -d 'an object a line'

@@ -4,14 +4,14 @@
  * Terms. T is text, in characters of URL-safe Base64; B is binary, in bytes. A unit is 4 characters in T, 3 bytes in B. Every proved call
  * returns a number: 0 for accepted, or one of the numbers below for refused. A refused call writes to no buffer, tag, info, item or
  * state: it writes only the place behind `answer`, a comparison its five zeros and cesr_passed its 0; a walk in instalments that is
- * refused on the way has taken the items before it. An accepted call writes its answer from the buffer's start; bytes behind it stay.
+ * refused on the way has taken the items before it, and the second engine's working room may hold the stream's text. An accepted call writes its answer from the buffer's start; bytes behind it stay.
  * The place is the character for 5 and 19, else the item's start; 0 for 1, 2, 3, 12, 13, 20 and for a writer's 6, 15, 16 and 18, and for
  * a writer's 5 and 19 the index among the tag characters or in the text. What a group's writer refuses in the body has its place in it,
  * counted from the body's start. Places, offsets and lengths count characters in T and bytes in B.
  * Where 5 stands in the order of a call, the first character outside the alphabet gives 5 or 19.
  *
  * What the caller ensures: each length is that of the memory behind its pointer, which may be null where the length is 0 and is null
- * nowhere else; what is written (buffer, tag, info, item, state, items, answer, passed) overlaps nothing else that the call is given. The
+ * nowhere else; what is written (buffer, working room, tag, info, item, state, items, answer, passed) overlaps nothing else that the call is given. The
  * library keeps nothing between calls, allocates nothing and may be called from many threads at once. */
 #ifndef CESR_H
 #define CESR_H
@@ -32,10 +32,11 @@ const char *cesr_version(void);
 #define CESR_LIMIT_BINARY 3145728
 
 /* Room that is enough, in bytes: for the report of so many items, of any text of so many characters, of any binary of so many bytes; and
- * for the conversion of a text or a binary of so many. */
+ * for the conversion of a text or a binary of so many. CESR_SECOND_ROOM is the second engine's working room for a binary of so many. */
 #define CESR_REPORT_ROOM(items) (17 + 18 * (size_t)(items))
 #define CESR_REPORT_ROOM_TEXT(length) CESR_REPORT_ROOM((length) / 4)
 #define CESR_REPORT_ROOM_BINARY(length) CESR_REPORT_ROOM((length) / 3)
+#define CESR_SECOND_ROOM(length) ((size_t)(length) / 3 * 4)
 #define CESR_TO_BINARY_ROOM(length) ((size_t)(length) / 4 * 3)
 #define CESR_TO_TEXT_ROOM(length) ((size_t)(length) / 3 * 4)
 
@@ -81,6 +82,16 @@ uint8_t cesr_report_text(const uint8_t *stream, size_t stream_len, uint8_t *out,
 
 /* The same of a binary. */
 uint8_t cesr_report_binary(const uint8_t *stream, size_t stream_len, uint8_t *out, size_t out_len, size_t *answer);
+
+/* The same reports by the second engine, a plain one to be read by eye: for every stream its answer and its report are those of
+ * cesr_report_text. */
+uint8_t cesr_second_text(const uint8_t *stream, size_t stream_len, uint8_t *out, size_t out_len, size_t *answer);
+
+/* The same of a binary, which it turns into text first, in lent working room: 4 characters for each whole triplet. 1, 3 if work_len is below
+ * that, then as cesr_report_binary. After 1 or that 3 work stays as it was. Else, even if the report is then refused, it begins with the
+ * text of those triplets, and what is behind it stays. */
+uint8_t cesr_second_binary(const uint8_t *stream, size_t stream_len, uint8_t *work, size_t work_len, uint8_t *out, size_t out_len,
+                           size_t *answer);
 
 /* Did the stream of this report pass: has it a byte, and does every byte lie in an accepted item? *passed is 1 or 0; 20 for what is no
  * report, and then it is 0. The number 0 says that the question was answered and no more: look at *passed. An empty stream has not

@@ -91,6 +91,10 @@ _to = _Forms(
     text=_declared("cesr_binary_to_text", _bytes, _size, _bytes, _size, _sizes),
 )
 _report = _both("report", _bytes, _size, _bytes, _size, _sizes)
+_second = _Forms(
+    text=_declared("cesr_second_text", _bytes, _size, _bytes, _size, _sizes),
+    binary=_declared("cesr_second_binary", _bytes, _size, _bytes, _size, _bytes, _size, _sizes),
+)
 _passed = _declared("cesr_passed", _bytes, _size, _sizes)
 _compare = _declared("cesr_compare", _bytes, _size, _bytes, _size, _sizes)
 _read = _both("read", _bytes, _size, _size, _bytes, _size, _bytes, _sizes, _sizes)
@@ -181,6 +185,15 @@ def judge(form, stream):
     """The report of a stream. A report is no pass: ask `passed`."""
     stream = _plain(stream)
     return Report(_filled(_report[form], 17 + 18 * _within(form, len(stream)), stream, len(stream)))
+
+
+def judge_second(form, stream):
+    """The same by the second engine, which is plain and slower and shares little with the first."""
+    stream = _plain(stream)
+    units, given = _within(form, len(stream)), (stream, len(stream))
+    if form == "binary":
+        given += (ctypes.create_string_buffer(max(4 * units, 1)), 4 * units)
+    return Report(_filled(_second[form], 17 + 18 * units, *given))
 
 
 def compare(expected, report):

@@ -217,6 +217,18 @@ class Groups(unittest.TestCase):
             self.assertRaises(ValueError, cesr.write_group, "text", letter, b"")
 
 
+class Second(unittest.TestCase):
+    def test_the_same_report(self):
+        for stream in [b"", b"MAAB", b"MAABMQAA-AAB0AAA_AAA", b"MAABMA!!", b"\x30\x00\x01\x30", bytes(300)]:
+            for form in ["text", "binary"]:
+                self.assertEqual(cesr.judge_second(form, stream).bytes, cesr.judge(form, stream).bytes)
+
+    def test_refusals(self):
+        self.assertEqual(refused(cesr.judge_second, "text", b"A" * (cesr.LIMIT["text"] + 1)), (1, 0))
+        self.assertEqual(refused(cesr.judge_second, "binary", b"A" * (cesr.LIMIT["binary"] + 1)), (1, 0))
+        self.assertRaises(ValueError, cesr.judge_second, "mixed", b"MAAB")
+
+
 class Said(unittest.TestCase):
     def test_words_are_those_of_the_list(self):
         rows = [line.split(" ", 2) for line in (HERE.parent / "include/numbers.txt").read_text().splitlines() if line[:1].isdigit()]

@@ -97,6 +97,11 @@ static void nulls(void) {
     check(cesr_report_binary(NULL, 0, out, sizeof out, &answer) == 0 && answer == 12, "an empty report", "null");
     check(cesr_report_text(bytes("MAAB"), 4, NULL, 0, &answer) == CESR_ROOM, "no room", "null");
     check(cesr_report_binary(NULL, 0, NULL, 0, &answer) == CESR_ROOM, "no room", "null");
+    check(cesr_second_text(NULL, 0, out, sizeof out, &answer) == 0 && answer == 12, "an empty report", "null");
+    check(cesr_second_binary(NULL, 0, NULL, 0, out, sizeof out, &answer) == 0 && answer == 12, "an empty report", "null");
+    check(cesr_second_binary(bytes("ab"), 2, NULL, 0, out, sizeof out, &answer) == 0 && answer == 17, "no whole triplet", "null");
+    check(cesr_second_binary(bytes("abc"), 3, NULL, 0, out, sizeof out, &answer) == CESR_ROOM, "no working room", "null");
+    check(cesr_second_text(NULL, 0, NULL, 0, &answer) == CESR_ROOM, "no room", "null");
     check(cesr_read_text(NULL, 0, 0, NULL, 0, tag, info, &answer) == CESR_PAST_END, "nothing to read", "null");
     check(cesr_read_binary(NULL, 0, 0, NULL, 0, tag, info, &answer) == CESR_PAST_END, "nothing to read", "null");
     check(cesr_read_text(bytes("Xicp"), 4, 0, NULL, 0, tag, info, &answer) == 0 && tag[0] == 'i', "a tag asks no room", "null");
@@ -131,6 +136,9 @@ static void limits(void) {
     check(cesr_items(longest, answer) == CESR_LIMIT_TEXT / 4, "items", "limits");
     check(cesr_passed(longest, answer, &passed) == 0 && passed == 1, "passed", "limits");
     check(cesr_report_text(stream, CESR_LIMIT_TEXT + 1, longest, sizeof longest, &answer) == CESR_TOO_LONG, "one more", "limits");
+    check(cesr_second_text(stream, CESR_LIMIT_TEXT, longest, sizeof longest, &answer) == 0, "the second engine", "limits");
+    check(cesr_passed(longest, answer, &passed) == 0 && passed == 1, "passed", "limits");
+    check(CESR_SECOND_ROOM(CESR_LIMIT_BINARY) == CESR_LIMIT_TEXT, "working room", "limits");
     check(cesr_text_to_binary(stream, CESR_LIMIT_TEXT, longest, CESR_TO_BINARY_ROOM(CESR_LIMIT_TEXT), &answer) == 0, "room", "limits");
     check(answer == CESR_LIMIT_BINARY && CESR_TO_TEXT_ROOM(answer) == CESR_LIMIT_TEXT, "the longest binary", "limits");
     check(CESR_REPORT_ROOM_BINARY(CESR_LIMIT_BINARY) == sizeof longest, "as many items", "limits");

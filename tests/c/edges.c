@@ -93,12 +93,32 @@ static uint8_t *repeated(const char *unit, size_t size, size_t length) {
 
 static const char YES[] = "1AAM", YES_IN_BINARY[] = "\xD4\x00\x0C";
 
+/* The second engine with working room and room that are just enough, and each one less. */
+static void second_binary_of(const uint8_t *binary, size_t items) {
+    size_t asked = 4 * items, room = 17 + 18 * items, answer;
+    for (size_t less = 0; less < 4; less++) {
+        size_t less_work = asked > 0 && (less & 1), less_room = less >> 1;
+        uint8_t *work = exact(asked - less_work), *out = exact(room - less_room);
+        uint8_t number = cesr_second_binary(binary, 3 * items, work, asked - less_work, out, room - less_room, &answer);
+        calls++;
+        check(number == (less_work || less_room ? CESR_ROOM : 0), "the number", items);
+        check(answer == (number == 0 ? 12 + 9 * items : 0), "the length", items);
+        check(number == 0 || held(out, 0, room - less_room), "3 leaves the buffer", items);
+        check(!less_work || held(work, 0, asked - less_work), "its 3 leaves the working room", items);
+        check(less_work || asked == 0 || (memcmp(work, YES, 4) == 0 && work[asked - 1] == 'M'), "the working room has the text", items);
+        free(work);
+        free(out);
+    }
+}
+
 /* `items` items of one unit: the report asks 17 + 18 and writes 12 + 9 for each. */
 static void streams_of(size_t items) {
     uint8_t *text = repeated(YES, 4, 4 * items);
     uint8_t *binary = repeated(YES_IN_BINARY, 3, 3 * items);
     rooms(cesr_report_text, text, 4 * items, 17 + 18 * items, 12 + 9 * items);
     rooms(cesr_report_binary, binary, 3 * items, 17 + 18 * items, 12 + 9 * items);
+    rooms(cesr_second_text, text, 4 * items, 17 + 18 * items, 12 + 9 * items);
+    second_binary_of(binary, items);
     rooms(cesr_text_to_binary, text, 4 * items, 3 * items, 3 * items);
     rooms(cesr_binary_to_text, binary, 3 * items, 4 * items, 4 * items);
     free(text);

@@ -55,17 +55,25 @@ static const uint8_t NOTHING[12] = {0};
 static const uint8_t LONG[] = {0, 0, 0, 2, 0, 0, 0, 0, 0, 0, 0, 8, 4, 0, 0, 0, 8, 0, 0, 0,
                                4, 0, 0, 0, 0, 1, 0, 0, 0, 0, 4, 0, 0, 0, 4, 0, 0, 0, 0};
 
-static void report(const char *text, size_t items, const uint8_t *told, size_t length) {
+typedef uint8_t reports_text(const uint8_t *, size_t, uint8_t *, size_t, size_t *);
+
+static void report_by(reports_text *call, const char *text, size_t items, const uint8_t *told, size_t length) {
     uint8_t out[ROOM];
     size_t answer = 99;
     size_t room = 17 + 18 * items;
     memset(out, HELD, ROOM);
-    check(cesr_report_text(bytes(text), strlen(text), out, room, &answer) == 0, "report accepted", text);
+    check(call(bytes(text), strlen(text), out, room, &answer) == 0, "report accepted", text);
     check(answer == length && memcmp(out, told, length) == 0, "report as told", text);
     check(held(out, length, ROOM), "bytes behind the report stay", text);
     memset(out, HELD, ROOM);
-    check(cesr_report_text(bytes(text), strlen(text), out, room - 1, &answer) == CESR_ROOM, "one short is 3", text);
+    check(call(bytes(text), strlen(text), out, room - 1, &answer) == CESR_ROOM, "one short is 3", text);
     check(answer == 0 && held(out, 0, ROOM), "3 leaves the buffer", text);
+}
+
+/* By both engines. */
+static void report(const char *text, size_t items, const uint8_t *told, size_t length) {
+    report_by(cesr_report_text, text, items, told, length);
+    report_by(cesr_second_text, text, items, told, length);
 }
 
 static void reports(void) {
@@ -93,6 +101,29 @@ static void binary_report(void) {
     check(held(out, sizeof told, ROOM), "bytes behind the report stay", "D4000C");
 }
 
+/* The second engine on `1AAM` in B and a byte more, with the working room that one triplet asks for. */
+static void second_binary(void) {
+    static const uint8_t stream[] = {0xD4, 0x00, 0x0C, 0xD4};
+    static const uint8_t told[] = {0, 0, 0, 1, 0, 0, 0, 0, 0, 0, 0, 3, 0, 0, 0, 0, 0, 0, 0, 0, 1, 0, 0, 0, 3, 4};
+    uint8_t out[ROOM], work[ROOM];
+    size_t answer = 99;
+    memset(out, HELD, ROOM);
+    memset(work, HELD, ROOM);
+    check(CESR_SECOND_ROOM(sizeof stream) == 4, "working room", "second");
+    check(cesr_second_binary(stream, sizeof stream, work, 3, out, ROOM, &answer) == CESR_ROOM, "one short is 3", "working room");
+    check(answer == 0 && held(work, 0, ROOM) && held(out, 0, ROOM), "3 leaves both", "working room");
+    check(cesr_second_binary(stream, sizeof stream, work, 3, out, 34, &answer) == CESR_ROOM, "both short are 3", "second");
+    check(answer == 0 && held(work, 0, ROOM) && held(out, 0, ROOM), "3 leaves both", "second");
+    check(cesr_second_binary(stream, sizeof stream, work, 4, out, 34, &answer) == CESR_ROOM, "one short is 3", "second");
+    check(answer == 0 && held(out, 0, ROOM), "3 leaves the buffer", "second");
+    check(memcmp(work, "1AAM", 4) == 0 && held(work, 4, ROOM), "the working room has the text", "second");
+    memset(work, HELD, ROOM);
+    check(cesr_second_binary(stream, sizeof stream, work, ROOM, out, 35, &answer) == 0, "report accepted", "second");
+    check(answer == sizeof told && memcmp(out, told, sizeof told) == 0, "report as told", "second");
+    check(held(out, sizeof told, ROOM), "bytes behind the report stay", "second");
+    check(memcmp(work, "1AAM", 4) == 0 && held(work, 4, ROOM), "bytes behind the text stay", "second");
+}
+
 /* ---- the longest streams */
 
 static uint8_t longest[4194305];
@@ -104,6 +135,8 @@ static void limits(void) {
     memset(out, HELD, ROOM);
     check(cesr_report_text(longest, 4194305, out, ROOM, &answer) == CESR_TOO_LONG, "one more is 1", "text");
     check(cesr_report_binary(longest, 3145729, out, ROOM, &answer) == CESR_TOO_LONG, "one more is 1", "binary");
+    check(cesr_second_text(longest, 4194305, out, ROOM, &answer) == CESR_TOO_LONG, "one more is 1", "second, text");
+    check(cesr_second_binary(longest, 3145729, out, ROOM, NULL, 0, &answer) == CESR_TOO_LONG, "one more is 1", "second, binary");
     check(cesr_text_to_binary(longest, 4194305, out, ROOM, &answer) == CESR_TOO_LONG, "one more is 1", "text to binary");
     check(cesr_binary_to_text(longest, 3145729, out, ROOM, &answer) == CESR_TOO_LONG, "one more is 1", "binary to text");
     check(cesr_text_to_binary(longest, 4194304, out, ROOM, &answer) == CESR_ROOM, "the limit is read", "text to binary");
@@ -575,6 +608,7 @@ static void nesting(void) {
 int main(void) {
     reports();
     binary_report();
+    second_binary();
     limits();
     conversion();
     reading();

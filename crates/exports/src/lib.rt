@@ -25,6 +25,7 @@ ghost use Rattle.exports_values.specs.Answers.{binaryFoundNumber, binaryFoundVa
 ghost use Rattle.exports_values.specs.Answers.{textWrittenNumber, textWrittenValue, binaryWrittenNumber, binaryWrittenValue};
 ghost use Rattle.exports_indexed.specs.Answers.{indexCodeFrom, textNumber, textValue, textInfo, binaryNumber, binaryValue, binaryInfo};
 ghost use Rattle.format.specs.Report.{reportAnswer, reportNumber, reportValue, reportLeft};
+ghost use Rattle.second_claims.specs.Second.{secondBinary, workLeft};
 ghost use Rattle.comparison.specs.Comparing.{compared};
 ghost use Rattle.passing.specs.Passing.{passedIn};
 ghost use Rattle.exports_values.specs.Counts.{countsOf};
@@ -79,6 +80,34 @@ pub extern "C" fn cesr_report_binary(stream: &[u8], out: &mut [u8], answer: &mut
     ensures { λ r. ⌜ now (out .exit) ≡ reportLeft (reportAnswer binary (now (stream .entry)) (length (now (out .entry)))) binary (now (stream .entry)) (now (out .entry)) ⌝ }
 {
     let outcome = report::report_binary(stream, out);
+    exports_answers::reported(outcome, answer)
+}
+
+// The same by the plain second judge. answer: the length of the report, or 0 for 1 and 3.
+#[no_mangle]
+pub extern "C" fn cesr_second_text(stream: &[u8], out: &mut [u8], answer: &mut usize) -> u8
+    ensures { λ r. ⌜ r ≡ reportNumber (reportAnswer text (now (stream .entry)) (length (now (out .entry)))) ⌝ }
+    ensures { λ r. ⌜ now (answer .exit) ≡ reportValue (reportAnswer text (now (stream .entry)) (length (now (out .entry)))) ⌝ }
+    ensures { λ r. ⌜ now (out .exit) ≡ reportLeft (reportAnswer text (now (stream .entry)) (length (now (out .entry)))) text (now (stream .entry)) (now (out .entry)) ⌝ }
+{
+    let outcome = second::report_text(stream, out);
+    exports_answers::reported(outcome, answer)
+}
+
+// Of a binary, with lent working room: 4 characters for each whole triplet.
+#[no_mangle]
+pub extern "C" fn cesr_second_binary(
+    stream: &[u8],
+    work: &mut [u8],
+    out: &mut [u8],
+    answer: &mut usize,
+) -> u8
+    ensures { λ r. ⌜ r ≡ reportNumber (secondBinary (now (stream .entry)) (length (now (work .entry))) (length (now (out .entry)))) ⌝ }
+    ensures { λ r. ⌜ now (answer .exit) ≡ reportValue (secondBinary (now (stream .entry)) (length (now (work .entry))) (length (now (out .entry)))) ⌝ }
+    ensures { λ r. ⌜ now (work .exit) ≡ workLeft (now (stream .entry)) (now (work .entry)) ⌝ }
+    ensures { λ r. ⌜ now (out .exit) ≡ reportLeft (secondBinary (now (stream .entry)) (length (now (work .entry))) (length (now (out .entry)))) binary (now (stream .entry)) (now (out .entry)) ⌝ }
+{
+    let outcome = second::report_binary(stream, work, out);
     exports_answers::reported(outcome, answer)
 }
 

@@ -23,8 +23,9 @@ use Rattle.format.specs.Alphabet.{sextetTable}
 use Rattle.runs.specs.Plain.{plainTable, classTable}
 use Rattle.runs.specs.Levels.{Clear, clear-less}
 use Rattle.report_first.specs.First.{Lent}
-use Rattle.report_rows.specs.Stores.{put, row-long, be4-long}
-use Rattle.report_filling.specs.Filling.{reportOf, filled-start, filled-few, filled-counts, stop-rows, end-rows, stop-all, end-all}
+use Rattle.filling.specs.Stores.{row-long, be4-long}
+use Rattle.report_rows.specs.Stores.{put}
+use Rattle.filling.specs.Filling.{reportOf, filled-start, filled-few, filled-counts, stop-rows, end-rows, stop-all, end-all}
 use Rattle.report_count.specs.Counts.{Total}
 use Rattle.report_general.specs.declared.Turn.{Turn}
 use Rattle.report_general.specs.declared.Turn.the-variants.{Stored, Rest}

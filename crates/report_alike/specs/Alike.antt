@@ -15,7 +15,8 @@ use Rattle.base.specs.Cases.{lt-or-ge}
 use Rattle.format.specs.declared.Form.{Form}
 use Rattle.format.specs.declared.Form.the-variants.{Text, Binary}
 use Rattle.format.specs.Report.{be4, rowBytes, concat}
-use Rattle.report_rows.specs.Stores.{put, put-fits, sets-append, runOf, run-start, run-more, next-place}
+use Rattle.filling.specs.Stores.{sets-append, runOf}
+use Rattle.report_rows.specs.Stores.{put, put-fits, run-start, run-more, next-place}
 
 -- by the first element, and in a text by the value of the second
 unfoldable pub isAlike : Form → List ℕ → List ℕ → ℕ → ℕ → ℕ → Bool

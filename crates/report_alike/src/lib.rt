@@ -9,7 +9,7 @@ ghost use Rattle.base.specs.Pick.{pick};
 ghost use lib.ListN.{length, getD};
 ghost use lib.Seq.{sets};
 ghost use Rattle.format.specs.Report.{be4, rowBytes, concat};
-ghost use Rattle.report_rows.specs.Stores.{runOf};
+ghost use Rattle.filling.specs.Stores.{runOf};
 ghost use Rattle.report_alike.specs.Alike.{isAlike, Alike, Roomy};
 
 fn wide(x: u8) -> usize

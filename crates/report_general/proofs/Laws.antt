@@ -21,8 +21,9 @@ use Rattle.laws.specs.Domains.{reader}
 use Rattle.laws.specs.Frames.{frames}
 use Rattle.report_item.specs.Items.{Judges}
 use Rattle.report_item.proofs.Laws.{framed-units}
-use Rattle.report_rows.specs.Stores.{put, put-fits, rowWith, concat-long, row-long, refusal-long}
-use Rattle.report_filling.specs.Filling.{refusal-few, turn, filled-room, filled-more, filled-few}
+use Rattle.filling.specs.Stores.{rowWith, concat-long, row-long, refusal-long}
+use Rattle.report_rows.specs.Stores.{put, put-fits}
+use Rattle.filling.specs.Filling.{refusal-few, turn, filled-room, filled-more, filled-few}
 use Rattle.report_general.specs.declared.Turn.{Turn}
 use Rattle.report_general.specs.declared.Turn.the-variants.{Stored, Rest}
 use Rattle.report_general.specs.Turns.{Fill, Filling, After, Placed, Turned, Places}

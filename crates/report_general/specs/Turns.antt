@@ -10,8 +10,8 @@ use Rattle.format.specs.Units.{domain}
 use Rattle.format.specs.Report.{rowsIn, frameIn, judgeIn, rowBytes}
 use Rattle.laws.specs.Domains.{reader}
 use Rattle.laws.specs.Frames.{frames}
-use Rattle.report_rows.specs.Stores.{row-long}
-use Rattle.report_filling.specs.Filling.{Filled}
+use Rattle.filling.specs.Stores.{row-long}
+use Rattle.filling.specs.Filling.{Filled}
 use Rattle.report_general.specs.declared.Turn.{Turn}
 use Rattle.report_general.specs.declared.Turn.the-variants.{Stored, Rest}
 

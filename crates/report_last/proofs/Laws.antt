@@ -6,7 +6,8 @@ use native.Mathlib.Omega.{arith}
 use lib.ListN.{length, length-append}
 use lib.Seq.{sets, length-sets}
 use Rattle.format.specs.Report.{be4}
-use Rattle.report_rows.specs.Stores.{put, put-fits, be4-long}
+use Rattle.filling.specs.Stores.{be4-long}
+use Rattle.report_rows.specs.Stores.{put, put-fits}
 use Rattle.report_last.specs.Last.{refusedOf, Last}
 use Rattle.report_last.specs.declared.End.{End}
 use Rattle.report_last.specs.declared.End.the-variants.{Whole, Rest}

@@ -23,7 +23,8 @@ use Rattle.laws.specs.Local.{binary-sextet}
 use Rattle.runs.specs.Plain.{plainTable, rowOf, plainAt}
 use Rattle.runs.specs.Tables.{value}
 use Rattle.runs.specs.Runs.{Run, run-none, plain-by-letter, text-sextet, text-long}
-use Rattle.report_rows.specs.Stores.{runOf, run-start}
+use Rattle.filling.specs.Stores.{runOf}
+use Rattle.report_rows.specs.Stores.{run-start}
 use Rattle.report_alike.specs.Alike.{isAlike, Alike, alike-units}
 use Rattle.report_first.specs.First.{Lent}
 use Rattle.report_plain.specs.Plain.{Like, Behind, Followed}

@@ -11,7 +11,7 @@ use Rattle.format.specs.Units.{domain}
 use Rattle.format.specs.Report.{rowBytes, concat}
 use Rattle.runs.specs.Plain.{plainTable, plainAt}
 use Rattle.runs.specs.Runs.{Run}
-use Rattle.report_rows.specs.Stores.{runOf}
+use Rattle.filling.specs.Stores.{runOf}
 use Rattle.report_alike.specs.Alike.{isAlike}
 
 -- wherever an item of a stream begins with x, and as the limit says, it is a plain primitive of so many units; 0 says nothing

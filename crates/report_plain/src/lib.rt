@@ -10,7 +10,7 @@ ghost use Rattle.format.specs.Units.{domain};
 ghost use Rattle.format.specs.Report.{rowBytes, concat};
 ghost use Rattle.runs.specs.Plain.{plainTable, plainAt};
 ghost use Rattle.runs.specs.Runs.{Run};
-ghost use Rattle.report_rows.specs.Stores.{runOf};
+ghost use Rattle.filling.specs.Stores.{runOf};
 ghost use Rattle.report_first.specs.First.{Lent};
 ghost use Rattle.report_plain.specs.Plain.{Like, Behind, Followed};
 

@@ -12,7 +12,8 @@ use Rattle.base.specs.Cases.{lt-or-ge}
 use Rattle.format.specs.declared.Verdict.{Verdict}
 use Rattle.format.specs.declared.Verdict.the-variants.{Accepted, Refused}
 use Rattle.format.specs.Report.{be4, verdictByte, refusalBytes, refusal, concat}
-use Rattle.report_rows.specs.Stores.{put, put-fits, none-put, be4-long, sets-append}
+use Rattle.filling.specs.Stores.{be4-long, sets-append}
+use Rattle.report_rows.specs.Stores.{put, put-fits, none-put}
 
 pub by-rest : (len at n : ℕ) → n ≤ len → leb at (len - n) ≡ leb (at + n) len
 by-rest len at n h =

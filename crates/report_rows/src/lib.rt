@@ -1,5 +1,5 @@
 // The bytes of a report, stored at places of a lent buffer: numbers, rows of items, refusals, the remainder. What does not fit is not
-// stored. Where each stands is the caller's, so that rows may have any width: the law of filling in report_filling is over it.
+// stored. Where each stands is the caller's, so that rows may have any width: the law in `filling` is over it.
 use format::Verdict;
 ghost use mathlib.Core.Path.{_≡_};
 ghost use mathlib.Core.List.{[], _∷_, _++_};

@@ -26,9 +26,10 @@ use Rattle.report_found.proofs.Laws.{wide}
 use Rattle.report_first.specs.First.{Lent}
 use Rattle.report_fast_laws.specs.Fast.{Good}
 use Rattle.report_fast_laws.specs.Laws.{taken-good}
-use Rattle.report_rows.specs.Stores.{put, put-fits, rowWith, runOf, row-long}
+use Rattle.filling.specs.Stores.{rowWith, runOf, row-long}
+use Rattle.report_rows.specs.Stores.{put, put-fits}
 use Rattle.report_alike.specs.Alike.{in-elements}
-use Rattle.report_filling.specs.Filling.{filled-good, filled-run}
+use Rattle.filling.specs.Filling.{filled-good, filled-run}
 use Rattle.report_general.specs.declared.Turn.{Turn}
 use Rattle.report_general.specs.declared.Turn.the-variants.{Stored}
 use Rattle.report_general.specs.Turns.{Fill, Filling, After, Placed, Turned}

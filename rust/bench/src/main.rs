@@ -4,6 +4,7 @@
 //! The library is the archive that `rt staticlib exports` writes.
 
 mod conversion;
+mod engines;
 mod race;
 mod reports;
 mod table;
@@ -24,6 +25,7 @@ const SWEEPS: usize = 6;
 fn main() {
     let mut races = conversion::races();
     races.extend(reports::races());
+    races.extend(engines::races());
     races.extend(walks::races());
     for _ in 0..SWEEPS {
         races.iter_mut().for_each(race::Race::sweep);

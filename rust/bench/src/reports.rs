@@ -19,17 +19,17 @@ static BINARY: &[Contender] = &[
     contender("proved", |binary, out| proved::report_binary(binary, out).unwrap_or(REFUSED)),
 ];
 
-type Call = fn(&[u8], &mut [u8]) -> usize;
+pub type Call = fn(&[u8], &mut [u8]) -> usize;
 
-const fn contender(name: &'static str, call: Call) -> Contender {
+pub const fn contender(name: &'static str, call: Call) -> Contender {
     Contender { name, call }
 }
 
-fn text_report(stream: &[u8], out: &mut [u8]) -> usize {
+pub fn text_report(stream: &[u8], out: &mut [u8]) -> usize {
     baseline::write_report(stream, baseline::Form::Text, out).unwrap_or(REFUSED)
 }
 
-fn binary_report(stream: &[u8], out: &mut [u8]) -> usize {
+pub fn binary_report(stream: &[u8], out: &mut [u8]) -> usize {
     baseline::write_report(stream, baseline::Form::Binary, out).unwrap_or(REFUSED)
 }
 
@@ -62,7 +62,7 @@ pub fn races() -> Vec<Race> {
 }
 
 /// The room is just what the report asks for.
-fn race(title: String, contenders: &'static [Contender], stream: Vec<u8>) -> Race {
+pub fn race(title: String, contenders: &'static [Contender], stream: Vec<u8>) -> Race {
     let items = items(&contenders[0], &stream);
     let room = 17 + 18 * items;
     let equal = contenders.len();

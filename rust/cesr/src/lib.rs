@@ -9,6 +9,8 @@
 //! | To | Call |
 //! | --- | --- |
 //! | judge a stream | [`judge`], [`judge_into`], [`judge_with`]: a [`Report`] with its rows |
+//! | judge it by the second engine | [`judge_second`] and its `_into` and `_with` forms |
+//! | hold two answers against each other | [`difference`]: a [`Difference`] or none |
 //! | convert a stream | [`to_binary`], [`to_text`] and their `_into` forms |
 //! | read one primitive | [`read`], [`read_text_into`], [`read_binary_into`]: a [`Value`] |
 //! | write one primitive | [`write()`], [`write_into`] |
@@ -78,6 +80,7 @@ mod names;
 mod primitive;
 mod refusal;
 mod report;
+mod second;
 mod walk;
 
 pub use code::{Chars, Code, Head, ParseCodeError};
@@ -97,6 +100,9 @@ pub use proved::{STATE, STATE_INDEXED, STATE_OPEN, STATE_POSITION};
 pub use refusal::{Number, Refusal};
 pub use report::{
     judge, judge_into, judge_with, Item, Items, RefusalRow, Refusals, Remainder, Report, Verdict,
+};
+pub use second::{
+    difference, judge_second, judge_second_into, judge_second_with, working_room, Difference, Part,
 };
 pub use walk::{item_at, Instalment, Pause, State, Step, Walk, STATE_BYTES};
 

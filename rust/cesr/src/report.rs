@@ -10,9 +10,9 @@ use core::ops::Range;
 use core::slice::ChunksExact;
 
 /// Bytes of a row of items or refusals.
-const ROW: usize = 9;
+pub(crate) const ROW: usize = 9;
 /// Bytes of a remainder's row.
-const REMAINDER: usize = 5;
+pub(crate) const REMAINDER: usize = 5;
 
 /// Judges a stream: its report.
 ///
@@ -113,7 +113,7 @@ struct Sections<'r> {
 }
 
 impl<'a> Report<'a> {
-    fn over(bytes: Cow<'a, [u8]>) -> Report<'a> {
+    pub(crate) fn over(bytes: Cow<'a, [u8]>) -> Report<'a> {
         Report { bytes }
     }
 
@@ -237,7 +237,7 @@ impl fmt::Display for Report<'_> {
     }
 }
 
-fn section(bytes: &[u8], row: usize) -> (&[u8], &[u8]) {
+pub(crate) fn section(bytes: &[u8], row: usize) -> (&[u8], &[u8]) {
     let Some((count, rest)) = bytes.split_first_chunk::<4>() else {
         return (&[], &[]);
     };

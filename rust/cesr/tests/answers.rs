@@ -3,10 +3,11 @@
 //! That the library's answers are right is for the differential test.
 
 use cesr::{
-    compare, item_at, judge, judge_into, read, read_binary_into, read_indexed, read_text_into,
-    to_binary, to_binary_into, to_text, to_text_into, write, write_group, write_group_into,
-    write_indexed, write_into, write_variable, write_variable_into, Builder, Code, Expectation,
-    Form, IndexedCode, Number, Pause, Refusal, Report, State, Verdict, Walk, STATE, STATE_BYTES,
+    compare, difference, item_at, judge, judge_into, judge_second, judge_second_into, read,
+    read_binary_into, read_indexed, read_text_into, to_binary, to_binary_into, to_text,
+    to_text_into, working_room, write, write_group, write_group_into, write_indexed, write_into,
+    write_variable, write_variable_into, Builder, Code, Expectation, Form, IndexedCode, Number,
+    Pause, Refusal, Report, State, Verdict, Walk, STATE, STATE_BYTES,
 };
 use streams::generate::any_deck;
 use streams::item::stream;
@@ -616,5 +617,38 @@ fn groups_as_deep_as_they_may_be() {
         let refusal = builder.enclose(b'J').unwrap_err();
         assert_eq!(refusal.number, Number::TooDeep);
         assert_eq!(refusal.place, 63 * form.unit());
+    }
+}
+
+/// By the second engine the same, and what its working room asks for and holds.
+#[test]
+fn the_second_engine_answers_the_same() {
+    each_case(|seed, form, stream| {
+        let first = judge(form, stream);
+        let second = judge_second(form, stream);
+        assert_eq!(difference(&first, &second), None, "{seed} {form}");
+        let asked = working_room(form, stream.len());
+        let mut out = vec![0; Report::room(form, stream.len())];
+        let mut work = vec![b'.'; asked + 3];
+        let lent = judge_second_into(form, stream, &mut work, &mut out);
+        assert_eq!(difference(&first, &lent), None, "{seed} {form}");
+        if form == Form::Text {
+            assert_eq!((asked, &work[..]), (0, &b"..."[..]));
+            return;
+        }
+        let whole = &stream[..stream.len() / 3 * 3];
+        assert_eq!(to_text(whole).as_deref(), Ok(&work[..asked]));
+        assert_eq!(&work[asked..], b"...");
+        if let Some(less) = asked.checked_sub(1) {
+            let mut work = vec![b'.'; less];
+            let refused = judge_second_into(form, stream, &mut work, &mut out);
+            let number = refused.map_err(|refusal| refusal.number).map(drop);
+            assert_eq!(number, Err(Number::Room));
+            assert!(work.iter().all(|byte| *byte == b'.'));
+        }
+    });
+    for form in [Form::Text, Form::Binary] {
+        let long = vec![b'A'; form.limit() + 1];
+        assert_eq!(judge_second(form, &long), judge(form, &long));
     }
 }

@@ -1,5 +1,6 @@
 //! The command's arguments.
 
+use crate::engine::Engine;
 use crate::help;
 use crate::input::Source;
 use crate::name::shown;
@@ -15,7 +16,8 @@ const COMMANDS: &str = "judge, convert, show, group, write, manifest, compare, e
 
 #[rustfmt::skip]
 const JUDGE: &[&str] = &[
-    "--form", "--manifest", "--all", "--json", "--report", "--html", "--junit", "--sarif",
+    "--form", "--engine", "--manifest", "--all", "--json", "--report", "--html", "--junit",
+    "--sarif",
 ];
 
 #[rustfmt::skip]
@@ -46,6 +48,7 @@ pub enum Task {
 #[derive(Debug)]
 pub struct Judge {
     pub form: Option<Form>,
+    pub engine: Engine,
     pub style: Style,
     pub manifest: Option<PathBuf>,
     /// Files that are written beside the lines.
@@ -124,6 +127,7 @@ pub struct Expect {
 #[derive(Default)]
 struct Given {
     form: Option<Form>,
+    engine: Option<Engine>,
     to: Option<Form>,
     out: Option<OsString>,
     manifest: Option<OsString>,
@@ -235,6 +239,7 @@ impl Given {
         };
         match name {
             "--form" => once(name, &mut self.form, form(valued()?)?)?,
+            "--engine" => once(name, &mut self.engine, engine(valued()?)?)?,
             "--to" => once(name, &mut self.to, form(valued()?)?)?,
             "--out" => once(name, &mut self.out, valued()?)?,
             "--manifest" => once(name, &mut self.manifest, valued()?)?,
@@ -308,6 +313,14 @@ fn form(name: OsString) -> Result<Form, String> {
     parsed.map_err(|wrong| format!("{wrong}, not {}", shown(&name)))
 }
 
+fn engine(name: OsString) -> Result<Engine, String> {
+    let known = Engine::named(name.to_str().unwrap_or_default());
+    known.ok_or_else(|| {
+        let name = shown(&name);
+        format!("an engine is first, second or both, not {name}")
+    })
+}
+
 fn said(given: Given, text: String) -> Result<Task, String> {
     match given.sources.is_empty() {
         true => Ok(Task::Say(text, Standing::Passed)),
@@ -341,6 +354,7 @@ fn judge(given: Given) -> Result<Task, String> {
     }
     Ok(Task::Judge(Judge {
         form: given.form,
+        engine: given.engine.unwrap_or_default(),
         style,
         manifest: given.manifest.map(PathBuf::from),
         pages: given.pages,

@@ -4,6 +4,7 @@
 use crate::arguments::Expect;
 use crate::complain;
 use crate::convert::{failed, to_file};
+use crate::engine::Engine;
 use crate::input::{self, Input};
 use crate::outcome::{self, Found};
 use crate::standing::Standing;
@@ -52,7 +53,7 @@ fn told(input: Input) -> Result<(Expectation, String), String> {
         let verdicts = counted(list.verdicts.len(), "verdict");
         return Ok((list, format!("a list of {verdicts}")));
     }
-    let own = match outcome::judged(input) {
+    let own = match outcome::judged(input, Engine::First) {
         Found::Judged(_, report) => Expectation::of(&report),
         Found::Refused(_, refusal) => return Err(refusal.to_string()),
         Found::Unread(why) => return Err(why),

@@ -6,7 +6,8 @@ use cesr::Number;
 pub const HELP: &str = "\
 cesr: judges, converts, shows, compares and writes CESR streams
 
-  cesr judge [--form text|binary] [--manifest LIST] [--all] [--json | --report]
+  cesr judge [--form text|binary] [--engine first|second|both] [--manifest LIST]
+             [--all] [--json | --report]
              [--html FILE] [--junit FILE] [--sarif FILE] [--] [FILE...]
   cesr convert [--to text|binary] [--out FILE] [--] [FILE]
   cesr show [--form text|binary] OFFSET [--] [FILE]
@@ -24,6 +25,9 @@ judge     One FILE: items, accepted, refused, remainder; then refused items, eig
           --all       every item with its code's name and every refused one
           --json      one object a line, for machines; with --all every item too
           --report    the report's bytes
+          --engine    second judges by a plain engine that shares little with the
+                      first; both by either, and where their reports differ that
+                      is an error and nothing is passed
           --manifest  the streams of LIST, or the given ones held against it: 0
                       only if every stream of LIST is there, is the one that is
                       listed, and passed
@@ -71,8 +75,8 @@ Exit status
   0  every byte of every stream lies in an accepted item
   1  an item is refused, or a remainder is left
   2  a call was refused (a stream over the limit), a stream is empty, changed
-     while it was read or is other than listed, or something could not be read
-     or written
+     while it was read or is other than listed, the two engines differ, or
+     something could not be read or written
 show says so of its one item, and gives 1 where no item starts. convert, group,
 write, manifest and expect give 0 if all was written. compare gives 0 if all is as
 expected, 1 if anything is otherwise, and 2 for a file or report that is not well

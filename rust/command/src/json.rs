@@ -16,8 +16,9 @@ pub fn line(outcome: &Outcome, all: bool) -> io::Result<Vec<u8>> {
     Ok(line.0)
 }
 
-/// Every stream has `stream`, `outcome` and `version`; what was judged has its sums,
-/// refusals and remainder, and with `all` its `rows`.
+/// Every stream has `stream`, `outcome` and `version`, and `engine` where it is
+/// not the first; what was judged has its sums, refusals and remainder, and with
+/// `all` its `rows`.
 fn object(out: &mut dyn Write, outcome: &Outcome, all: bool) -> io::Result<()> {
     let name = quoted(&outcome.name.exact());
     let word = quoted(outcome.standing().word());
@@ -30,6 +31,9 @@ fn object(out: &mut dyn Write, outcome: &Outcome, all: bool) -> io::Result<()> {
             write!(out, ",\"refusal\":{{{why},\"place\":{}}}", refusal.place)?;
         }
         Found::Unread(why) => write!(out, ",\"error\":{}", quoted(why))?,
+    }
+    if let Some(engine) = outcome.engine.word() {
+        write!(out, ",\"engine\":\"{engine}\"")?;
     }
     writeln!(out, ",{}}}", version())
 }

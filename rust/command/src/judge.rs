@@ -5,7 +5,7 @@ use crate::complain;
 use crate::expected::{self, Expected};
 use crate::json;
 use crate::name::shown;
-use crate::outcome::{self, Found, Outcome};
+use crate::outcome::{no_memory, Found, Outcome};
 use crate::pages::{Call, Pages};
 use crate::readable;
 use crate::standing::Standing;
@@ -48,7 +48,7 @@ pub fn run(task: &Judge, out: &mut dyn Write) -> io::Result<Standing> {
         progress.at(index.saturating_add(1), count);
         progress.tick(|| "judging".to_string());
         let started = Instant::now();
-        let outcome = Outcome::of(case, task.form, &mut progress);
+        let outcome = Outcome::of(case, task.form, task.engine, &mut progress);
         let outcome = one(task.style, alone, out, outcome, paint)?;
         // A stream's line leaves whole, also where many write to one file.
         out.flush()?;
@@ -100,10 +100,13 @@ fn object(out: &mut dyn Write, outcome: Outcome, all: bool) -> io::Result<Outcom
         Ok(line) => (line, outcome),
         Err(error) => {
             // What it held is given back first.
-            let name = outcome.name.clone();
+            let (name, engine) = (outcome.name.clone(), outcome.engine);
             drop(outcome);
-            let found = outcome::unread(&error);
-            let outcome = Outcome { name, found };
+            let outcome = Outcome {
+                name,
+                engine,
+                found: Found::Unread(no_memory(&error)),
+            };
             (json::line(&outcome, all)?, outcome)
         }
     };

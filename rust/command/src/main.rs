@@ -20,6 +20,7 @@ mod arguments;
 mod closed;
 mod compare;
 mod convert;
+mod engine;
 mod excerpt;
 mod expect;
 mod expected;

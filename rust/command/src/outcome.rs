@@ -1,9 +1,9 @@
 //! A stream judged: what came of it.
 
+use crate::engine::{Answer, Engine};
 use crate::expected::Case;
 use crate::input::{self, Input};
 use crate::manifest::Entry;
-use crate::memory;
 use crate::name::Name;
 use crate::standing::Standing;
 use crate::terminal::Progress;
@@ -15,6 +15,7 @@ use std::io;
 #[derive(Debug)]
 pub struct Outcome {
     pub name: Name,
+    pub engine: Engine,
     pub found: Found,
 }
 
@@ -23,29 +24,27 @@ pub enum Found {
     Judged(Input, Report<'static>),
     /// The library refused the call.
     Refused(Input, Refusal),
-    /// In words, why nothing was judged.
+    /// In words, why nothing was judged, or why no verdict is believed.
     Unread(String),
 }
 
 impl Outcome {
-    pub fn of(case: Case, form: Option<Form>, progress: &mut Progress) -> Outcome {
-        match case {
-            Case::Trouble(name, why) => Outcome::trouble(name, why),
+    pub fn of(case: Case, form: Option<Form>, engine: Engine, progress: &mut Progress) -> Outcome {
+        let (name, found) = match case {
+            Case::Trouble(name, why) => (name, Found::Unread(why)),
             Case::Stream(source, listed) => {
                 let asked = form.or(listed.as_ref().map(|entry| entry.form));
                 let input = input::read(&source, asked, progress);
                 let found = input.and_then(|input| as_listed(input, listed.as_ref()));
-                Outcome {
-                    name: source.name(),
-                    found: found.map_or_else(Found::Unread, judged),
-                }
+                let judged = |input| judged(input, engine);
+                (source.name(), found.map_or_else(Found::Unread, judged))
             }
+        };
+        Outcome {
+            name,
+            engine,
+            found,
         }
-    }
-
-    pub fn trouble(name: Name, why: String) -> Outcome {
-        let found = Found::Unread(why);
-        Outcome { name, found }
     }
 
     /// Passed asks for a byte, and for every byte to lie in an accepted item.
@@ -60,7 +59,7 @@ impl Outcome {
         }
     }
 
-    /// What to say on standard error, where nothing was judged.
+    /// What to say on standard error, where nothing was judged or believed.
     pub fn complaint(&self) -> Option<String> {
         match &self.found {
             Found::Judged(input, _) if input.bytes.is_empty() => {
@@ -92,19 +91,22 @@ fn as_listed(input: Input, listed: Option<&Entry>) -> Result<Input, String> {
 }
 
 /// The stream judged, with memory that is asked for.
-pub fn judged(input: Input) -> Found {
-    let room = match memory::zeros(Report::room(input.form, input.bytes.len())) {
-        Ok(room) => room,
-        Err(error) => return unread(&error),
-    };
-    match cesr::judge_with(input.form, &input.bytes, room) {
-        Ok(report) => Found::Judged(input, report),
-        Err(refusal) => Found::Refused(input, refusal),
+pub fn judged(input: Input, engine: Engine) -> Found {
+    let answer = engine.answer(input.form, &input.bytes);
+    found(input, answer)
+}
+
+/// What comes of a stream by the answer to it, or by why there is none.
+pub fn found(input: Input, answer: Result<Answer, String>) -> Found {
+    match answer {
+        Ok(Ok(report)) => Found::Judged(input, report),
+        Ok(Err(refusal)) => Found::Refused(input, refusal),
+        Err(why) => Found::Unread(why),
     }
 }
 
-pub fn unread(error: &io::Error) -> Found {
-    Found::Unread(format!("{}: nothing was judged", words::of_error(error)))
+pub fn no_memory(error: &io::Error) -> String {
+    format!("{}: nothing was judged", words::of_error(error))
 }
 
 /// The characters and the name of the code at the head of a framed item.

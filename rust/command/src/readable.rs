@@ -29,6 +29,7 @@ pub fn in_a_line(outcome: &Outcome) -> String {
             let mut parts = vec![format!("{}{detected}, {}", input.form, sums(report))];
             parts.extend(first_fault(report));
             parts.extend(beware(input).map(str::to_string));
+            parts.extend(outcome.engine.in_words().map(str::to_string));
             parts.join("; ")
         }
         (_, complaint) => complaint.unwrap_or_default(),
@@ -75,7 +76,11 @@ pub fn block(out: &mut dyn Write, outcome: &Outcome, all: bool, paint: Paint) ->
     let word = word(outcome.standing(), paint);
     let length = measured(input.form, input.bytes.len());
     writeln!(out, "{word}{}: {}", outcome.name, sums(report))?;
-    writeln!(out, "        {}, {length}", input.form_in_words())?;
+    write!(out, "        {}, {length}", input.form_in_words())?;
+    match outcome.engine.in_words() {
+        Some(engine) => writeln!(out, ", judged {engine}")?,
+        None => writeln!(out)?,
+    }
     if let Some(part) = beware(input) {
         writeln!(out, "        {part}")?;
     }

@@ -93,6 +93,9 @@ impl Log {
                 ",\"form\":\"{}\",\"detected\":{}",
                 input.form, input.detected
             )?;
+            if let Some(engine) = outcome.engine.word() {
+                write!(out, ",\"engine\":\"{engine}\"")?;
+            }
             let (accepted, refused) = (report.accepted(), report.refused());
             return write!(out, ",\"accepted\":{accepted},\"refused\":{refused}}}}}");
         }

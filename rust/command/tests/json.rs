@@ -62,7 +62,8 @@ fn the_guide_has_every_key() {
         "samples/first.cesr",
         "samples/cut.cesr",
     ];
-    let ran = run(&[&["judge", "--json", "--all"], &names[..]].concat());
+    let call = ["judge", "--json", "--all", "--engine=both"];
+    let ran = run(&[&call, &names[..]].concat());
     let script = "
 import json, re, sys
 used = set()

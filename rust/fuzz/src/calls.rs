@@ -14,11 +14,13 @@ use streams::Form;
 pub const HELD: u8 = 0xAA;
 pub const NUMBER: usize = 0xAAAA;
 
-/// Fences for the stream, the buffer, the tag, and the numbers.
+/// Fences for the stream, the buffer, the working room, the tag, and the
+/// numbers.
 struct Memory {
     edge: Edge,
     stream: Fence,
     out: Fence,
+    work: Fence,
     tag: Fence,
     state: Fence,
     numbers: Fence,
@@ -29,6 +31,7 @@ thread_local! {
         edge: Edge::End,
         stream: Fence::new(),
         out: Fence::new(),
+        work: Fence::new(),
         tag: Fence::new(),
         state: Fence::new(),
         numbers: Fence::new(),
@@ -78,6 +81,10 @@ pub fn one(input: &[u8]) {
                     &front.stream(form, long),
                 );
             }
+            Call::Second => {
+                let work = front.room();
+                second(memory, form, [work, room], &front.stream(form, long));
+            }
             _ => stream(memory, call, form, room, &front.stream(form, long)),
         }
     });
@@ -89,7 +96,10 @@ fn stream(memory: &mut Memory, call: Call, form: Form, room: Room, stream: &[u8]
     let long = stream.len() >= LONG_UNITS * form.unit();
     let steps = if long { 20 } else { usize::MAX };
     match call {
-        Call::Report => report(memory, form, room, stream),
+        Call::Report => {
+            report(memory, form, room, stream);
+            second(memory, form, [Room::Exact, room], stream);
+        }
         Call::Convert => convert(memory, form, room, stream),
         Call::ReadItems => {
             for at in walk(memory, form, stream, [0; STATE], steps.min(40)) {
@@ -106,6 +116,7 @@ fn stream(memory: &mut Memory, call: Call, form: Form, room: Room, stream: &[u8]
         }
         _ => {
             report(memory, form, room, stream);
+            second(memory, form, [Room::Exact, room], stream);
             convert(memory, form, room, stream);
             walk(memory, form, stream, [0; STATE], steps);
         }
@@ -138,12 +149,56 @@ fn report(memory: &mut Memory, form: Form, room: Room, stream: &[u8]) {
         Form::Text => [proved::report_text, beside::report_text],
         Form::Binary => [proved::report_binary, beside::report_binary],
     };
+    let asked = report_room(stream, calls[1]);
+    lent(memory, stream, room.of(asked), calls);
+}
+
+fn report_room(stream: &[u8], report: Lent) -> usize {
     let mut long = vec![0; 17 + 18 * stream.len()];
-    let items = match calls[1](stream, &mut long) {
+    let items = match report(stream, &mut long) {
         Ok(_) => u32::from_be_bytes([long[0], long[1], long[2], long[3]]),
         Err(_) => 0,
     };
-    lent(memory, stream, room.of(17 + 18 * items as usize), calls);
+    17 + 18 * items as usize
+}
+
+/// The working room asked is 4 characters for each whole triplet; the first engine
+/// says the same of it with enough.
+fn second(memory: &mut Memory, form: Form, [work, room]: [Room; 2], stream: &[u8]) {
+    if form == Form::Text {
+        let room = room.of(report_room(stream, beside::report_text));
+        lent(
+            memory,
+            stream,
+            room,
+            [proved::second_text, beside::second_text],
+        );
+        return lent(
+            memory,
+            stream,
+            room,
+            [proved::second_text, proved::report_text],
+        );
+    }
+    let room = room.of(report_room(stream, beside::report_binary));
+    let asked = stream.len() / 3 * 4;
+    let edge = memory.edge;
+    let source = placed(&mut memory.stream, edge, stream);
+    let work = memory.work.lend(edge, work.of(asked), HELD);
+    let ours = memory.out.lend(edge, room, HELD);
+    let (mut told_work, mut told) = (vec![HELD; work.len()], vec![HELD; room]);
+    let answer = proved::second_binary(source, work, ours);
+    assert_eq!(
+        answer,
+        beside::second_binary(stream, &mut told_work, &mut told)
+    );
+    assert_eq!((&*ours, &*work), (&told[..], &told_work[..]));
+    assert_eq!(source, stream);
+    if work.len() >= asked {
+        told.fill(HELD);
+        assert_eq!(answer, proved::report_binary(stream, &mut told));
+        assert_eq!(ours, told);
+    }
 }
 
 fn convert(memory: &mut Memory, form: Form, room: Room, stream: &[u8]) {

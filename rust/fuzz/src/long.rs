@@ -33,7 +33,10 @@ pub fn one(call: Call, form: Form, lent_room: Room, mut front: Front) {
             group(form, stream, front.byte());
             lent(form, stream, room);
         }
-        Call::Report | Call::Convert | Call::Compare | Call::Group => lent(form, stream, room),
+        Call::Report | Call::Convert | Call::Compare | Call::Group | Call::Second => {
+            lent(form, stream, room);
+            second(form, stream, room);
+        }
     }
 }
 
@@ -68,6 +71,23 @@ fn lent(form: Form, stream: &[u8], room: usize) {
         assert_eq!(ours(stream, &mut out), theirs(stream, &mut told));
         assert_eq!(out, told);
     }
+}
+
+fn second(form: Form, stream: &[u8], room: usize) {
+    let (mut out, mut work) = (vec![HELD; room], vec![HELD; room]);
+    let (mut told, mut told_work) = (out.clone(), work.clone());
+    let answers = match form {
+        Form::Text => (
+            proved::second_text(stream, &mut out),
+            beside::second_text(stream, &mut told),
+        ),
+        Form::Binary => (
+            proved::second_binary(stream, &mut work, &mut out),
+            beside::second_binary(stream, &mut told_work, &mut told),
+        ),
+    };
+    assert_eq!(answers.0, answers.1);
+    assert_eq!((out, work), (told, told_work));
 }
 
 fn read(form: Form, stream: &[u8], room: usize, at: usize) {

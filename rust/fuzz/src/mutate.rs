@@ -64,6 +64,7 @@ fn changed(random: &mut Random, input: &mut [u8], size: usize) -> Option<usize> 
         Call::Compare => return another_compare(random, input, size),
         Call::Group if random.once_in(2) => return another_group(random, form, input),
         Call::Group => drop((front.byte(), front.number())),
+        Call::Second => drop(front.room()),
         _ if random.once_in(400) => return long_stream(random, form, input),
         _ => {}
     }

@@ -2,9 +2,9 @@
 //! for few units too and around 4,096, groups around the depth limit, streams so
 //! long that conversion goes by its tables, a primitive and an indexed item of
 //! every code to write, bodies of every kind and letter for a group, some states,
-//! some comparisons.
+//! some comparisons, some rooms for the second engine.
 
-use crate::input::{Call, CALLS, COMPARE, GROUP, LONG};
+use crate::input::{Call, CALLS, COMPARE, GROUP, LONG, SECOND};
 use streams::body::{body, Body, KINDS};
 use streams::damage::GENUS_CODES;
 use streams::expectation::{file, report};
@@ -40,6 +40,7 @@ pub fn seeds() -> Vec<Vec<u8>> {
         seeds.extend(indexed_writes(form));
         seeds.extend(states(form));
         seeds.extend(groups(form));
+        seeds.extend(seconds(form));
         for header in [&b"--JAABAA"[..], b"--AAAA__", b"7AABABAA", b"9AABAA__"] {
             let made = form.of_text(&[header, b"AAAA"].concat());
             seeds.push([&[choice(Call::All, form), LONG], &made[..]].concat());
@@ -159,6 +160,16 @@ fn groups(form: Form) -> Vec<Vec<u8>> {
         }
     }
     seeds
+}
+
+/// Each room with each working room, of a stream that ends with a part of a unit.
+fn seconds(form: Form) -> Vec<Vec<u8>> {
+    let first = SECOND | u8::from(form == Form::Binary) << 3;
+    let made = form.of_text(b"-AAB0AAAMAAB1AAM");
+    let part = &made[..made.len() - 1];
+    let rooms = (0..4).flat_map(|room| (0..4).map(move |work| [room, work]));
+    let seed = |[room, work]: [u8; 2]| [&[first, room, work], part].concat();
+    rooms.map(seed).collect()
 }
 
 /// So many units of a long body, stated by its length.

@@ -24,6 +24,7 @@ pub mod primitive;
 pub mod refusal;
 pub mod registry;
 pub mod report;
+pub mod second;
 pub mod text;
 pub mod walk;
 

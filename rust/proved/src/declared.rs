@@ -74,6 +74,22 @@ extern "C" {
         room: usize,
         answer: *mut usize,
     ) -> u8;
+    pub fn cesr_second_text(
+        stream: *const u8,
+        length: usize,
+        out: *mut u8,
+        room: usize,
+        answer: *mut usize,
+    ) -> u8;
+    pub fn cesr_second_binary(
+        stream: *const u8,
+        length: usize,
+        work: *mut u8,
+        work_room: usize,
+        out: *mut u8,
+        room: usize,
+        answer: *mut usize,
+    ) -> u8;
     pub fn cesr_read_text(
         stream: *const u8,
         length: usize,

@@ -12,6 +12,7 @@ mod declared;
 mod group;
 mod indexed;
 mod passed;
+mod second;
 mod walk;
 
 pub use compare::{compare, Counts};
@@ -21,6 +22,7 @@ pub use indexed::{
     IndexedInfo, INDEXED, INDEXED_RAW, INDEXED_START,
 };
 pub use passed::passed;
+pub use second::{second_binary, second_text};
 pub use walk::{
     walk_binary, walk_on_binary, walk_on_text, walk_text, Instalment, Item, Pause, State,
     MAX_DEPTH, STATE, STATE_FIRST, STATE_INDEXED, STATE_OPEN, STATE_POSITION,

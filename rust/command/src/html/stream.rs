@@ -2,6 +2,7 @@
 //! what is refused in it.
 
 use super::{band, broken, eighths, fault, signed, Page};
+use crate::engine::Engine;
 use crate::input::Input;
 use crate::markup::escaped;
 use crate::memory::Gathered;
@@ -28,7 +29,7 @@ pub fn add(page: &mut Page, outcome: &Outcome) -> io::Result<()> {
     match (&outcome.found, outcome.complaint()) {
         (Found::Judged(input, report), None) => {
             page.sums = readable::sums(report);
-            judged(page, input, report)?;
+            judged(page, input, report, outcome.engine)?;
             more(page, report, outcome)?;
             remainder(page, input, report)?;
         }
@@ -70,8 +71,8 @@ fn row(page: &mut Page, outcome: &Outcome) -> io::Result<()> {
     writeln!(out, "</tr>")
 }
 
-fn judged(page: &mut Page, input: &Input, report: &Report) -> io::Result<()> {
-    facts(&mut page.streams, input, report)?;
+fn judged(page: &mut Page, input: &Input, report: &Report, engine: Engine) -> io::Result<()> {
+    facts(&mut page.streams, input, report, engine)?;
     let drawn = band::drawn(input, report, page.columns)?;
     page.streams.write_all(&drawn)?;
     for row in report.refusals() {
@@ -110,7 +111,7 @@ fn remainder(page: &mut Page, input: &Input, report: &Report) -> io::Result<()> 
     }
 }
 
-fn facts(out: &mut Gathered, input: &Input, report: &Report) -> io::Result<()> {
+fn facts(out: &mut Gathered, input: &Input, report: &Report, engine: Engine) -> io::Result<()> {
     let (form, bytes) = (input.form, &input.bytes);
     let accepted = report.items().filter(Item::is_accepted);
     let covered = accepted.fold(0_usize, |sum, item| sum.saturating_add(item.size));
@@ -129,6 +130,9 @@ fn facts(out: &mut Gathered, input: &Input, report: &Report) -> io::Result<()> {
         ("Form", input.form_in_words()),
     ] {
         writeln!(out, "<div><dt>{name}</dt><dd>{value}</dd></div>")?;
+    }
+    if let Some(word) = engine.word() {
+        writeln!(out, "<div><dt>Engine</dt><dd>{word}</dd></div>")?;
     }
     let digest = eighths(&sha256::of(bytes).to_string());
     writeln!(

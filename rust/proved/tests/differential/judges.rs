@@ -1,7 +1,7 @@
 //! One stream before both judges, by every call that takes a stream. What they
 //! answer and what they leave in the buffers must be the same.
 
-use crate::{groups, walks};
+use crate::{groups, seconds, walks};
 use streams::table::GROUPS;
 use streams::{Form, Random};
 
@@ -66,6 +66,7 @@ pub fn lent(
 /// the genus/version, of one that may not, and of one of indexed items.
 pub fn alike(stream: &[u8], form: Form) -> Check {
     report(stream, form)?;
+    seconds::alike(stream, form)?;
     conversion(stream, form)?;
     for letter in *b"CJL" {
         groups::around(letter, stream, form)?;
@@ -81,6 +82,7 @@ pub fn alike(stream: &[u8], form: Form) -> Check {
 /// body of one group.
 pub fn alike_in_short(stream: &[u8], form: Form, seed: u64) -> Check {
     report(stream, form)?;
+    seconds::alike(stream, form)?;
     conversion(stream, form)?;
     let letter = GROUPS[seed as usize % GROUPS.len()];
     groups::around(letter, stream, form)?;
@@ -103,9 +105,14 @@ fn reads(stream: &[u8], form: Form, mut offsets: impl Iterator<Item = usize>) ->
     })
 }
 
-pub fn report(stream: &[u8], form: Form) -> Check {
+/// The room that a report asks for.
+pub fn report_room(stream: &[u8], form: Form) -> usize {
     let found = oracle::report::report(stream, oracle_form(form));
-    let room = found.map_or(17, |report| report.room());
+    found.map_or(17, |report| report.room())
+}
+
+pub fn report(stream: &[u8], form: Form) -> Check {
+    let room = report_room(stream, form);
     let calls: [Call; 2] = match form {
         Form::Text => [proved::report_text, beside::report_text],
         Form::Binary => [proved::report_binary, beside::report_binary],

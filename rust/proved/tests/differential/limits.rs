@@ -1,6 +1,6 @@
 //! Streams and values as long as 01 lets them be, one less and one more.
 
-use crate::{judges, walks, writes};
+use crate::{judges, seconds, walks, writes};
 use streams::form::{characters, FORMS};
 use streams::{decks, Form, Random};
 
@@ -37,6 +37,7 @@ fn at_a_limit(made: &[u8], form: Form, seed: u64) {
     let walked = made.len() < 10_000 || made.len() >= judges::oracle_form(form).limit();
     let check = |s: &[u8]| {
         judges::report(s, form)?;
+        seconds::alike(s, form)?;
         judges::conversion(s, form)?;
         for at in [0, 4, s.len() / 2, s.len() - 1, s.len()] {
             judges::read(s, form, at)?;

@@ -17,6 +17,7 @@ mod judges;
 mod limits;
 mod lookup;
 mod papers;
+mod seconds;
 mod walks;
 mod writes;
 

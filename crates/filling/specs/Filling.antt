@@ -19,7 +19,7 @@ use Rattle.format.specs.Report.{be4, refusalBytes, remainderBytes, concat, sect
 use Rattle.damage.specs.Words.{Frames}
 use Rattle.damage.specs.Cuts as C
 use Rattle.damage.specs.Damage.{rows-item, remainder-item}
-use Rattle.report_rows.specs.Stores.{rowWith, runOf, sets-append, sets-comm, concat-append, concat-snoc, concat-long, be4-long, refusal-long, run-long}
+use Rattle.filling.specs.Stores.{rowWith, runOf, sets-append, sets-comm, concat-append, concat-snoc, concat-long, be4-long, refusal-long, run-long}
 
 -- ---- refusals
 

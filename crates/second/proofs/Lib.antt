@@ -1,0 +1,5 @@
+pub mod Judging
+pub mod Groups
+pub mod Counts
+pub mod Rows
+pub mod Answers
