@@ -4,9 +4,6 @@ use borrow.Author.Needs.{needs}
 use Rattle.report_found.proofs.found.Statement.{statement}
 use Rattle.report_found.proofs.found.Tie as tie
 
-limit-requires : tie.Need-limit-requires
-limit-requires c κs = search needs
-
 returns : tie.Need-returns
 returns c = search past-limit
 
@@ -28,4 +25,4 @@ returns-4 c = c .next .ensures
 pub found-spec : {M : Type 1} → statement M
 found-spec =
     tie.close
-    (tie.spec limit-requires returns units-requires returns-2 returns-3 next-requires returns-4)
+    (tie.spec returns units-requires returns-2 returns-3 next-requires returns-4)

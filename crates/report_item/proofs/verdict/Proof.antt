@@ -6,9 +6,6 @@ use Rattle.report_item.proofs.verdict.Tie as tie
 units-requires : tie.Need-units-requires
 units-requires c κs = search needs
 
-limit-requires : tie.Need-limit-requires
-limit-requires c κs = search needs
-
 returns : tie.Need-returns
 returns c = search over-limit
 
@@ -23,7 +20,7 @@ add-level c = search needs
 
 level-requires : tie.Need-level-requires
 level-requires c κs =
-    let f = c .before .before .before .before .before .before .args .form in
+    let f = c .before .before .before .before .before .args .form in
     inside-item f _ _ _ _ _ (c .if3 .left) (c .before .if2 .left) (c .before .before .if1 .left) (search needs) (search needs)
 
 placed-requires : tie.Need-placed-requires
@@ -37,7 +34,6 @@ verdict-spec =
     tie.close
     (tie.spec
     units-requires
-    limit-requires
     returns
     returns-2
     returns-3

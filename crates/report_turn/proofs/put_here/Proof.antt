@@ -1,4 +1,5 @@
 use Rattle.report_general.proofs.Laws.{turned-to}
+use Rattle.report_turn.proofs.Laws.{not-long}
 use borrow.Author.Needs.{needs}
 use Rattle.report_turn.proofs.put_here.Statement.{statement}
 use Rattle.report_turn.proofs.put_here.Tie as tie
@@ -25,7 +26,7 @@ same-length-2 : tie.Need-same-length-2
 same-length-2 c = search needs
 
 returns-2 : tie.Need-returns-2
-returns-2 c = λ L K Φ. c .before .before .put-accepted .ensures L K (c .before .before .before .before .before .accepted .ensures .1 (Φ .few) L K (c .before .before .before .before .if2 .taken)) Φ
+returns-2 c = λ L K Φ. c .before .before .put-accepted .ensures L K (c .before .before .before .before .before .accepted .ensures .1 (not-long Φ) L K (c .before .before .before .before .if2 .taken)) Φ
 
 put-general-requires : tie.Need-put-general-requires
 put-general-requires c κs = search needs
