@@ -8,7 +8,7 @@ use Rattle.format.specs.declared.Reported.the-variants as R
 use Rattle.format.specs.Report.{ItemRow, RefusalRow, RemainderRow, refusals, refusalsOf, refusal, be4, verdictByte}
 use Rattle.format.specs.Report.{rowBytes, refusalBytes, remainderBytes, concat, section}
 use Rattle.format.specs.Deck.{given}
-use Rattle.mixed.specs.Json.{hexOf, meets, pattern, passes, hexFrom, jsonSize, frameJson}
+use Rattle.mixed.specs.Json.{hexOf, meets, pattern, passes, hexFrom, jsonSize, fitJson, frameJson}
 use Rattle.mixed.specs.Mixed.{startOf, startAt, formByte, frameStart, frameWith, judgeStart, judgeMixed}
 use Rattle.mixed.specs.Mixed.{rowsMixed, refusalsMixed, remainderMixed, mixedRowBytes, mixedReport, mixedAnswer, mixedLeft}
 
@@ -41,7 +41,7 @@ case s i r l = record { stream = s; items = i; refused = r; remains = l }
 
 -- what the definitions give of a stream; to compute it is to open all of them
 unfoldable pub told : List ℕ → Case
-unfolding given refusals refusalsOf refusal verdictByte hexOf meets pattern passes hexFrom jsonSize frameJson startOf formByte frameStart
+unfolding given refusals refusalsOf refusal verdictByte hexOf meets pattern passes hexFrom jsonSize fitJson frameJson startOf formByte frameStart
     frameWith judgeStart judgeMixed
 told xs = record { stream = xs; items = map (lineOf xs) (rowsMixed xs); refused = refusalsMixed xs; remains = remainderMixed xs }
 

@@ -50,13 +50,14 @@ hexFrom (suc n) i a xs = hexFrom n (suc i) (a * 16 + hexOf (getD xs i 0)) xs
 unfoldable pub jsonSize : List ℕ → ℕ
 jsonSize xs = hexFrom 6 16 0 xs
 
--- "Fewer than 23 bytes left is a remainder 4; then a malformed header, or a length below 23, is 17; then a length past the end is 4."
--- Framing tells a kind, and a JSON item has none of 01's: k stands for it, and no report looks at it (mixed_claims, kind-free)
+-- "or a length below 23, is 17; then a length past the end is 4": of a total length of size, where len bytes are left. Framing tells a kind,
+-- and a JSON item has none of 01's: k stands for it, and no report looks at it (mixed_claims, kind-free)
+unfoldable pub fitJson : Kind → ℕ → ℕ → Framed
+fitJson k size len = pick (ltb size jsonHead) (Unframed 17 0) (pick (ltb len size) (Unframed 4 0) (Item k jsonHead size))
+
+-- "Fewer than 23 bytes left is a remainder 4; then a malformed header" is 17
 unfoldable pub frameJson : Kind → List ℕ → Framed
 frameJson k xs =
     pick (ltb (length xs) jsonHead) (Unframed 4 0)
-    (pick (passes pattern 0 xs)
-    (pick (ltb (jsonSize xs) jsonHead) (Unframed 17 0)
-    (pick (ltb (length xs) (jsonSize xs)) (Unframed 4 0)
-    (Item k jsonHead (jsonSize xs))))
+    (pick (passes pattern 0 xs) (fitJson k (jsonSize xs) (length xs))
     (Unframed 17 0))

@@ -21,7 +21,7 @@ use Rattle.claims_rules.specs.Rules.{Told, By, skip, ask-lt, by-none, by-first,
 use Rattle.claims_rules.specs.Rules.Told.{accepted, told}
 use Rattle.claims_rules.specs.Rules.By.{none, first}
 use Rattle.claims_rules.specs.Rules.Allowed.{end, _&_}
-use Rattle.mixed.specs.Json.{hexOf, meets, pattern, passes, hexFrom, jsonSize, frameJson}
+use Rattle.mixed.specs.Json.{hexOf, meets, pattern, passes, hexFrom, jsonSize, fitJson, frameJson}
 use Rattle.mixed_laws.specs.Json.{json-headed}
 use Rattle.mixed_claims.specs.Words.{Capital, Digit, Opens, jsonRules}
 
@@ -178,7 +178,7 @@ malformed true G rs y t f r = skip (17 when (G → ⊥)) rs (toldFraming y) (λ 
 malformed false G rs y t f r = first (inl (f refl, refl))
 
 in-order : (k : Kind) (xs : List ℕ) → By (jsonRules xs) (toldFraming (frameJson k xs))
-unfolding frameJson toldFraming
+unfolding frameJson fitJson toldFraming
 in-order k xs =
     ask-lt toldFraming (length xs) 23 4 _ _ _ refl
     (malformed (passes pattern 0 xs) (Opens xs) _ _ (passes-opens xs) (λ f o. no (sym f ∙ opens-passes xs o))

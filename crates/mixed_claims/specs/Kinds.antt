@@ -12,7 +12,7 @@ use Rattle.format.specs.declared.Framed.the-variants.{Item, Unframed}
 use Rattle.format.specs.Cutting.{Cut, cutBy, cutF, cut}
 use Rattle.mixed.specs.declared.Start.{Start}
 use Rattle.mixed.specs.declared.Start.the-variants.{Cesr, Json, Other}
-use Rattle.mixed.specs.Json.{jsonHead, pattern, passes, jsonSize, frameJson}
+use Rattle.mixed.specs.Json.{jsonHead, pattern, passes, jsonSize, fitJson, frameJson}
 use Rattle.mixed.specs.Mixed.{startAt, frameStart, frameWith}
 
 abbrev Span : Framed → Framed → Type 0
@@ -30,7 +30,7 @@ span-pick true x y x′ y′ p q = p
 span-pick false x y x′ y′ p q = q
 
 span-json : (k k′ : Kind) (xs : List ℕ) → Span (frameJson k xs) (frameJson k′ xs)
-unfolding frameJson
+unfolding frameJson fitJson
 span-json k k′ xs =
     span-pick (ltb (length xs) jsonHead) _ _ _ _ (refl, refl)
     (span-pick (passes pattern 0 xs) _ _ _ _

@@ -12,7 +12,7 @@ use Rattle.format.specs.declared.Kind.{Kind}
 use Rattle.format.specs.declared.Framed.{Framed}
 use Rattle.format.specs.declared.Framed.the-variants.{Item, Unframed}
 use Rattle.damage.specs.Words.{Agree, Frames}
-use Rattle.mixed.specs.Json.{pattern, jsonHead, passes, hexFrom, hexOf, jsonSize, frameJson}
+use Rattle.mixed.specs.Json.{pattern, jsonHead, passes, hexFrom, hexOf, jsonSize, fitJson, frameJson}
 
 passes-alike : (ts : List ℕ) (i : ℕ) (xs ys : List ℕ) → Agree (i + length ts) xs ys → passes ts i ys ≡ passes ts i xs
 unfolding passes
@@ -49,7 +49,7 @@ Says k₀ xs (Item k h n) = Headed k₀ xs k h n
 Says k₀ xs (Unframed n p) = Unit {0}
 
 says : (k : Kind) (xs : List ℕ) → Says k xs (frameJson k xs)
-unfolding frameJson
+unfolding frameJson fitJson
 says k xs =
     pick-by (Says k xs) (ltb (length xs) jsonHead) _ _ (λ _. tt) (λ _.
     pick-by (Says k xs) (passes pattern 0 xs) _ _
@@ -70,7 +70,7 @@ json-headed k₀ xs e = subst (Says k₀ xs) e (says k₀ xs)
 
 made : (k : Kind) (ys : List ℕ) (n : ℕ) → passes pattern 0 ys ≡ true → jsonSize ys ≡ n → jsonHead ≤ n → n ≤ length ys
     → frameJson k ys ≡ Item k jsonHead n
-unfolding frameJson
+unfolding frameJson fitJson
 made k ys n t e a b =
     rw (
       le-ltb (length ys) jsonHead (omega arith),
