@@ -1,3 +1,4 @@
+-- `mixed_json::asked` meets its contract. Assumes nothing.
 use mathlib.Core.Path.{refl}
 use Rattle.mixed.specs.Json.{pattern}
 use borrow.Author.Needs.{needs}

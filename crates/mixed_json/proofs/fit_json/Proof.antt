@@ -1,3 +1,4 @@
+-- `mixed_json::fit_json` meets its contract. Assumes nothing.
 use Rattle.mixed_json.proofs.Laws.{fit-small, fit-past, fit-item}
 use borrow.Author.Needs.{needs}
 use Rattle.mixed_json.proofs.fit_json.Statement.{statement}

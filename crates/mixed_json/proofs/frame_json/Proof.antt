@@ -1,3 +1,4 @@
+-- `mixed_json::frame_json` meets its contract. Assumes nothing.
 use Rattle.mixed_json.proofs.Laws.{json-short, json-malformed, json-fit}
 use borrow.Author.Needs.{needs}
 use Rattle.mixed_json.proofs.frame_json.Statement.{statement}

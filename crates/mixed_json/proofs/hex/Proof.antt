@@ -1,3 +1,4 @@
+-- `mixed_json::hex` meets its contract. Assumes nothing.
 use Rattle.mixed_json.proofs.Laws.{below-digits, digit, between, letter, past}
 use borrow.Author.Needs.{needs}
 use Rattle.mixed_json.proofs.hex.Statement.{statement}

@@ -1,3 +1,4 @@
+-- `mixed_json::is_header` meets its contract. Assumes nothing.
 use Prim.Native.Nat.{_-_}
 use Rattle.mixed_json.proofs.Laws.{Passed, start, on, off, ended}
 use borrow.Author.Needs.{needs}

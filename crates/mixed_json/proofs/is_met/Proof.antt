@@ -1,3 +1,4 @@
+-- `mixed_json::is_met` meets its contract. Assumes nothing.
 use Rattle.mixed_json.proofs.Laws.{no-capital, capital, hexed, itself}
 use borrow.Author.Needs.{needs}
 use Rattle.mixed_json.proofs.is_met.Statement.{statement}

@@ -1,3 +1,4 @@
+-- `mixed_json::is_met_at` meets its contract. Assumes nothing.
 use borrow.Author.Needs.{needs}
 use Rattle.mixed_json.proofs.is_met_at.Statement.{statement}
 use Rattle.mixed_json.proofs.is_met_at.Tie as tie

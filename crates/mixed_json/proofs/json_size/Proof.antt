@@ -1,3 +1,4 @@
+-- `mixed_json::json_size` meets its contract. Assumes nothing.
 use Rattle.mixed_json.proofs.Laws.{size-is}
 use borrow.Author.Needs.{needs}
 use Rattle.mixed_json.proofs.json_size.Statement.{statement}

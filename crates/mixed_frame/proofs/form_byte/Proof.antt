@@ -1,0 +1,46 @@
+-- `mixed_frame::form_byte` meets its contract. Assumes nothing.
+use Rattle.mixed_frame.proofs.Laws.{text-form, binary-form, json-form, other-form}
+use borrow.Author.Needs.{needs}
+use Rattle.mixed_frame.proofs.form_byte.Statement.{statement}
+use Rattle.mixed_frame.proofs.form_byte.Tie as tie
+
+enum-known-start : tie.Need-enum-known-start
+enum-known-start c = search needs
+
+enum-told : tie.Need-enum-told
+enum-told c = search needs
+
+enum-told-2 : tie.Need-enum-told-2
+enum-told-2 c = search needs
+
+enum-told-3 : tie.Need-enum-told-3
+enum-told-3 c = search needs
+
+enum-told-4 : tie.Need-enum-told-4
+enum-told-4 c = search needs
+
+returns : tie.Need-returns
+returns c = search text-form
+
+returns-2 : tie.Need-returns-2
+returns-2 c = search binary-form
+
+returns-3 : tie.Need-returns-3
+returns-3 c = search json-form
+
+returns-4 : tie.Need-returns-4
+returns-4 c = search other-form
+
+pub form-byte-spec : {M : Type 1} → statement M
+form-byte-spec =
+    tie.close
+    (tie.spec
+    enum-known-start
+    enum-told
+    enum-told-2
+    enum-told-3
+    enum-told-4
+    returns
+    returns-2
+    returns-3
+    returns-4)

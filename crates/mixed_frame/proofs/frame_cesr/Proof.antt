@@ -1,0 +1,20 @@
+-- `mixed_frame::frame_cesr` meets its contract. Assumes nothing.
+use Rattle.mixed_frame.proofs.Laws.{scales, framed-cesr}
+use borrow.Author.Needs.{needs}
+use Rattle.mixed_frame.proofs.frame_cesr.Statement.{statement}
+use Rattle.mixed_frame.proofs.frame_cesr.Tie as tie
+
+framed-requires : tie.Need-framed-requires
+framed-requires c κs = search needs
+
+unit-requires : tie.Need-unit-requires
+unit-requires c κs = search needs
+
+scaled-requires : tie.Need-scaled-requires
+scaled-requires c κs = search scales
+
+returns : tie.Need-returns
+returns c = search framed-cesr
+
+pub frame-cesr-spec : {M : Type 1} → statement M
+frame-cesr-spec = tie.close (tie.spec framed-requires unit-requires scaled-requires returns)
