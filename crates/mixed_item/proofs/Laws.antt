@@ -1,0 +1,105 @@
+-- The verdict on an item of a mixed stream, one law for each way through the code. Assumes nothing.
+use Prim.Native.Nat.{ℕ, _+_, _-_, _≤_, _<_}
+use mathlib.Core.Path.{_≡_, refl, sym, ap, _∙_, subst}
+use mathlib.Core.List.{List}
+use native.Mathlib.Omega.{arith}
+use mir.Syntax.{w64}
+use mir.Val as val
+use lib.ListN.{length, take, drop, length-take, length-drop}
+use Rattle.format.specs.declared.Form.{Form}
+use Rattle.format.specs.declared.Kind.{Kind}
+use Rattle.format.specs.declared.Framed.the-variants.{Item}
+use Rattle.format.specs.declared.Verdict.{Verdict}
+use Rattle.format.specs.declared.Verdict.the-variants.{Accepted, Refused}
+use Rattle.format.specs.Units.{domain}
+use Rattle.format.specs.Judging.{shift}
+use Rattle.damage.specs.Cuts.{frame-take}
+use Rattle.judging.proofs.Bounds.{Near}
+use Rattle.report_found.specs.Limits.{longest}
+use Rattle.report_first.specs.First.{Lent}
+use Rattle.mixed.specs.declared.Start.{Start}
+use Rattle.mixed.specs.declared.Start.the-variants.{Cesr, Json, Other}
+use Rattle.mixed.specs.Mixed.{startAt, frameMixed, judgeStart, judgeMixed}
+use Rattle.mixed_laws.specs.Frames.{frames-mixed, cesr-frame, cesr-judge}
+use Rattle.mixed_cesr.specs.Alone.{Judged}
+use Rattle.mixed_item.specs.Items.{Own, Judges, farthest}
+use Rattle.mixed_item.proofs.Places.{judged-near}
+
+-- ---- own bytes
+
+module _ (values classes rows xs : List ℕ) (t : Start) (e : t ≡ startAt xs 0) where
+  pub own-cesr : (f : Form) → t ≡ Cesr f → (v : Verdict) → Judged f values classes rows xs v → Own values classes rows xs v
+  own-cesr f q v J = record {
+    right = λ L few k h i.
+        let s : startAt xs 0 ≡ Cesr f = sym e ∙ q in
+        J .right (record { lent = L; few = few; kind = k; head = h; framed = sym (cesr-frame xs f s) ∙ i }) ∙ sym (cesr-judge xs f s);
+  }
+
+  pub own-json : t ≡ Json → Own values classes rows xs Accepted
+  unfolding judgeMixed judgeStart
+  own-json q = record { right = λ L few k h i. rw (sym e ∙ q) }
+
+  pub own-other : t ≡ Other → Own values classes rows xs Accepted
+  unfolding judgeMixed judgeStart
+  own-other q = record { right = λ L few k h i. rw (sym e ∙ q) }
+
+-- ---- a place counted on
+
+module _ (v : Verdict) (by : ℕ) where
+  pub moved-accepted : v ≡ Accepted → ((m p : ℕ) → v ≡ Refused m p → p ≤ farthest) → v ≡ shift by v
+  unfolding shift
+  moved-accepted e n = rw e
+
+  module _ (m p : ℕ) (e : v ≡ Refused m p) where
+    pub moved-far : farthest < p → ((m p : ℕ) → v ≡ Refused m p → p ≤ farthest) → Refused m p ≡ shift by v
+    moved-far h n = absurd (omega (arith, n m p e))
+
+    pub moved-on : ((m p : ℕ) → v ≡ Refused m p → p ≤ farthest) → Refused m (by + p) ≡ shift by v
+    unfolding shift
+    moved-on n = rw e
+
+    pub moved-fits : by ≤ 4194304 → p ≤ farthest → val.Fits w64 (by + p)
+    moved-fits h g = omega arith
+
+-- ---- where it stands
+
+near-place : (v : Verdict) → Near farthest v → (m p : ℕ) → v ≡ Refused m p → p ≤ farthest
+near-place v n m p e = subst (Near farthest) e n
+
+near-start : (t : Start) (xs : List ℕ) → length xs ≤ longest → Near farthest (judgeStart t xs)
+unfolding judgeStart
+near-start (Cesr f) xs l = judged-near f xs l
+near-start Json xs l = tt
+near-start Other xs l = tt
+
+near-mixed : (xs : List ℕ) → length xs ≤ longest → Near farthest (judgeMixed xs)
+unfolding judgeMixed
+near-mixed xs l = near-start (startAt xs 0) xs l
+
+module _ (values classes rows s : List ℕ) (at n : ℕ) (v : Verdict) where
+  pub judged : at ≤ length s → n ≤ length s - at → (w : Verdict) → Own values classes rows (take (at + n - at) (drop at s)) w
+      → (((m p : ℕ) → w ≡ Refused m p → p ≤ farthest) → v ≡ shift at w) → Judges values classes rows s at n v
+  judged la ln w O m = record {
+    right = λ L few k h i.
+        let z : at + n - at ≡ n = omega arith in
+        let own : List ℕ = take n (drop at s) in
+        let len : length own ≡ n = omega (arith, length-take n (drop at s), length-drop at s) in
+        let f : frameMixed own ≡ Item k h (length own) = frame-take frameMixed frames-mixed (drop at s) i ∙ rw len in
+        let O′ : Own values classes rows own w = rw z at O in
+        let e : w ≡ judgeMixed own = O′ .right L (omega (arith, length-take n (drop at s), length-drop at s)) k h f in
+        m (near-place w (rw e (near-mixed own (omega (arith, length-take n (drop at s), length-drop at s))))) ∙ ap (shift at) e;
+  }
+
+  -- what is no item of so many bytes there
+  pub too-long : longest < length s → Judges values classes rows s at n v
+  too-long l = record { right = λ L few k h i. absurd (omega arith) }
+
+  pub behind-end : length s < at → Judges values classes rows s at n v
+  behind-end l = record {
+    right = λ L few k h i. let w = frames-mixed .within (drop at s) k h n i in absurd (omega (arith, w .0, w .1, w .2, length-drop at s));
+  }
+
+  pub past-end : length s - at < n → Judges values classes rows s at n v
+  past-end l = record {
+    right = λ L few k h i. let w = frames-mixed .within (drop at s) k h n i in absurd (omega (arith, w .2, length-drop at s));
+  }
