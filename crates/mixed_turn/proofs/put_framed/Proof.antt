@@ -1,0 +1,54 @@
+-- `mixed_turn::put_framed` meets its contract. Assumes nothing.
+use Rattle.mixed_turn.proofs.Laws.{judged-turn}
+use borrow.Author.Needs.{needs}
+use Rattle.mixed_turn.proofs.put_framed.Statement.{statement}
+use Rattle.mixed_turn.proofs.put_framed.Tie as tie
+
+verdict-requires : tie.Need-verdict-requires
+verdict-requires c κs = search needs
+
+start-requires : tie.Need-start-requires
+start-requires c κs = search needs
+
+mul-row : tie.Need-mul-row
+mul-row c = search needs
+
+add-row : tie.Need-add-row
+add-row c = search needs
+
+mul-to : tie.Need-mul-to
+mul-to c = search needs
+
+add-to : tie.Need-add-to
+add-to c = search needs
+
+mul-to-2 : tie.Need-mul-to-2
+mul-to-2 c = search needs
+
+add-to-2 : tie.Need-add-to-2
+add-to-2 c = search needs
+
+put-item-requires : tie.Need-put-item-requires
+put-item-requires c κs = search needs
+
+same-length : tie.Need-same-length
+same-length c = search needs
+
+returns : tie.Need-returns
+returns c = search judged-turn
+
+pub put-framed-spec : {M : Type 1} → statement M
+put-framed-spec =
+    tie.close
+    (tie.spec
+    verdict-requires
+    start-requires
+    mul-row
+    add-row
+    mul-to
+    add-to
+    mul-to-2
+    add-to-2
+    put-item-requires
+    same-length
+    returns)
