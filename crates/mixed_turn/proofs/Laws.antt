@@ -25,7 +25,7 @@ use Rattle.mixed_item.specs.Items.{Judges}
 use Rattle.mixed_rows.specs.Rows.{itemPut, row-ten, item-put}
 use Rattle.mixed_turn.specs.declared.Turn.{Turn}
 use Rattle.mixed_turn.specs.declared.Turn.the-variants.{Stored, Rest}
-use Rattle.mixed_turn.specs.Turns.{Fill, Filling, After, Placed, Turned, Places}
+use Rattle.mixed_turn.specs.Turns.{Fill, Filling, After, Placed, Turned, Turns, Places}
 
 -- ---- the rows
 
@@ -92,6 +92,6 @@ module _ (s : List ℕ) (room n at i k : ℕ) where
     not-placed = λ t out l Φ. omega (arith, Φ .here, leb-false at (length s) t);
   }
 
-pub turned-not : {values classes rows s : List ℕ} {n at i k : ℕ} {out : List ℕ} (b : Bool) → Places s (length out) n at i k b → b ≡ false → (r : Turn)
-    → Turned values classes rows s n at i k out r out
-turned-not b P e r L Φ = absurd (P .not-placed e _ refl Φ)
+pub turns-not : {values classes rows s : List ℕ} {n at i k : ℕ} {out : List ℕ} (b : Bool) → Places s (length out) n at i k b → b ≡ false → (r : Turn)
+    → Turns values classes rows s n at i k out r out
+turns-not b P e r = record { right = λ L Φ. absurd (P .not-placed e _ refl Φ) }

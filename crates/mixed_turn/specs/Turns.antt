@@ -37,6 +37,9 @@ abbrev pub Turned : List ℕ → List ℕ → List ℕ → List ℕ → ℕ → 
 Turned values classes rows s n at i k out r out′ =
     Lent values classes rows → Filling s n at i k out → (o : List ℕ) → Fill s o n at i k out → After s o n at i k r out′
 
+pub record Turns (values classes rows s : List ℕ) (n at i k : ℕ) (out : List ℕ) (r : Turn) (out′ : List ℕ) : Type 0 where
+  pub right : Turned values classes rows s n at i k out r out′
+
 -- places that are within a stream and no report passes, whatever the buffer holds
 pub record Placed (s : List ℕ) (n at i k : ℕ) : Type 0 where
   pub most : n ≤ 485440633518672410

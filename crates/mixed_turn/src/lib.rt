@@ -6,7 +6,7 @@ ghost use Prim.Native.Nat.{ℕ, _-_, _≤_};
 ghost use lib.ListN.{length, drop};
 ghost use Rattle.format.specs.declared.Kind.{Kind};
 ghost use Rattle.mixed.specs.Mixed.{frameMixed};
-ghost use Rattle.mixed_turn.specs.Turns.{Placed, Turned, Places};
+ghost use Rattle.mixed_turn.specs.Turns.{Placed, Turned, Turns, Places};
 
 // What a turn stored: the rows of an item of so many bytes and its refusal, if it is refused; or nothing, for this reason.
 pub enum Turn {
@@ -95,7 +95,7 @@ pub fn put_turn(
     i: usize,
     k: usize,
 ) -> Turn
-    ensures { λ r. ⌜ Turned (now (values .entry)) (now (classes .entry)) (now (rows .entry)) (now (s .entry)) n at i k (now (out .entry)) r (now (out .exit)) ⌝ }
+    ensures { λ r. ⌜ Turns (now (values .entry)) (now (classes .entry)) (now (rows .entry)) (now (s .entry)) n at i k (now (out .entry)) r (now (out .exit)) ⌝ }
 {
     if is_place(s, out.len(), n, at, i, k) {
         return put_here(values, classes, rows, s, out, n, at, i, k);

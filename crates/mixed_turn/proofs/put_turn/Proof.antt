@@ -1,6 +1,6 @@
 -- `mixed_turn::put_turn` meets its contract. Assumes nothing.
 use native.Mathlib.Omega.{arith}
-use Rattle.mixed_turn.proofs.Laws.{turned-not}
+use Rattle.mixed_turn.proofs.Laws.{turns-not}
 use borrow.Author.Needs.{needs}
 use Rattle.mixed_turn.proofs.put_turn.Statement.{statement}
 use Rattle.mixed_turn.proofs.put_turn.Tie as tie
@@ -15,10 +15,10 @@ same-length : tie.Need-same-length
 same-length c = search needs
 
 returns : tie.Need-returns
-returns c = search needs
+returns c = record { right = c .before .before .put-here .ensures }
 
 returns-2 : tie.Need-returns-2
-returns-2 c = search turned-not
+returns-2 c = search turns-not
 
 pub put-turn-spec : {M : Type 1} → statement M
 put-turn-spec =
