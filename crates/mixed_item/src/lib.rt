@@ -1,5 +1,5 @@
-// The verdict on an item of a mixed stream, judged on its own bytes, with its place in the stream. What is no such item is never accepted.
-// The tables are lent.
+// The verdict on an item of a mixed stream, judged on its own bytes by the reports' general way, with its place in the stream. What is no such
+// item is never accepted.
 use format::Verdict;
 use mixed::Start;
 use report_units::LONGEST;
@@ -12,11 +12,13 @@ ghost use Rattle.mixed_item.specs.Items.{Own, Judges, farthest};
 const FARTHEST: usize = 8388608;
 
 // An item's own bytes.
-fn own(values: &[u8; 256], classes: &[u8; 256], rows: &[u16; 192], item: &[u8]) -> Verdict
-    ensures { λ r. ⌜ Own (now (values .entry)) (now (classes .entry)) (now (rows .entry)) (now (item .entry)) r ⌝ }
+fn own(item: &[u8]) -> Verdict
+    ensures { λ r. ⌜ Own (now (item .entry)) r ⌝ }
 {
     match mixed_frame::start(item, 0) {
-        Start::Cesr(form) => mixed_cesr::verdict(form, values, classes, rows, item),
+        Start::Cesr(form) => {
+            report_item::verdict(form, item, 0, report_units::units(form, item.len()))
+        }
         Start::Json => Verdict::Accepted,
         Start::Other => Verdict::Accepted,
     }
@@ -42,15 +44,8 @@ fn moved(v: Verdict, by: usize) -> Verdict
 }
 
 // The item of so many bytes at an offset.
-pub fn verdict(
-    values: &[u8; 256],
-    classes: &[u8; 256],
-    rows: &[u16; 192],
-    s: &[u8],
-    at: usize,
-    size: usize,
-) -> Verdict
-    ensures { λ r. ⌜ Judges (now (values .entry)) (now (classes .entry)) (now (rows .entry)) (now (s .entry)) at size r ⌝ }
+pub fn verdict(s: &[u8], at: usize, size: usize) -> Verdict
+    ensures { λ r. ⌜ Judges (now (s .entry)) at size r ⌝ }
 {
     if LONGEST < s.len() {
         return Verdict::Refused {
@@ -71,5 +66,5 @@ pub fn verdict(
         };
     }
     let end = at + size;
-    moved(own(values, classes, rows, &s[at..end]), at)
+    moved(own(&s[at..end]), at)
 }

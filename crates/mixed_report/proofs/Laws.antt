@@ -24,6 +24,8 @@ use Rattle.report_last.specs.declared.End.the-variants as E
 use Rattle.mixed.specs.Mixed.{frameMixed, judgeMixed, rowsMixed, mixedRowBytes, mixedReport, mixedLimit, mixedAnswer, mixedLeft}
 use Rattle.mixed_laws.specs.Frames.{frames-mixed}
 use Rattle.mixed_claims.specs.Proved.{proved}
+use Rattle.mixed_known.specs.Known.{Known, known-start, known-on}
+use Rattle.mixed_count.specs.Sizes.{Total}
 use Rattle.mixed_rows.specs.Rows.{row-ten}
 use Rattle.mixed_turn.specs.declared.Turn.{Turn}
 use Rattle.mixed_turn.specs.declared.Turn.the-variants.{Stored, Rest}
@@ -41,17 +43,18 @@ begin s o n = filled-start frameMixed judgeMixed frames-mixed (mixedRowBytes s) 
 -- ---- all turns
 
 -- some items are stored, up to a byte
-pub record Reached (values classes rows s : List ℕ) (n : ℕ) (out out₁ : List ℕ) (at i k : ℕ) : Type 0 where
+pub record Reached (values classes rows s : List ℕ) (n : ℕ) (out out₁ : List ℕ) (to at i k : ℕ) : Type 0 where
   pub begun : Begun values classes rows s n out
   pub inside : at ≤ length s
   pub long : length out₁ ≡ length out
+  pub known : Known s at to
   pub fills : (o : List ℕ) → Fill s o n 0 0 0 out → Fill s o n at i k out₁
 
 module _ {values classes rows s : List ℕ} {n : ℕ} {out : List ℕ} where
-  pub reached-start : Begun values classes rows s n out → Reached values classes rows s n out out 0 0 0
-  reached-start B = record { begun = B; inside = omega arith; long = refl; fills = λ o φ. φ }
+  pub reached-start : Begun values classes rows s n out → Reached values classes rows s n out out 0 0 0 0
+  reached-start B = record { begun = B; inside = omega arith; long = refl; known = known-start s; fills = λ o φ. φ }
 
-  module _ {out₁ : List ℕ} {at i k : ℕ} (T : Reached values classes rows s n out out₁ at i k) where
+  module _ {out₁ : List ℕ} {to at i k : ℕ} (T : Reached values classes rows s n out out₁ to at i k) where
     asks : at < length s → Filling s n at i k out₁
     asks l = record {
       few = T .begun .counted .read .few;
@@ -62,19 +65,26 @@ module _ {values classes rows s : List ℕ} {n : ℕ} {out : List ℕ} where
       filled = T .fills (T .begun .held) (T .begun .filled);
     }
 
-    -- a turn
-    module _ {r : Turn} {out₂ : List ℕ} (A : Turns values classes rows s n at i k out₁ r out₂) (l : at < length s) where
+    -- a turn, where characters are known up to another byte
+    module _ {to′ : ℕ} {r : Turn} {out₂ : List ℕ} (A : Turns values classes rows s n to′ at i k out₁ r out₂)
+        (known-to : Known s at to → Known s at to′) (l : at < length s) where
       after : (o : List ℕ) → Fill s o n 0 0 0 out → After s o n at i k r out₂
-      after o φ = A .right (T .begun .counted .read .lent) (asks l) o (T .fills o φ)
+      after o φ = A .right (T .begun .counted .read .lent) (known-to (T .known)) (asks l) o (T .fills o φ)
 
       stored : (m b : ℕ) → r ≡ Stored m b → (o : List ℕ) → Fill s o n 0 0 0 out
           → (0 < m) × (at + m ≤ length s) × Fill s o n (at + m) (i + 1) (k + b) out₂
       stored m b e o φ = subst (λ (t : Turn). After s o n at i k t out₂) e (after o φ)
 
-      pub reached-more : (m b : ℕ) → r ≡ Stored m b → length out₂ ≡ length out₁ → Reached values classes rows s n out out₂ (at + m) (i + 1) (k + b)
+      pub reached-more : (m b : ℕ) → r ≡ Stored m b → length out₂ ≡ length out₁ → Reached values classes rows s n out out₂ to′ (at + m) (i + 1) (k + b)
       reached-more m b e long₂ =
           let w = stored m b e (T .begun .held) (T .begun .filled) in
-          record { begun = T .begun; inside = w .1; long = long₂ ∙ T .long; fills = λ o φ. stored m b e o φ .2 }
+          record {
+            begun = T .begun;
+            inside = w .1;
+            long = long₂ ∙ T .long;
+            known = known-on s at to′ (at + m) (omega arith) (known-to (T .known));
+            fills = λ o φ. stored m b e o φ .2;
+          }
 
       moves : (m b : ℕ) → r ≡ Stored m b → (0 < m) × (at + m ≤ length s) × (i + 1 ≤ n) × (k + b ≤ n)
       moves m b e =
@@ -169,16 +179,16 @@ pub too-long : (xs out : List ℕ) → mixedLimit < length xs → R.Refused 1 0 
 unfolding mixedAnswer
 too-long xs out l = rw (lt-ltb mixedLimit (length xs) l)
 
-module _ (xs out : List ℕ) {values classes rows : List ℕ} (Q : Read values classes rows xs) (n : ℕ) (T : (n ≡ length (rowsMixed xs)) × (n ≤ length xs)) where
+module _ (xs out : List ℕ) {values classes rows : List ℕ} (Q : Read values classes rows xs) (n : ℕ) (T : Total values classes rows xs n) where
   pub no-room : length out < 17 + 19 * n → Answered xs out (R.Refused 3 0) out
   unfolding mixedAnswer mixedLeft
-  no-room k = record { answer = rw (le-ltb mixedLimit (length xs) (Q .few), ← (T .0), lt-ltb (length out) (17 + 19 * n) k); left = refl }
+  no-room k = record { answer = rw (le-ltb mixedLimit (length xs) (Q .few), ← (T .right (Q .lent)), lt-ltb (length out) (17 + 19 * n) k); left = refl }
 
   pub with-room : 17 + 19 * n ≤ length out → (w : ℕ) (out′ : List ℕ) → Written xs out w out′ → Answered xs out (R.Written w) out′
   unfolding mixedAnswer mixedLeft
   with-room k w out′ W =
       let z : 0 + length (mixedReport xs) ≡ length (mixedReport xs) = omega arith in
-      let e = T .0 in
+      let e = T .right (Q .lent) in
       let fits : 0 + length (mixedReport xs) ≤ length out = omega (arith, proved .call .fits xs) in
       record {
         answer = rw (le-ltb mixedLimit (length xs) (Q .few), ← e, le-ltb (length out) (17 + 19 * n) k) (ap R.Written (W .long));
@@ -186,10 +196,10 @@ module _ (xs out : List ℕ) {values classes rows : List ℕ} (Q : Read values c
       }
 
   pub counted : 17 + 19 * n ≤ length out → Counted values classes rows xs n out
-  counted k = record { read = Q; count = T .0; room = k }
+  counted k = record { read = Q; count = T .right (Q .lent); room = k }
 
   pub count-few : n ≤ 4194304
-  count-few = omega (arith, T .1, Q .few)
+  count-few = omega (arith, T .few, Q .few)
 
 -- the tables as they are named
 pub reads : (values classes rows s : List ℕ) → values ≡ sextetTable → classes ≡ classTable → rows ≡ plainTable → length s ≤ mixedLimit

@@ -1,5 +1,6 @@
 // The report of a mixed stream into a lent buffer: items with their form, refusals, remainder, each after its count. A first pass counts the
-// items, since room is asked by them; a second stores their rows where they are to stand. The tables are named once and lent.
+// items, since room is asked by them; a second stores their rows where they are to stand. The tables are named once and lent; `to` is a byte
+// in front of which, from the present one on, all characters of a text are known.
 use format::Reported;
 use mixed_turn::Turn;
 use report_last::End;
@@ -22,11 +23,13 @@ fn put_all(
     requires { ⌜ Begun (now values) (now classes) (now rows) (now s) n (now out) ⌝ }
     ensures { λ r. ⌜ Ended (now (s .entry)) n (now (out .entry)) r (now (out .exit)) ⌝ }
 {
+    let mut to = 0;
     let mut at = 0;
     let mut i = 0;
     let mut k = 0;
     while at < s.len() {
-        match mixed_turn::put_turn(values, classes, rows, s, out, n, at, i, k) {
+        to = mixed_known::known(s, at, to);
+        match mixed_turn::put_turn(values, classes, rows, s, out, n, to, at, i, k) {
             Turn::Rest { number } => {
                 return End::Rest {
                     offset: at,
@@ -89,7 +92,7 @@ fn report_by(
     requires { ⌜ Read (now values) (now classes) (now rows) (now s) ⌝ }
     ensures { λ r. ⌜ Answered (now (s .entry)) (now (out .entry)) r (now (out .exit)) ⌝ }
 {
-    let n = mixed_count::count(s);
+    let n = mixed_count::count(values, classes, rows, s);
     if out.len() < 17 + 19 * n {
         return Reported::Refused(3, 0);
     }

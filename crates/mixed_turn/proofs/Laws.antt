@@ -1,6 +1,6 @@
 -- A turn of the mixed report's loop. Assumes nothing.
 use Prim.Native.Nat.{ℕ, _+_, _-_, _*_, _/_, _≤_, _<_}
-use mathlib.Core.Path.{_≡_, refl, sym, ap, _∙_}
+use mathlib.Core.Path.{_≡_, refl, sym, ap, _∙_, subst}
 use mathlib.Core.Bool.{Bool, true, false}
 use mathlib.Core.List.{List, [], _∷_, _++_}
 use native.Mathlib.Omega.{arith}
@@ -14,18 +14,20 @@ use Rattle.format.specs.declared.Framed.the-variants.{Item, Unframed}
 use Rattle.format.specs.declared.Verdict.{Verdict}
 use Rattle.format.specs.Judging.{shift}
 use Rattle.format.specs.Report.{refusal, refusalBytes, concat}
-use Rattle.judging.proofs.Laws.{to-end}
 use Rattle.filling.specs.Stores.{rowWith, concat-long, refusal-long}
 use Rattle.filling.specs.Filling.{refusal-few, turn, filled-room, filled-more, filled-few}
 use Rattle.report_first.specs.First.{Lent}
 use Rattle.mixed.specs.declared.Start.{Start}
 use Rattle.mixed.specs.Mixed.{startAt, formByte, frameMixed, judgeMixed, mixedRowBytes}
 use Rattle.mixed_laws.specs.Frames.{frames-mixed}
-use Rattle.mixed_item.specs.Items.{Judges}
+use Rattle.mixed_fast.specs.Found.{Found}
+use Rattle.mixed_here.specs.declared.Standing.{Standing}
+use Rattle.mixed_here.specs.declared.Standing.the-variants as H
+use Rattle.mixed_here.specs.Here.{Stands, Judged}
 use Rattle.mixed_rows.specs.Rows.{itemPut, row-ten, item-put}
 use Rattle.mixed_turn.specs.declared.Turn.{Turn}
 use Rattle.mixed_turn.specs.declared.Turn.the-variants.{Stored, Rest}
-use Rattle.mixed_turn.specs.Turns.{Fill, Filling, After, Placed, Turned, Turns, Places}
+use Rattle.mixed_turn.specs.Turns.{Fill, Filling, After, Placed, Filled, Turns, Places}
 
 -- ---- the rows
 
@@ -48,28 +50,31 @@ module _ {s : List ℕ} {n at i k : ℕ} {out : List ℕ} (Φ : Filling s n at i
         let z = refusal-few i v in
         item-put s out (4 + 10 * i) (8 + 10 * n + 9 * k) i at m v (omega (arith, r .0)) (omega (arith, Φ .room, r .0, r .1))
 
--- an item that is judged
-pub judged-turn : (values classes rows s : List ℕ) (n at i k : ℕ) (out : List ℕ) (m : ℕ) (v : Verdict) → Judges values classes rows s at m v → (t : Start) → t ≡ startAt s at
-    → (b : ℕ) → b ≡ length (refusal i v) → (out′ : List ℕ) → out′ ≡ itemPut out (4 + 10 * i) (8 + 10 * n + 9 * k) i at m v (formByte t)
-    → (g : Kind) (h : ℕ) → frameMixed (drop at s) ≡ Item g h m → Turned values classes rows s n at i k out (Stored m b) out′
-judged-turn values classes rows s n at i k out m v J t et b eb out′ c g h e L Φ o φ =
-    let w = frames-mixed .within (drop at s) g h m e in
-    let j : v ≡ shift at (judgeMixed (take m (drop at s))) = J .right L (Φ .few) g h e in (
+-- an item that is found
+pub found-turn : (s : List ℕ) (n at i k : ℕ) (out : List ℕ) (m : ℕ) (v : Verdict) (t : Start) → t ≡ startAt s at → (b : ℕ) → b ≡ length (refusal i v)
+    → (out′ : List ℕ) → out′ ≡ itemPut out (4 + 10 * i) (8 + 10 * n + 9 * k) i at m v (formByte t) → Found s at m v
+    → Filled s n at i k out (Stored m b) out′
+found-turn s n at i k out m v t et b eb out′ c g Φ o φ =
+    let w = frames-mixed .within (drop at s) (g .kind) (g .head) m (g .framed) in (
       omega (arith, w .0, w .1),
       omega (arith, w .2, length-drop at s, Φ .here),
-      rw (eb, c, et, stored-is Φ g h m e v)
-          (filled-more frameMixed judgeMixed frames-mixed (mixedRowBytes s) 10 (row-ten s) s o n (Φ .count) at i k out φ e v j),
+      rw (eb, c, et, stored-is Φ (g .kind) (g .head) m (g .framed) v)
+          (filled-more frameMixed judgeMixed frames-mixed (mixedRowBytes s) 10 (row-ten s) s o n (Φ .count) at i k out φ (g .framed) v (g .judged)),
     )
 
--- nothing is framed, or an item is
-module _ (values classes rows s : List ℕ) (n at i k : ℕ) (out : List ℕ) (f : Framed) (e : f ≡ frameMixed (take (length s - at) (drop at s))) where
-  pub rest-turn : (m p : ℕ) → f ≡ Unframed m p → Turned values classes rows s n at i k out (Rest m) out
-  rest-turn m p q L Φ o φ = (p, sym (rw (to-end s at) at e) ∙ q, φ)
+-- what stands at a byte
+module _ (s : List ℕ) (n at i k : ℕ) (out : List ℕ) (h : Standing) where
+  pub rest-turn : (x : ℕ) → h ≡ H.Rest x → Stands s at h → Filled s n at i k out (Rest x) out
+  rest-turn x e S Φ o φ = let p = subst (Stands s at) e S in (p .0, p .1, φ)
 
-  pub item-turn : (r : Turn) (out′ : List ℕ) (g : Kind) (h m : ℕ) → f ≡ Item g h m
-      → ((t : Kind) (h : ℕ) → frameMixed (drop at s) ≡ Item t h m → Turned values classes rows s n at i k out r out′)
-      → Turned values classes rows s n at i k out r out′
-  item-turn r out′ g h m q T = T g h (sym (rw (to-end s at) at e) ∙ q)
+  pub item-turn : (m : ℕ) (v : Verdict) → h ≡ H.Item m v → (r : Turn) (out′ : List ℕ) → (Found s at m v → Filled s n at i k out r out′)
+      → Stands s at h → Filled s n at i k out r out′
+  item-turn m v e r out′ F S = F (subst (Stands s at) e S)
+
+-- by what is judged there
+pub judged-turn : {values classes rows s : List ℕ} {n to at i k : ℕ} {out : List ℕ} (h : Standing) → Judged values classes rows s at to h → (r : Turn)
+    {out′ : List ℕ} → (Stands s at h → Filled s n at i k out r out′) → Turns values classes rows s n to at i k out r out′
+judged-turn h J r F = record { right = λ L K Φ. F (J .right L (Φ .few) (omega (arith, Φ .here)) K) Φ }
 
 -- ---- what the test of places says
 
@@ -92,6 +97,6 @@ module _ (s : List ℕ) (room n at i k : ℕ) where
     not-placed = λ t out l Φ. omega (arith, Φ .here, leb-false at (length s) t);
   }
 
-pub turns-not : {values classes rows s : List ℕ} {n at i k : ℕ} {out : List ℕ} (b : Bool) → Places s (length out) n at i k b → b ≡ false → (r : Turn)
-    → Turns values classes rows s n at i k out r out
-turns-not b P e r = record { right = λ L Φ. absurd (P .not-placed e _ refl Φ) }
+pub turns-not : {values classes rows s : List ℕ} {n to at i k : ℕ} {out : List ℕ} (b : Bool) → Places s (length out) n at i k b → b ≡ false → (r : Turn)
+    → Turns values classes rows s n to at i k out r out
+turns-not b P e r = record { right = λ L K Φ. absurd (P .not-placed e _ refl Φ) }

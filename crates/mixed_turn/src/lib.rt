@@ -1,12 +1,10 @@
 // A turn of the mixed report's loop: what stands at a byte is framed and judged, and its rows are stored. It does so wherever the places that
-// it is given are within the stream, the tables are right and the buffer is filled up to there.
-use format::Framed;
-ghost use mathlib.Core.Path.{_≡_};
-ghost use Prim.Native.Nat.{ℕ, _-_, _≤_};
-ghost use lib.ListN.{length, drop};
-ghost use Rattle.format.specs.declared.Kind.{Kind};
-ghost use Rattle.mixed.specs.Mixed.{frameMixed};
-ghost use Rattle.mixed_turn.specs.Turns.{Placed, Turned, Turns, Places};
+// it is given are within the stream, the tables are right, characters are known up to `to` and the buffer is filled up to there.
+use format::Verdict;
+use mixed_here::Standing;
+ghost use Rattle.mixed_fast.specs.Found.{Found};
+ghost use Rattle.mixed_here.specs.Here.{Stands};
+ghost use Rattle.mixed_turn.specs.Turns.{Placed, Filled, Turns, Places};
 
 // What a turn stored: the rows of an item of so many bytes and its refusal, if it is refused; or nothing, for this reason.
 pub enum Turn {
@@ -31,11 +29,8 @@ fn is_place(s: &[u8], room: usize, n: usize, at: usize, i: usize, k: usize) -> b
     at <= s.len()
 }
 
-// A framed item of so many bytes.
-fn put_framed(
-    values: &[u8; 256],
-    classes: &[u8; 256],
-    rows: &[u16; 192],
+// The rows of an item of so many bytes that has this verdict.
+fn put_item(
     s: &[u8],
     out: &mut [u8],
     n: usize,
@@ -43,11 +38,11 @@ fn put_framed(
     i: usize,
     k: usize,
     size: usize,
+    v: Verdict,
 ) -> Turn
     requires { ⌜ Placed (now s) n at i k ⌝ }
-    ensures { λ r. ⌜ ((t : Kind) (h : ℕ) → frameMixed (drop at (now (s .entry))) ≡ Framed.Item t h size → Turned (now (values .entry)) (now (classes .entry)) (now (rows .entry)) (now (s .entry)) n at i k (now (out .entry)) r (now (out .exit))) ⌝ }
+    ensures { λ r. ⌜ (Found (now (s .entry)) at size v → Filled (now (s .entry)) n at i k (now (out .entry)) r (now (out .exit))) ⌝ }
 {
-    let v = mixed_item::verdict(values, classes, rows, s, at, size);
     let start = mixed_frame::start(s, at);
     let row = 4 + 10 * i;
     let to = 8 + 10 * n + 9 * k;
@@ -60,26 +55,20 @@ fn put_framed(
 
 // What stands at a byte.
 fn put_here(
-    values: &[u8; 256],
-    classes: &[u8; 256],
-    rows: &[u16; 192],
     s: &[u8],
     out: &mut [u8],
     n: usize,
     at: usize,
     i: usize,
     k: usize,
+    here: Standing,
 ) -> Turn
     requires { ⌜ Placed (now s) n at i k ⌝ }
-    ensures { λ r. ⌜ Turned (now (values .entry)) (now (classes .entry)) (now (rows .entry)) (now (s .entry)) n at i k (now (out .entry)) r (now (out .exit)) ⌝ }
+    ensures { λ r. ⌜ (Stands (now (s .entry)) at here → Filled (now (s .entry)) n at i k (now (out .entry)) r (now (out .exit))) ⌝ }
 {
-    match mixed_frame::framed(&s[at..]) {
-        Framed::Unframed { number, place: _ } => Turn::Rest { number },
-        Framed::Item {
-            kind: _,
-            head: _,
-            size,
-        } => put_framed(values, classes, rows, s, out, n, at, i, k, size),
+    match here {
+        Standing::Rest { number } => Turn::Rest { number },
+        Standing::Item { size, verdict } => put_item(s, out, n, at, i, k, size, verdict),
     }
 }
 
@@ -91,14 +80,16 @@ pub fn put_turn(
     s: &[u8],
     out: &mut [u8],
     n: usize,
+    to: usize,
     at: usize,
     i: usize,
     k: usize,
 ) -> Turn
-    ensures { λ r. ⌜ Turns (now (values .entry)) (now (classes .entry)) (now (rows .entry)) (now (s .entry)) n at i k (now (out .entry)) r (now (out .exit)) ⌝ }
+    ensures { λ r. ⌜ Turns (now (values .entry)) (now (classes .entry)) (now (rows .entry)) (now (s .entry)) n to at i k (now (out .entry)) r (now (out .exit)) ⌝ }
 {
     if is_place(s, out.len(), n, at, i, k) {
-        return put_here(values, classes, rows, s, out, n, at, i, k);
+        let here = mixed_here::judged(values, classes, rows, s, at, to);
+        return put_here(s, out, n, at, i, k, here);
     }
     Turn::Rest { number: 0 }
 }

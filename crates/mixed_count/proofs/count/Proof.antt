@@ -7,19 +7,22 @@ use Rattle.mixed_count.proofs.count.Statement.{statement}
 use Rattle.mixed_count.proofs.count.Tie as tie
 
 abbrev Inv-loop : tie.InvT-loop
-Inv-loop s at₀ i₀ at i = Counted s at i
+Inv-loop values classes rows s to₀ at₀ i₀ to at i = Counted values classes rows s to at i
 
 abbrev μ-loop : tie.MeasureT-loop
-μ-loop s at₀ i₀ at i = length s - at
+μ-loop values classes rows s to₀ at₀ i₀ to at i = length s - at
 
 loop-holds : tie.Need-loop-holds Inv-loop μ-loop
 loop-holds c = search counted-start
+
+known-requires : tie.Need-known-requires Inv-loop μ-loop
+known-requires c κs = search needs
 
 size-requires : tie.Need-size-requires Inv-loop μ-loop
 size-requires c κs = search needs
 
 returns : tie.Need-returns Inv-loop μ-loop
-returns c = counted-stop _ _ _ (c .before .before .before .loop .inv) _ (c .before .size .ensures) (search needs) (search needs)
+returns c = search counted-stop
 
 add-at : tie.Need-add-at Inv-loop μ-loop
 add-at c = search at-fits
@@ -34,7 +37,7 @@ loop-again : tie.Need-loop-again Inv-loop μ-loop
 loop-again c = search counted-more
 
 returns-2 : tie.Need-returns-2 Inv-loop μ-loop
-returns-2 c = counted-end _ _ _ (c .before .loop .inv) (search needs)
+returns-2 c = search counted-end
 
 pub count-spec : {M : Type 1} → statement M
 count-spec =
@@ -43,6 +46,7 @@ count-spec =
     Inv-loop
     μ-loop
     loop-holds
+    known-requires
     size-requires
     returns
     add-at

@@ -10,6 +10,9 @@ start-requires c κs = search needs
 enum-known-form : tie.Need-enum-known-form
 enum-known-form c = search needs
 
+units-requires : tie.Need-units-requires
+units-requires c κs = search needs
+
 verdict-requires : tie.Need-verdict-requires
 verdict-requires c κs = search needs
 
@@ -34,6 +37,7 @@ own-spec =
     (tie.spec
     start-requires
     enum-known-form
+    units-requires
     verdict-requires
     enum-told
     enum-told-2

@@ -7,13 +7,16 @@ use Rattle.mixed_report.proofs.put_all.Statement.{statement}
 use Rattle.mixed_report.proofs.put_all.Tie as tie
 
 abbrev Inv-loop : tie.InvT-loop
-Inv-loop values classes rows s out₀ n at₀ i₀ k₀ out at i k = Reached values classes rows s n out₀ out at i k
+Inv-loop values classes rows s out₀ n to₀ at₀ i₀ k₀ out to at i k = Reached values classes rows s n out₀ out to at i k
 
 abbrev μ-loop : tie.MeasureT-loop
-μ-loop values classes rows s out₀ n at₀ i₀ k₀ out at i k = length s - at
+μ-loop values classes rows s out₀ n to₀ at₀ i₀ k₀ out to at i k = length s - at
 
 loop-holds : tie.Need-loop-holds Inv-loop μ-loop
 loop-holds c = reached-start (c .before .before .pre)
+
+known-requires : tie.Need-known-requires Inv-loop μ-loop
+known-requires c κs = search needs
 
 put-turn-requires : tie.Need-put-turn-requires Inv-loop μ-loop
 put-turn-requires c κs = search needs
@@ -58,6 +61,7 @@ put-all-spec =
     Inv-loop
     μ-loop
     loop-holds
+    known-requires
     put-turn-requires
     enum-known-number
     same-length

@@ -1,5 +1,5 @@
 -- `mixed_report::report_by` meets its contract. Assumes nothing.
-use Rattle.mixed_report.proofs.Laws.{no-room, with-room}
+use Rattle.mixed_report.proofs.Laws.{no-room, with-room, counted}
 use borrow.Author.Needs.{needs}
 use Rattle.mixed_report.proofs.report_by.Statement.{statement}
 use Rattle.mixed_report.proofs.report_by.Tie as tie
@@ -17,7 +17,7 @@ returns : tie.Need-returns
 returns c = search no-room
 
 fill-requires : tie.Need-fill-requires
-fill-requires c κs = search needs
+fill-requires c κs = search counted
 
 same-length : tie.Need-same-length
 same-length c = search needs

@@ -1,11 +1,8 @@
--- `mixed_turn::put_framed` meets its contract. Assumes nothing.
-use Rattle.mixed_turn.proofs.Laws.{judged-turn}
+-- `mixed_turn::put_item` meets its contract. Assumes nothing.
+use Rattle.mixed_turn.proofs.Laws.{found-turn}
 use borrow.Author.Needs.{needs}
-use Rattle.mixed_turn.proofs.put_framed.Statement.{statement}
-use Rattle.mixed_turn.proofs.put_framed.Tie as tie
-
-verdict-requires : tie.Need-verdict-requires
-verdict-requires c κs = search needs
+use Rattle.mixed_turn.proofs.put_item.Statement.{statement}
+use Rattle.mixed_turn.proofs.put_item.Tie as tie
 
 start-requires : tie.Need-start-requires
 start-requires c κs = search needs
@@ -35,13 +32,12 @@ same-length : tie.Need-same-length
 same-length c = search needs
 
 returns : tie.Need-returns
-returns c = search judged-turn
+returns c = search found-turn
 
-pub put-framed-spec : {M : Type 1} → statement M
-put-framed-spec =
+pub put-item-spec : {M : Type 1} → statement M
+put-item-spec =
     tie.close
     (tie.spec
-    verdict-requires
     start-requires
     mul-row
     add-row

@@ -1,0 +1,38 @@
+-- `mixed_here::judged` meets its contract. Assumes nothing.
+use Rattle.mixed_here.proofs.Laws.{behind, by-fast, by-general}
+use borrow.Author.Needs.{needs}
+use Rattle.mixed_here.proofs.judged.Statement.{statement}
+use Rattle.mixed_here.proofs.judged.Tie as tie
+
+returns : tie.Need-returns
+returns c = search behind
+
+start-requires : tie.Need-start-requires
+start-requires c κs = search needs
+
+enum-known-form : tie.Need-enum-known-form
+enum-known-form c = search needs
+
+accepted-requires : tie.Need-accepted-requires
+accepted-requires c κs = search needs
+
+returns-2 : tie.Need-returns-2
+returns-2 c = search by-fast
+
+general-requires : tie.Need-general-requires
+general-requires c κs = search needs
+
+returns-3 : tie.Need-returns-3
+returns-3 c = search by-general
+
+pub judged-spec : {M : Type 1} → statement M
+judged-spec =
+    tie.close
+    (tie.spec
+    returns
+    start-requires
+    enum-known-form
+    accepted-requires
+    returns-2
+    general-requires
+    returns-3)
