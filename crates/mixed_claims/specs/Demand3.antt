@@ -1,18 +1,17 @@
 -- Demand 3 for mixed streams: the damage theorem of `damage` over the mixed framing and judge, and that an item keeps its form. Assumes
 -- nothing.
-use Prim.Native.Nat.{ℕ, _+_, _≤_, _<_}
-use mathlib.Core.Path.{_≡_, refl, sym, ap, _∙_, subst}
+use Prim.Native.Nat.{ℕ, _+_, _<_}
+use mathlib.Core.Path.{_≡_, refl, ap, _∙_, subst}
 use mathlib.Core.List.{List, [], _∷_}
 use native.Mathlib.Omega.{arith}
-use lib.ListN.{length, getD, take, drop, length-take}
+use lib.ListN.{length, getD, drop, length-take}
 use lib.Seq.{getD-take, getD-drop, take-length, drop-length}
-use Rattle.format.specs.declared.Form.{Form}
 use Rattle.format.specs.declared.Kind.{Kind}
 use Rattle.format.specs.declared.Framed.{Framed}
 use Rattle.format.specs.declared.Framed.the-variants.{Item, Unframed}
 use Rattle.format.specs.declared.Verdict.{Verdict}
 use Rattle.format.specs.Units.{domain}
-use Rattle.format.specs.Cutting.{Cut, cut}
+use Rattle.format.specs.Cutting.{cut}
 use Rattle.format.specs.Cutting.Cut.{done, item}
 use Rattle.format.specs.Report.{ItemRow, rowsOf, remainderOf, rows, remainder}
 use Rattle.damage.specs.Words.{Frames, row, itemAt, headOf, Behind, Damaged, ByItself}

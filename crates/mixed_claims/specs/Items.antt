@@ -3,7 +3,6 @@ use Prim.Native.Nat.{ℕ, _+_, _*_, _≤_, _<_}
 use mathlib.Core.Path.{_≡_, refl, sym, ap, _∙_}
 use mathlib.Core.List.{List, [], _∷_}
 use native.Mathlib.Omega.{arith}
-use lib.Dec.{ltb}
 use lib.ListN.{length}
 use borrow.Author.Tests.{le-ltb}
 use Rattle.format.specs.declared.Form.{Form}
@@ -14,12 +13,12 @@ use Rattle.format.specs.declared.Verdict.the-variants.{Accepted}
 use Rattle.format.specs.declared.Reported.the-variants as R
 use Rattle.format.specs.Units.{domain}
 use Rattle.format.specs.Judging.{shift}
-use Rattle.format.specs.Report.{ItemRow, rowsIn, remainderIn, rows, remainder, rowsOf, remainderOf, frameIn, report, reportAnswer}
+use Rattle.format.specs.Report.{ItemRow, rowsIn, rows, remainder, rowsOf, remainderOf, frameIn, report, reportAnswer}
 use Rattle.damage.specs.Words.{row, itemAt}
 use Rattle.damage.specs.Cuts as C
 use Rattle.claims.specs.Room.{report-length}
 use Rattle.mixed.specs.declared.Start.the-variants.{Cesr, Json, Other}
-use Rattle.mixed.specs.Mixed.{startAt, formByte, frameMixed, judgeStart, judgeMixed, rowsMixed, remainderMixed, mixedReport, mixedLimit, mixedAnswer}
+use Rattle.mixed.specs.Mixed.{startAt, frameMixed, judgeStart, judgeMixed, rowsMixed, remainderMixed, mixedReport, mixedLimit, mixedAnswer}
 use Rattle.mixed_laws.specs.Frames.{frames-mixed, cesr-frame, cesr-judge, other-frame}
 use Rattle.mixed_claims.specs.Words.{SameReports}
 use Rattle.mixed_claims.specs.Demand3.{single, by, row-start, own-framed}

@@ -1,19 +1,18 @@
 -- The claims on mixed streams hold. Assumes nothing.
-use Prim.Native.Nat.{ℕ, _+_, _*_, _≤_}
-use mathlib.Core.Path.{_≡_, refl, sym, ap, _∙_}
+use Prim.Native.Nat.{ℕ, _+_, _*_}
+use mathlib.Core.Path.{_≡_, refl}
 use mathlib.Core.List.{List}
-use mathlib.Core.Bool.{Bool}
 use native.Mathlib.Omega.{arith}
 use lib.Dec.{ltb}
 use lib.ListN.{length}
-use Rattle.base.specs.Pick.{pick, pick-by}
+use Rattle.base.specs.Pick.{pick-by}
 use Rattle.format.specs.declared.Form.the-variants.{Text, Binary}
 use Rattle.format.specs.declared.Kind.{Kind}
 use Rattle.format.specs.declared.Kind.the-variants.{Genus}
 use Rattle.format.specs.declared.Reported.{Reported}
 use Rattle.format.specs.declared.Reported.the-variants as R
 use Rattle.format.specs.Report.{rows, remainder}
-use Rattle.mixed.specs.declared.Start.the-variants.{Cesr, Json, Other}
+use Rattle.mixed.specs.declared.Start.the-variants.{Cesr, Json}
 use Rattle.mixed.specs.Mixed.{formByte, frameWith, judgeMixed, rowsMixed, remainderMixed, mixedReport, mixedLimit, mixedAnswer, mixedLeft}
 use Rattle.mixed_claims.specs.Claims.{Forms, JsonClaims, CallClaims, MixedClaims}
 use Rattle.mixed_claims.specs.Header.{json-refuses, json-accepts, json-sizes, total-digits}

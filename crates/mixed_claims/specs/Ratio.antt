@@ -1,24 +1,23 @@
 -- A CESR item of a mixed stream: 01's report of its own bytes, and four to three. Assumes nothing.
-use Prim.Native.Nat.{ℕ, _+_, _*_, _/_, _%_, _≤_, _<_}
+use Prim.Native.Nat.{ℕ, _*_, _/_, _%_, _≤_}
 use mathlib.Core.Path.{_≡_, refl, sym, ap, _∙_}
-use mathlib.Core.List.{List, [], _∷_}
-use mathlib.Core.Bool.{Bool, true, false}
+use mathlib.Core.List.{List, []}
+use mathlib.Core.Bool.{Bool, true}
 use native.Mathlib.Omega.{arith}
 use lib.Dec.{eqb, leb}
 use lib.ListN.{length, getD}
 use borrow.Author.Tests.{eqb-true, ne-eqb, le-leb, leb-true}
-use Rattle.base.specs.Pick.{pick, pick-by}
+use Rattle.base.specs.Pick.{pick-by}
 use Rattle.base.specs.Digits.{Below, below-at}
 use Rattle.format.specs.declared.Form.{Form}
 use Rattle.format.specs.declared.Form.the-variants.{Text, Binary}
 use Rattle.format.specs.declared.Kind.{Kind}
-use Rattle.format.specs.declared.Framed.{Framed}
-use Rattle.format.specs.declared.Framed.the-variants.{Item, Unframed}
+use Rattle.format.specs.declared.Framed.the-variants.{Item}
 use Rattle.format.specs.Alphabet.{sextetOf, charOf, within}
 use Rattle.format.specs.Units.{domain, text, binary, textSextets, binarySextets}
 use Rattle.format.specs.Conversion.{toBinary, toText}
 use Rattle.format.specs.Framing.{frameRuled, scale}
-use Rattle.format.specs.Report.{ItemRow, RefusalRow, rowsIn, refusalsIn, remainderIn, refusals, refusalsOf, frameIn, judgeIn}
+use Rattle.format.specs.Report.{rowsIn, refusalsIn, remainderIn, refusals, refusalsOf, frameIn, judgeIn}
 use Rattle.laws.specs.Alphabet.{char-sextet}
 use Rattle.laws.specs.Conversion.{length-to-binary, length-to-text, text-to-binary-sextets, binary-to-text-sextets}
 use Rattle.laws.specs.Local.{text-sextet, binary-sextet}

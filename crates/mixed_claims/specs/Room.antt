@@ -1,7 +1,7 @@
 -- The report's length, that the room the call asks for is enough, and what the call refuses. Assumes nothing.
-use Prim.Native.Nat.{ℕ, _+_, _*_, _≤_, _<_}
+use Prim.Native.Nat.{ℕ, _+_, _*_}
 use mathlib.Core.Path.{_≡_, refl, ap, subst}
-use mathlib.Core.List.{List, [], _∷_, _++_}
+use mathlib.Core.List.{List, [], _∷_}
 use mathlib.Core.Logic.{inl}
 use native.Mathlib.Omega.{arith}
 use lib.ListN.{length, length-append}
@@ -14,7 +14,7 @@ use Rattle.claims_rules.specs.Rules.{Told, By, ask-lt, by-none, by-first, refus
 use Rattle.claims_rules.specs.Rules.Told.{accepted, told}
 use Rattle.claims_rules.specs.Rules.By.{none}
 use Rattle.claims_rules.specs.Rules.Allowed.{end, _&_}
-use Rattle.mixed.specs.Mixed.{rowsMixed, refusalsMixed, remainderMixed, mixedRowBytes, mixedReport, mixedLimit, mixedAnswer, mixedLeft}
+use Rattle.mixed.specs.Mixed.{rowsMixed, refusalsMixed, remainderMixed, mixedRowBytes, mixedReport, mixedLimit, mixedAnswer}
 use Rattle.mixed_claims.specs.Words.{mixedRules}
 
 section-long : {A : Type 0} (f : A → List ℕ) (n : ℕ) → ((a : A) → length (f a) ≡ n) → (l : List A) → length (section f l) ≡ 4 + n * length l

@@ -1,8 +1,8 @@
 -- Where all items and the remainder start as one form does, the mixed report has what 01's report of that form has: two framings that
 -- agree on such streams, and two judges that agree on such items, give the same rows. Assumes nothing.
-use Prim.Native.Nat.{ℕ, zero, suc, _+_, _≤_, _<_}
+use Prim.Native.Nat.{ℕ, suc, _+_, _<_}
 use mathlib.Core.Path.{_≡_, refl, sym, ap, _∙_}
-use mathlib.Core.List.{List, [], _∷_, _++_}
+use mathlib.Core.List.{List, [], _∷_}
 use native.Mathlib.Omega.{arith}
 use lib.ListN.{length, getD, take, drop}
 use lib.Seq.{getD-take, getD-drop, drop-drop}
@@ -13,9 +13,8 @@ use Rattle.format.specs.declared.Framed.the-variants.{Item, Unframed}
 use Rattle.format.specs.declared.Verdict.{Verdict}
 use Rattle.format.specs.Units.{domain}
 use Rattle.format.specs.Cutting.{cut}
-use Rattle.format.specs.Judging.{shift}
 use Rattle.format.specs.Report.{ItemRow, RemainderRow, rowsOf, remainderOf, rows, remainder, refusals, refusalsOf}
-use Rattle.format.specs.Report.{rowsIn, refusalsIn, remainderIn, frameIn, judgeIn}
+use Rattle.format.specs.Report.{rowsIn, remainderIn, frameIn, judgeIn}
 use Rattle.damage.specs.Words.{Frames, row}
 use Rattle.damage.specs.Cuts as C
 use Rattle.damage.specs.Damage as D
@@ -23,7 +22,7 @@ use Rattle.laws.specs.Domains.{reader}
 use Rattle.laws.specs.Frames.{frames}
 use Rattle.mixed.specs.declared.Start.{Start}
 use Rattle.mixed.specs.declared.Start.the-variants.{Cesr}
-use Rattle.mixed.specs.Mixed.{startOf, startAt, formByte, frameMixed, judgeMixed, rowsMixed, refusalsMixed, remainderMixed, mixedRowBytes}
+use Rattle.mixed.specs.Mixed.{startOf, startAt, frameMixed, judgeMixed, rowsMixed, remainderMixed, mixedRowBytes}
 use Rattle.mixed_laws.specs.Frames.{frames-mixed, cesr-frame, cesr-judge}
 use Rattle.mixed_claims.specs.Words.{AllStart, SameReports}
 

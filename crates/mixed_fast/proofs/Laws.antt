@@ -1,7 +1,7 @@
 -- What the reports' fast way says of a part's start, said of the item at a byte. Assumes nothing.
 use Prim.Native.Nat.{ℕ, zero, suc, _+_, _-_, _*_, _/_, _^_, _≤_, _<_}
-use mathlib.Core.Path.{_≡_, refl, sym, ap, _∙_}
-use mathlib.Core.Bool.{Bool, true, false}
+use mathlib.Core.Path.{_≡_, sym, ap, _∙_}
+use mathlib.Core.Bool.{Bool, true}
 use mathlib.Core.List.{List}
 use native.Mathlib.Omega.{arith}
 use native.Mathlib.Nat.{mul-comm, le-div-iff-mul-le}
@@ -10,9 +10,7 @@ use mir.Val as val
 use lib.ListN.{length, getD, take, drop, length-drop}
 use lib.Seq.{getD-take, getD-drop}
 use Rattle.format.specs.declared.Form.{Form}
-use Rattle.format.specs.declared.Kind.{Kind}
 use Rattle.format.specs.declared.Framed.the-variants.{Item}
-use Rattle.format.specs.declared.Verdict.{Verdict}
 use Rattle.format.specs.declared.Verdict.the-variants.{Accepted}
 use Rattle.format.specs.Units.{domain}
 use Rattle.format.specs.Framing.{frameRuled, scale}
@@ -28,8 +26,8 @@ use Rattle.report_first.specs.First.{Lent}
 use Rattle.report_fast_laws.specs.Fast.{Good, Accepts}
 use Rattle.report_sizes.specs.Sizes.{Grouped}
 use Rattle.mixed.specs.declared.Start.the-variants.{Cesr}
-use Rattle.mixed.specs.Mixed.{startOf, startAt, frameMixed, judgeMixed}
-use Rattle.mixed_laws.specs.Frames.{frames-mixed, cesr-frame, cesr-judge}
+use Rattle.mixed.specs.Mixed.{startOf, startAt, judgeMixed}
+use Rattle.mixed_laws.specs.Frames.{cesr-frame, cesr-judge}
 use Rattle.mixed_known.specs.Known.{Known}
 use Rattle.mixed_fast.specs.Found.{Found, Units, Fast}
 

@@ -1,5 +1,5 @@
 -- What stands at a byte, one law for each way through the code. Assumes nothing.
-use Prim.Native.Nat.{ℕ, _-_, _≤_, _<_}
+use Prim.Native.Nat.{ℕ, _-_, _<_}
 use mathlib.Core.Path.{_≡_, sym, _∙_}
 use mathlib.Core.List.{List}
 use native.Mathlib.Omega.{arith}
@@ -14,11 +14,11 @@ use Rattle.judging.proofs.Laws.{to-end}
 use Rattle.mixed.specs.declared.Start.{Start}
 use Rattle.mixed.specs.declared.Start.the-variants.{Cesr}
 use Rattle.mixed.specs.Mixed.{startAt, frameMixed}
-use Rattle.mixed_fast.specs.Found.{Found, Fast}
+use Rattle.mixed_fast.specs.Found.{Fast}
 use Rattle.mixed_item.specs.Items.{Judges}
 use Rattle.mixed_here.specs.declared.Standing.{Standing}
 use Rattle.mixed_here.specs.declared.Standing.the-variants.{Item, Rest}
-use Rattle.mixed_here.specs.Here.{Stands, General, Judged}
+use Rattle.mixed_here.specs.Here.{General, Judged}
 
 -- ---- the general way
 

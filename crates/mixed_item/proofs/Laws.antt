@@ -1,11 +1,9 @@
 -- The verdict on an item of a mixed stream, one law for each way through the code. Assumes nothing.
 use Prim.Native.Nat.{ℕ, _+_, _-_, _*_, _/_, _≤_, _<_}
-use mathlib.Core.Path.{_≡_, refl, sym, ap, _∙_, subst}
+use mathlib.Core.Path.{_≡_, sym, ap, _∙_, subst}
 use mathlib.Core.List.{List}
 use native.Mathlib.Omega.{arith}
 use native.Mathlib.Nat.{mul-comm}
-use mir.Syntax.{w64}
-use mir.Val as val
 use lib.ListN.{length, take, drop, length-take, length-drop}
 use lib.Seq.{take-length}
 use Rattle.format.specs.declared.Form.{Form}
@@ -86,9 +84,6 @@ module _ (v : Verdict) (by : ℕ) where
     pub moved-on : ((m p : ℕ) → v ≡ Refused m p → p ≤ farthest) → Refused m (by + p) ≡ shift by v
     unfolding shift
     moved-on n = rw e
-
-    pub moved-fits : by ≤ 4194304 → p ≤ farthest → val.Fits w64 (by + p)
-    moved-fits h g = omega arith
 
 -- ---- where it stands
 

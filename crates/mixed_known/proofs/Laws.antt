@@ -1,8 +1,7 @@
 -- Characters up to the first stranger are known, and make known units. Assumes nothing.
 use Prim.Native.Nat.{ℕ, zero, suc, _+_, _-_, _*_, _/_, _^_, _≤_, _<_}
-use mathlib.Core.Path.{_≡_, refl, sym, ap, _∙_, subst}
+use mathlib.Core.Path.{_≡_}
 use mathlib.Core.List.{List, [], _∷_}
-use mathlib.Core.Bool.{Bool, true, false}
 use mathlib.Core.Logic.{⊎-elim}
 use native.Mathlib.Omega.{arith}
 use mir.Syntax.{w64}
@@ -11,7 +10,7 @@ use lib.Dec.{ltb}
 use lib.ListN.{length, getD, take, drop, length-drop, length-map, List·getD-eq-default}
 use lib.Seq.{getD-drop}
 use borrow.Author.Tests.{ltb-true}
-use Rattle.base.specs.Pick.{pick, pick-by}
+use Rattle.base.specs.Pick.{pick-by}
 use Rattle.base.specs.Cases.{lt-or-ge}
 use Rattle.format.specs.declared.Form.{Form}
 use Rattle.format.specs.declared.Form.the-variants.{Text, Binary}
@@ -20,7 +19,6 @@ use Rattle.format.specs.Units.{domain, textSextets, binarySextets}
 use Rattle.format.specs.Conversion.{firstStranger}
 use Rattle.laws.specs.Conversion.{binary-below}
 use Rattle.laws.specs.Local.{text-sextet}
-use Rattle.laws.specs.Domains.{reader}
 use Rattle.runs.specs.Levels.{Clear, clear-below}
 use Rattle.judging.proofs.Laws.{to-end}
 use Rattle.mixed_known.specs.Known.{Known}
@@ -63,9 +61,6 @@ text-clear s at to r h K i p q =
     (lt-or-ge i (length (drop at s)))
 
 module _ (f : Form) (s : List ℕ) (at to r : ℕ) where
-  pub clean-none : f ≡ Text → Known s at to → Clear (domain f .sextets (drop at s)) 0 0
-  clean-none e K i p q = absurd (omega arith)
-
   pub clean-text : f ≡ Text → Known s at to → Clear (domain f .sextets (drop at s)) 0 ((to - at) / 4)
   clean-text e K = rw e (text-clear s at to ((to - at) / 4) (omega arith) K)
 

@@ -1,15 +1,13 @@
 -- The framing of a mixed stream obeys the two laws that the damage theorem asks for, since each form's does and the first byte, which
 -- every header holds, decides between them. Assumes nothing.
-use Prim.Native.Nat.{ℕ, _≤_, _<_}
+use Prim.Native.Nat.{ℕ}
 use mathlib.Core.Path.{_≡_}
 use mathlib.Core.List.{List}
-use native.Mathlib.Omega.{arith}
-use lib.ListN.{length, getD}
+use lib.ListN.{getD}
 use Rattle.format.specs.declared.Form.{Form}
 use Rattle.format.specs.declared.Kind.{Kind}
 use Rattle.format.specs.declared.Kind.the-variants.{Genus}
-use Rattle.format.specs.declared.Framed.{Framed}
-use Rattle.format.specs.declared.Framed.the-variants.{Item, Unframed}
+use Rattle.format.specs.declared.Framed.the-variants.{Unframed}
 use Rattle.format.specs.Units.{domain}
 use Rattle.format.specs.Report.{frameIn, judgeIn}
 use Rattle.damage.specs.Words.{Frames}

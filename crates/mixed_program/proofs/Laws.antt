@@ -10,7 +10,6 @@ use Rattle.io.specs.Counts.{Counts}
 use Rattle.format.specs.declared.Form.{Form}
 use Rattle.format.specs.declared.Form.the-variants.{Text, Binary}
 use Rattle.format.specs.declared.Kind.{Kind}
-use Rattle.format.specs.declared.Framed.{Framed}
 use Rattle.format.specs.declared.Framed.the-variants.{Item, Unframed}
 use Rattle.format.specs.declared.Reported.{Reported}
 use Rattle.format.specs.declared.Reported.the-variants as R

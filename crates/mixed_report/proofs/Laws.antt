@@ -9,19 +9,16 @@ use lib.ListN.{length}
 use lib.Seq.{sets, sets-eq, length-sets}
 use borrow.Author.Tests.{lt-ltb, le-ltb}
 use Rattle.format.specs.declared.Reported.the-variants as R
-use Rattle.format.specs.Alphabet.{sextetTable}
 use Rattle.format.specs.Report.{be4}
-use Rattle.runs.specs.Plain.{plainTable, classTable}
 use Rattle.filling.specs.Stores.{be4-long}
 use Rattle.filling.specs.Filling.{reportOf, filled-start, filled-few, filled-counts, stop-rows, end-rows, stop-all, end-all}
-use Rattle.report_first.specs.First.{Lent}
 use Rattle.report_rows.specs.Stores.{put}
 use Rattle.report_last.specs.Last.{refusedOf, Last, Lasts}
 use Rattle.report_last.proofs.Laws.{puts, put-counts, put-last}
 use Rattle.report_last.specs.declared.End.{End}
 use Rattle.report_last.specs.declared.End.the-variants.{Whole}
 use Rattle.report_last.specs.declared.End.the-variants as E
-use Rattle.mixed.specs.Mixed.{frameMixed, judgeMixed, rowsMixed, mixedRowBytes, mixedReport, mixedLimit, mixedAnswer, mixedLeft}
+use Rattle.mixed.specs.Mixed.{frameMixed, judgeMixed, mixedRowBytes, mixedReport, mixedLimit, mixedAnswer, mixedLeft}
 use Rattle.mixed_laws.specs.Frames.{frames-mixed}
 use Rattle.mixed_claims.specs.Proved.{proved}
 use Rattle.mixed_known.specs.Known.{Known, known-start, known-on}
@@ -197,11 +194,3 @@ module _ (xs out : List ℕ) {values classes rows : List ℕ} (Q : Read values c
 
   pub counted : 17 + 19 * n ≤ length out → Counted values classes rows xs n out
   counted k = record { read = Q; count = T .right (Q .lent); room = k }
-
-  pub count-few : n ≤ 4194304
-  count-few = omega (arith, T .few, Q .few)
-
--- the tables as they are named
-pub reads : (values classes rows s : List ℕ) → values ≡ sextetTable → classes ≡ classTable → rows ≡ plainTable → length s ≤ mixedLimit
-    → Read values classes rows s
-reads values classes rows s v k r l = record { lent = record { characters = v; letters = k; codes = r }; few = l }

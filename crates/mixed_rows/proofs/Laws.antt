@@ -3,10 +3,8 @@ use Prim.Native.Nat.{ℕ, _+_, _-_, _≤_, _<_}
 use mathlib.Core.Path.{_≡_, _∙_}
 use mathlib.Core.List.{List, [], _∷_, _++_}
 use native.Mathlib.Omega.{arith}
-use lib.Dec.{leb}
 use lib.ListN.{length, set}
 use borrow.Author.Tests.{le-leb, lt-leb}
-use Rattle.base.specs.Pick.{pick}
 use Rattle.format.specs.declared.Verdict.{Verdict}
 use Rattle.format.specs.Report.{be4, refusalBytes, concat, refusal, verdictByte}
 use Rattle.report_rows.specs.Stores.{put}

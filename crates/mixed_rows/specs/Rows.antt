@@ -1,9 +1,9 @@
 -- What a buffer holds after an item's rows are stored, and that this is a row of ten bytes and the refusal's. Assumes nothing.
 use Prim.Native.Nat.{ℕ, _+_, _≤_}
-use mathlib.Core.Path.{_≡_, refl, sym, ap, _∙_}
-use mathlib.Core.List.{List, [], _∷_, _++_, append-assoc}
+use mathlib.Core.Path.{_≡_, refl, ap, _∙_}
+use mathlib.Core.List.{List, [], _∷_, _++_}
 use native.Mathlib.Omega.{arith}
-use lib.ListN.{length, length-append}
+use lib.ListN.{length}
 use lib.Seq.{sets, length-sets}
 use Rattle.format.specs.declared.Verdict.{Verdict}
 use Rattle.format.specs.Report.{ItemRow, be4, rowBytes, refusalBytes, concat, refusal, verdictByte}

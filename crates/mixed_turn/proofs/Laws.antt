@@ -1,22 +1,18 @@
 -- A turn of the mixed report's loop. Assumes nothing.
-use Prim.Native.Nat.{ℕ, _+_, _-_, _*_, _/_, _≤_, _<_}
-use mathlib.Core.Path.{_≡_, refl, sym, ap, _∙_, subst}
+use Prim.Native.Nat.{ℕ, _+_, _*_, _/_, _≤_, _<_}
+use mathlib.Core.Path.{_≡_, refl, sym, _∙_, subst}
 use mathlib.Core.Bool.{Bool, true, false}
-use mathlib.Core.List.{List, [], _∷_, _++_}
+use mathlib.Core.List.{List}
 use native.Mathlib.Omega.{arith}
 use lib.Dec.{leb}
-use lib.ListN.{length, take, drop, length-drop}
-use lib.Seq.{sets}
+use lib.ListN.{length, drop, length-drop}
 use borrow.Author.Tests.{leb-true, leb-false}
 use Rattle.format.specs.declared.Kind.{Kind}
-use Rattle.format.specs.declared.Framed.{Framed}
-use Rattle.format.specs.declared.Framed.the-variants.{Item, Unframed}
+use Rattle.format.specs.declared.Framed.the-variants.{Item}
 use Rattle.format.specs.declared.Verdict.{Verdict}
-use Rattle.format.specs.Judging.{shift}
-use Rattle.format.specs.Report.{refusal, refusalBytes, concat}
+use Rattle.format.specs.Report.{refusal, refusalBytes}
 use Rattle.filling.specs.Stores.{rowWith, concat-long, refusal-long}
 use Rattle.filling.specs.Filling.{refusal-few, turn, filled-room, filled-more, filled-few}
-use Rattle.report_first.specs.First.{Lent}
 use Rattle.mixed.specs.declared.Start.{Start}
 use Rattle.mixed.specs.Mixed.{startAt, formByte, frameMixed, judgeMixed, mixedRowBytes}
 use Rattle.mixed_laws.specs.Frames.{frames-mixed}
@@ -27,7 +23,7 @@ use Rattle.mixed_here.specs.Here.{Stands, Judged}
 use Rattle.mixed_rows.specs.Rows.{itemPut, row-ten, item-put}
 use Rattle.mixed_turn.specs.declared.Turn.{Turn}
 use Rattle.mixed_turn.specs.declared.Turn.the-variants.{Stored, Rest}
-use Rattle.mixed_turn.specs.Turns.{Fill, Filling, After, Placed, Filled, Turns, Places}
+use Rattle.mixed_turn.specs.Turns.{Filling, Filled, Turns, Places}
 
 -- ---- the rows
 
