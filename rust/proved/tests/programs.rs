@@ -54,7 +54,7 @@ fn told(form: Form, stream: &[u8]) -> Vec<u8> {
 #[ignore = "needs the programs in target/bin"]
 fn lengths_around_8192() {
     let mut random = Random::new(0x8192);
-    for maker in [decks::digests, decks::nests, decks::mixed, units] {
+    for maker in [decks::digests, decks::nests, decks::all_codes, units] {
         let text = maker(&mut random, 40_000);
         for form in FORMS {
             let made = form.of_text(&text);
