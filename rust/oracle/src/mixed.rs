@@ -400,21 +400,25 @@ mod tests {
 
     #[test]
     fn one_then_three() {
-        let long = vec![b'-'; LIMIT + 1];
+        let long = vec![b'-'; 4_194_305];
         let refused = write_report(&long, &mut []);
         assert_eq!(refused, Err(Refusal::new(1, 0)));
-        let refused = write_report(&long[..LIMIT], &mut []);
+        let refused = write_report(&long[..4_194_304], &mut []);
         assert_eq!(refused, Err(Refusal::new(3, 0)));
         assert_eq!(write_report(b"", &mut [9; 17]), Ok(12));
         assert_eq!(write_report(b"", &mut [9; 16]), Err(Refusal::new(3, 0)));
+    }
+
+    #[test]
+    fn rows_of_ten_bytes_and_their_room() {
+        let stream = head("000017");
         let mut out = [9; 37];
-        assert_eq!(
-            write_report(b"-AAA", &mut out[..35]),
-            Err(Refusal::new(3, 0))
-        );
+        let refused = write_report(stream.as_bytes(), &mut out[..35]);
+        assert_eq!(refused, Err(Refusal::new(3, 0)));
         assert_eq!(out, [9; 37]);
-        assert_eq!(write_report(b"-AAA", &mut out), Ok(22));
-        assert_eq!(out[..14], [0, 0, 0, 1, 0, 0, 0, 0, 0, 0, 0, 4, 0, 0]);
+        assert_eq!(write_report(stream.as_bytes(), &mut out[..36]), Ok(22));
+        // Offset, size, verdict, and 2 for JSON.
+        assert_eq!(out[..14], [0, 0, 0, 1, 0, 0, 0, 0, 0, 0, 0, 23, 0, 2]);
         assert_eq!(out[14..], [[0; 8].as_slice(), &[9; 15]].concat());
     }
 
