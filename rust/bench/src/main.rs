@@ -5,6 +5,7 @@
 
 mod conversion;
 mod engines;
+mod mixed;
 mod race;
 mod reports;
 mod table;
@@ -26,6 +27,7 @@ fn main() {
     let mut races = conversion::races();
     races.extend(reports::races());
     races.extend(engines::races());
+    races.extend(mixed::races());
     races.extend(walks::races());
     for _ in 0..SWEEPS {
         races.iter_mut().for_each(race::Race::sweep);

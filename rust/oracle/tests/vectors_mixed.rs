@@ -79,7 +79,7 @@ fn records() -> Vec<Record> {
     // Every first byte, alone and with enough behind it for a header.
     for first in 0..=255 {
         records.push(record(vec![first]));
-        records.push(record([&[first], head("000017")[1..].as_bytes()].concat()));
+        records.push(record([&[first], &head("000017").as_bytes()[1..]].concat()));
     }
     for text in TEXTS {
         records.push(record(*text));
