@@ -1,10 +1,11 @@
 //! The report of a mixed stream (02 d): text, binary and JSON items by turns.
 //!
-//! Each item is looked at from its own start: a text is searched for strangers
-//! as far as it goes, and a JSON item's header is all that is read of it.
+//! Each item is looked at from its own start, and a JSON item's header is all that
+//! is read of it. The search for strangers goes on from a text's start to the next
+//! one wherever that stands, so that texts behind one another are searched once.
 
 use crate::alphabet::{self, first_stranger};
-use crate::judge::{Around, Unit};
+use crate::judge::Around;
 use crate::report::{four, judge, section, top_level};
 use crate::{Refusal, TEXT_LIMIT};
 
@@ -53,11 +54,20 @@ impl Rows {
         }
         let mut rows = Rows::default();
         let (mut texts, mut binaries) = (Vec::new(), Vec::new());
+        // The first stranger from a text's start on.
+        let mut strange = None;
         let mut at = 0;
         while let Some(first) = stream.get(at) {
             let left = &stream[at..];
             let (form, found) = match first {
-                b'-' => (0, text(left, &mut texts)),
+                b'-' => {
+                    let place = match strange {
+                        Some(known) if known >= at => known,
+                        _ => first_stranger(stream, at).unwrap_or(usize::MAX),
+                    };
+                    strange = Some(place);
+                    (0, text(left, place - at, &mut texts))
+                }
                 0xF8..=0xFB => (1, binary(left, &mut binaries)),
                 b'{' => (2, json(left)),
                 _ => (0, Err(17)),
@@ -142,30 +152,29 @@ fn binary<'s>(left: &'s [u8], open: &mut Vec<Around<'s, [u8; 3]>>) -> Result<Jud
     })
 }
 
-fn text<'s>(left: &'s [u8], open: &mut Vec<Around<'s, [u8; 4]>>) -> Result<Judged, u8> {
+/// `strange` is where the first stranger stands, from the item's start.
+fn text<'s>(
+    left: &'s [u8],
+    strange: usize,
+    open: &mut Vec<Around<'s, [u8; 4]>>,
+) -> Result<Judged, u8> {
     let (units, _) = left.as_chunks::<4>();
     if units.is_empty() {
         return Err(4);
     }
-    let told = |place: usize| alphabet::number(left[place]);
-    let header = units[..units.len().min(2)].as_flattened();
-    let strange = first_stranger(header, 0).unwrap_or(usize::MAX);
-    let item = match top_level(units, strange / 4) {
-        Err(5) => return Err(told(strange)),
-        other => other?,
+    let told = |number: u8| match (number, left.get(strange)) {
+        (5, Some(stranger)) => alphabet::number(*stranger),
+        _ => number,
     };
-    let whole = &units[..item.size];
-    let size = 4 * item.size;
-    let Some(strange) = first_stranger(whole.as_flattened(), 0) else {
-        let verdict = judge::<_, false>(whole, 0, &item, usize::MAX, open);
-        let refused = verdict
-            .err()
-            .map(|by| (by.number, <[u8; 4]>::SIZE * by.place));
-        return Ok(Judged { size, refused });
+    let bad = strange / 4;
+    let item = top_level(units, bad).map_err(told)?;
+    let (whole, size) = (&units[..item.size], 4 * item.size);
+    let verdict = match strange < size {
+        true => judge::<_, true>(whole, 0, &item, bad, open),
+        false => judge::<_, false>(whole, 0, &item, bad, open),
     };
-    let verdict = judge::<_, true>(whole, 0, &item, strange / 4, open);
     let refused = verdict.err().map(|by| match by.number {
-        5 => (told(strange), strange),
+        5 => (told(5), strange),
         number => (number, 4 * by.place),
     });
     Ok(Judged { size, refused })
