@@ -1,5 +1,5 @@
-/* A report's rows, read, and a mixed report's: three sections, each after its count in 4 bytes. Assumes that the bytes are those that a report call wrote, with
- * the length that it answered; of other bytes a row is told only where all of it is there. */
+/* A report's rows, read, and a mixed report's: three sections, each after its count in 4 bytes. Assumes that the bytes are those that a
+ * report call wrote, with the length that it answered; of other bytes a row is told only where all of it is there. */
 #include "cesr.h"
 
 enum { COUNT = 4, ROW = 9, MIXED = 10, REMAINDER = 5 };

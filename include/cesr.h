@@ -89,13 +89,14 @@ uint8_t cesr_report_text(const uint8_t *stream, size_t stream_len, uint8_t *out,
 /* The same of a binary. */
 uint8_t cesr_report_binary(const uint8_t *stream, size_t stream_len, uint8_t *out, size_t out_len, size_t *answer);
 
-/* The report of a mixed stream, which changes form at top level. Each top-level item starts with '-' (a group or genus/version in T), a byte F8
- * to FB (the same in B) or '{' (JSON); any other first byte is a remainder 17. A JSON item opens with {"v":" and the 17 characters of a
- * version 1 string: four capital letters of protocol, two lowercase hexadecimal digits of version, JSON, six of total length, _. With fewer than 23
- * bytes left the remainder is 4; with a malformed header, or a length below 23, 17; with a length past the end, 4. THE BODY OF A JSON ITEM IS NOT
- * JUDGED: its verdict is 0. Items in T and in B are framed and judged as by the calls above; all offsets, sizes and places count bytes of
- * the stream. An item's row has a tenth byte behind its verdict, its form, enum cesr_form. Refused 1, then 3 exactly if out_len is below
- * 17 + 19 x items. *answer and out as above. cesr_passed, cesr_compare and the readers of rows without `mixed` in their name are not for this report. */
+/* The report of a mixed stream, which changes form at top level. Each top-level item starts with '-' (a group or genus/version in T), a
+ * byte F8 to FB (the same in B) or '{' (JSON); any other first byte is a remainder 17. A JSON item opens with {"v":" and the 17
+ * characters of a version 1 string: four capital letters of protocol, two lowercase hexadecimal digits of version, JSON, six of total
+ * length, _. With fewer than 23 bytes left the remainder is 4; with a malformed header, or a length below 23, 17; with a length past the
+ * end, 4. THE BODY OF A JSON ITEM IS NOT JUDGED: its verdict is 0. Items in T and in B are framed and judged as by the calls above; all
+ * offsets, sizes and places count bytes of the stream. An item's row has a tenth byte behind its verdict, its form, enum cesr_form.
+ * Refused 1, then 3 exactly if out_len is below 17 + 19 x items. *answer and out as above. cesr_passed, cesr_compare and the readers of
+ * rows without `mixed` in their name are not for this report. */
 uint8_t cesr_report_mixed(const uint8_t *stream, size_t stream_len, uint8_t *out, size_t out_len, size_t *answer);
 
 /* The reports of a text and a binary by the second engine, a plain one to be read by eye: for every stream its answer and its report are
@@ -318,10 +319,10 @@ enum cesr_compared {
     CESR_COMPARED
 };
 
-/* Compares an expectation file with a report: 20. The file has two sections, each after its count in 4 bytes, big-endian: expected verdicts
- * (one byte an item), then the number of the remainder that is expected (one byte, count 0 or 1). The report is that of cesr_report_text
- * or cesr_report_binary, not of cesr_report_mixed; only its counts, its verdicts and its remainder's number are looked at. Equal remainders and no count of failed,
- * not reached or beyond say that all is as expected, unless nothing was. */
+/* Compares an expectation file with a report: 20. The file has two sections, each after its count in 4 bytes, big-endian: expected
+ * verdicts (one byte an item), then the number of the remainder that is expected (one byte, count 0 or 1). The report is that of
+ * cesr_report_text or cesr_report_binary, not of cesr_report_mixed; only its counts, its verdicts and its remainder's number are looked
+ * at. Equal remainders and no count of failed, not reached or beyond say that all is as expected, unless nothing was. */
 uint8_t cesr_compare(const uint8_t *expected, size_t expected_len, const uint8_t *report, size_t report_len, size_t answer[CESR_COMPARED]);
 
 #ifdef __cplusplus

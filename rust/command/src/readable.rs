@@ -247,7 +247,10 @@ fn remainder(
     let form = shown_in(report.form_of(part));
     bytes_at(out, form, &input.bytes, offset..refusal.place, refusal)?;
     if let Some(note) = mixed_note(input, rest) {
-        return writeln!(out, "        {note}");
+        writeln!(out, "        {note}")?;
+        if input.form == Kind::Mixed {
+            return Ok(());
+        }
     }
     asked(out, || Inner::of(form, part, offset), refusal)
 }

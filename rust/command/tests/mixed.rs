@@ -43,6 +43,11 @@ fn a_brace_is_told_as_mixed_and_said() {
     let binary = b"\xF8\x00\x00{\"v\":\"KERI10JSON000017_";
     assert!(fed(&["judge"], binary).text().contains(hint));
     assert_eq!(fed(&["judge", "--form", "mixed"], binary).status, 0);
+    let short = fed(&["judge"], b"-AABMAAB{}").text();
+    assert!(
+        short.contains(hint) && short.contains("asks for 4 characters, 2 characters are left"),
+        "{short}"
+    );
     // Elsewhere it is not said.
     assert!(!fed(&["judge"], b"-AABMAAB[").text().contains(hint));
 }
@@ -193,6 +198,7 @@ for said in (
     'text -A Generic pipeline group, 8 bytes from 24', 'Remainder 17 from 35',
     'No item of a mixed stream starts like this.', 'the byte at 35 is 4D hexadecimal',
 ): assert said in text, (said, text)
+assert 'Refused in it' in text.split('Remainder 17')[0] and 'Refused in it' not in text.split('Remainder 17')[1], text
 assert [rect['class'] for rect in page.rects][:2] == ['unjudged', 'accepted'], page.rects
 assert any('KERI version 10, its body not judged' in title for title in page.titles), page.titles
 ";

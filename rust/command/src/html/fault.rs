@@ -10,7 +10,7 @@ use crate::markup::escaped;
 use crate::outcome::code_and_name;
 use crate::readable;
 use crate::words::measured;
-use cesr::{Form, ItemForm, Refusal, RefusalRow, Remainder, Step};
+use cesr::{Form, ItemForm, Number, Refusal, RefusalRow, Remainder, Step};
 use std::io::{self, Write};
 use std::ops::Range;
 
@@ -95,10 +95,12 @@ fn closed(
     what: &str,
     note: Option<String>,
 ) -> io::Result<()> {
-    if let Some(form) = form.cesr() {
+    // What starts no item of a mixed stream is none to look into.
+    if let Some(form) = form.cesr().filter(|_| refusal.number != Number::MixedStart) {
         inside(out, input, form, part.clone(), refusal)?;
     }
-    if let Some(note) = note {
+    let seen = readable::note(readable::shown_in(form), &input.bytes, refusal);
+    for note in seen.into_iter().chain(note) {
         said(out, "Seen there", &escaped(&note))?;
     }
     said(out, "Usually", &escaped(hint::usually(refusal.number)))?;
@@ -132,11 +134,8 @@ fn inside(
     if !inner.groups.is_empty() {
         said(out, "Stands in", &groups(form, &inner.groups))?;
     }
-    if let Some(asked) = inner.asked(refusal) {
-        said(out, "Size", &asked)?;
-    }
-    match readable::note(form, &input.bytes, refusal) {
-        Some(note) => said(out, "Seen there", &escaped(&note)),
+    match inner.asked(refusal) {
+        Some(asked) => said(out, "Size", &asked),
         None => Ok(()),
     }
 }
