@@ -7,7 +7,7 @@
  * refused on the way has taken the items before it, and the second engine's working room may hold the stream's text. An accepted call writes its answer from the buffer's start; bytes behind it stay.
  * The place is the character for 5 and 19, else the item's start; 0 for 1, 2, 3, 12, 13, 20 and for a writer's 6, 15, 16 and 18, and for
  * a writer's 5 and 19 the index among the tag characters or in the text. What a group's writer refuses in the body has its place in it,
- * counted from the body's start. Places, offsets and lengths count characters in T and bytes in B.
+ * counted from the body's start. Places, offsets and lengths count characters in T, bytes in B and in mixed streams.
  * Where 5 stands in the order of a call, the first character outside the alphabet gives 5 or 19.
  *
  * What the caller ensures: each length is that of the memory behind its pointer, which may be null where the length is 0 and is null

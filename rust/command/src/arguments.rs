@@ -242,13 +242,7 @@ impl Given {
             value.ok_or_else(|| format!("{name} asks for a value"))
         };
         match name {
-            "--form" => {
-                let kind = match allowed.contains(&MIXED) {
-                    true => kind(valued()?)?,
-                    false => Kind::Cesr(form(valued()?)?),
-                };
-                once(name, &mut self.form, kind)?;
-            }
+            "--form" => once(name, &mut self.form, kind(valued()?, allowed)?)?,
             "--engine" => once(name, &mut self.engine, engine(valued()?)?)?,
             "--to" => once(name, &mut self.to, form(valued()?)?)?,
             "--out" => once(name, &mut self.out, valued()?)?,
@@ -323,7 +317,11 @@ fn form(name: OsString) -> Result<Form, String> {
     parsed.map_err(|wrong| format!("{wrong}, not {}", shown(&name)))
 }
 
-fn kind(name: OsString) -> Result<Kind, String> {
+/// The form of a stream, which may be mixed where that is allowed.
+fn kind(name: OsString, allowed: &[&str]) -> Result<Kind, String> {
+    if !allowed.contains(&MIXED) {
+        return form(name).map(Kind::Cesr);
+    }
     let parsed = name.to_str().unwrap_or_default().parse();
     parsed.map_err(|wrong: &str| format!("{wrong}, not {}", shown(&name)))
 }

@@ -60,8 +60,7 @@ pub fn run(task: &Show, out: &mut dyn Write) -> io::Result<Standing> {
 
 /// An offset of a mixed stream: in which item it lies, or that it lies in none.
 fn mixed(out: &mut dyn Write, input: &Input, at: usize) -> io::Result<Standing> {
-    let stream = &input.bytes[..];
-    let report = match judge_mixed(stream) {
+    let report = match judge_mixed(&input.bytes) {
         Ok(report) => Judged::Mixed(report),
         // Its length was looked at, and the room is enough.
         Err(refusal) => {
@@ -69,38 +68,54 @@ fn mixed(out: &mut dyn Write, input: &Input, at: usize) -> io::Result<Standing> 
             return Ok(Standing::Error);
         }
     };
-    let item = report.items().find(|item| item.range().contains(&at));
-    let rest = report
-        .remainder()
-        .filter(|rest| rest.offset <= at && at < stream.len());
-    let (form, range) = match (item, rest) {
-        (Some(item), _) => {
-            let (index, size, from) = (item.index, item.size, item.offset);
-            let size = measured(Kind::Mixed, size);
-            writeln!(out, "item     {index}: {}, {size} from {from}", item.form)?;
-            if item.form == ItemForm::Json {
-                return json(out, input, &item, at);
-            }
-            (item.form, item.range())
-        }
-        (None, Some(rest)) => {
-            writeln!(out, "item     none: {rest}")?;
-            let bytes = stream.get(rest.offset..).unwrap_or_default();
-            if rest.number == Number::MixedStart || report.form_of(bytes) == ItemForm::Json {
-                return no_item(out, input, rest, at);
-            }
-            (report.form_of(bytes), rest.offset..stream.len())
-        }
-        (None, None) => {
+    if let Some(item) = report.items().find(|item| item.range().contains(&at)) {
+        return of_item(out, input, &item, at);
+    }
+    match report.remainder() {
+        Some(rest) if at < input.bytes.len() => of_remainder(out, input, &report, rest, at),
+        _ => {
             let (number, place) = (Number::PastEnd, at);
             refused(out, Refusal { number, place })?;
             readable::usually(out, number)?;
-            return Ok(Standing::Failed);
+            Ok(Standing::Failed)
         }
-    };
-    let form = readable::shown_in(form);
-    let (bytes, start) = (stream.get(range.clone()).unwrap_or_default(), range.start);
-    of_part(out, input, Part { form, bytes, start }, at)
+    }
+}
+
+fn of_item(
+    out: &mut dyn Write,
+    input: &Input,
+    item: &MixedItem,
+    at: usize,
+) -> io::Result<Standing> {
+    let (index, start) = (item.index, item.offset);
+    let size = measured(Kind::Mixed, item.size);
+    writeln!(out, "item     {index}: {}, {size} from {start}", item.form)?;
+    match item.form {
+        ItemForm::Json => json(out, input, item, at),
+        ItemForm::Cesr(form) => {
+            let bytes = item.of(&input.bytes);
+            of_part(out, input, Part { form, bytes, start }, at)
+        }
+    }
+}
+
+fn of_remainder(
+    out: &mut dyn Write,
+    input: &Input,
+    report: &Judged,
+    rest: Remainder,
+    at: usize,
+) -> io::Result<Standing> {
+    writeln!(out, "item     none: {rest}")?;
+    let start = rest.offset;
+    let bytes = input.bytes.get(start..).unwrap_or_default();
+    match report.form_of(bytes) {
+        ItemForm::Cesr(form) if rest.number != Number::MixedStart => {
+            of_part(out, input, Part { form, bytes, start }, at)
+        }
+        _ => no_item(out, input, rest, at),
+    }
 }
 
 /// A JSON item, which has a header and a body that is not judged.

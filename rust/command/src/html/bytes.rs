@@ -19,8 +19,7 @@ pub fn written(
     place: usize,
     what: &str,
 ) -> io::Result<()> {
-    let unit = form.unit();
-    let width = unit.saturating_mul(UNITS);
+    let (unit, width) = (form.unit(), form.unit().saturating_mul(UNITS));
     if stream.get(place).is_none() {
         return Ok(());
     }
