@@ -33,10 +33,10 @@ pub fn one(call: Call, form: Form, lent_room: Room, mut front: Front) {
             group(form, stream, front.byte());
             lent(form, stream, room);
         }
-        Call::Mixed => mixed(room),
-        Call::Report | Call::Convert | Call::Compare | Call::Group | Call::Second => {
+        Call::Report | Call::Convert | Call::Compare | Call::Group | Call::Second | Call::Mixed => {
             lent(form, stream, room);
             second(form, stream, room);
+            mixed(room);
         }
     }
 }
