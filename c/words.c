@@ -6,7 +6,7 @@ const char *cesr_words(uint8_t number) {
     case CESR_ACCEPTED:
         return "accepted";
     case CESR_TOO_LONG:
-        return "stream longer than 4,194,304 characters or 3,145,728 bytes";
+        return "stream longer than 4,194,304 characters or 3,145,728 bytes, a mixed one than 4,194,304 bytes";
     case CESR_NOT_WHOLE_UNITS:
         return "whole-stream conversion: not whole units";
     case CESR_ROOM:
@@ -37,6 +37,8 @@ const char *cesr_words(uint8_t number) {
         return "ondex digits not zero in a code for the current key list only";
     case CESR_TEXT_FILL:
         return "type `A` without its full fill, or text that itself starts with `A`";
+    case CESR_MIXED_START:
+        return "mixed stream: first byte not `-`, F8 to FB or `{`, or a JSON header that is malformed or states a length below 23";
     case CESR_NOT_SHORT:
         return "large variable code or large group whose size fits the small code";
     case CESR_ORDINARY_BASE64:

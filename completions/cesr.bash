@@ -29,7 +29,10 @@ _cesr() {
     return
   else
     case $before in
-      --form | --to) words="text binary" ;;
+      --form)
+        words="text binary"
+        [[ " judge show manifest " = *" ${COMP_WORDS[1]} "* ]] && words+=" mixed" ;;
+      --to) words="text binary" ;;
       --engine) words="first second both" ;;
       *) [[ $word = -* ]] || return
         words=$(_cesr_options "${COMP_WORDS[1]}") ;;

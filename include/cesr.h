@@ -7,7 +7,7 @@
  * refused on the way has taken the items before it, and the second engine's working room may hold the stream's text. An accepted call writes its answer from the buffer's start; bytes behind it stay.
  * The place is the character for 5 and 19, else the item's start; 0 for 1, 2, 3, 12, 13, 20 and for a writer's 6, 15, 16 and 18, and for
  * a writer's 5 and 19 the index among the tag characters or in the text. What a group's writer refuses in the body has its place in it,
- * counted from the body's start. Places, offsets and lengths count characters in T and bytes in B.
+ * counted from the body's start. Places, offsets and lengths count characters in T, bytes in B and in mixed streams.
  * Where 5 stands in the order of a call, the first character outside the alphabet gives 5 or 19.
  *
  * What the caller ensures: each length is that of the memory behind its pointer, which may be null where the length is 0 and is null
@@ -27,22 +27,26 @@ extern "C" {
 #define CESR_VERSION "0.2.0"
 const char *cesr_version(void);
 
-/* The longest streams that are read, in characters and in bytes; what is longer is refused 1. */
+/* The longest streams that are read, in characters, in bytes, and in bytes of a mixed stream; what is longer is refused 1. */
 #define CESR_LIMIT_TEXT 4194304
 #define CESR_LIMIT_BINARY 3145728
+#define CESR_LIMIT_MIXED 4194304
 
-/* Room that is enough, in bytes: for the report of so many items, of any text of so many characters, of any binary of so many bytes; and
- * for the conversion of a text or a binary of so many. CESR_SECOND_ROOM is the second engine's working room for a binary of so many. */
+/* Room that is enough, in bytes: for the report of so many items, of any text of so many characters, of any binary of so many bytes; for
+ * the mixed report of so many items, of any mixed stream of so many bytes; and for the conversion of a text or a binary of so many.
+ * CESR_SECOND_ROOM is the second engine's working room for a binary of so many. */
 #define CESR_REPORT_ROOM(items) (17 + 18 * (size_t)(items))
 #define CESR_REPORT_ROOM_TEXT(length) CESR_REPORT_ROOM((length) / 4)
 #define CESR_REPORT_ROOM_BINARY(length) CESR_REPORT_ROOM((length) / 3)
+#define CESR_MIXED_ROOM(items) (17 + 19 * (size_t)(items))
+#define CESR_REPORT_ROOM_MIXED(length) CESR_MIXED_ROOM((length) / 3)
 #define CESR_SECOND_ROOM(length) ((size_t)(length) / 3 * 4)
 #define CESR_TO_BINARY_ROOM(length) ((size_t)(length) / 4 * 3)
 #define CESR_TO_TEXT_ROOM(length) ((size_t)(length) / 3 * 4)
 
 enum cesr_number {
     CESR_ACCEPTED = 0,
-    CESR_TOO_LONG = 1,           /* stream longer than 4,194,304 characters or 3,145,728 bytes */
+    CESR_TOO_LONG = 1,           /* stream longer than 4,194,304 characters or 3,145,728 bytes, a mixed one than 4,194,304 bytes */
     CESR_NOT_WHOLE_UNITS = 2,    /* whole-stream conversion: not whole units */
     CESR_ROOM = 3,               /* output room too small */
     CESR_PAST_END = 4,           /* header or full size passes the end of stream or enclosing group */
@@ -59,6 +63,8 @@ enum cesr_number {
     CESR_NOT_A_PRIMITIVE = 14,   /* primitive asked for, group or genus/version found */
     CESR_ONDEX = 15,             /* ondex digits not zero in a code for the current key list only */
     CESR_TEXT_FILL = 16,         /* type A without its full fill, or text that itself starts with A */
+    CESR_MIXED_START = 17,       /* mixed stream: first byte not -, F8 to FB or {, or a JSON header that is malformed or states a length
+                                  * below 23 */
     CESR_NOT_SHORT = 18,         /* large variable code or large group whose size fits the small code */
     CESR_ORDINARY_BASE64 = 19,   /* +, / or = of ordinary Base64 (in T, or a character of a tag or text given to a writer) */
     CESR_MALFORMED = 20,         /* expectation file or report with a missing count, a section shorter than its count says, a remainder
@@ -83,8 +89,18 @@ uint8_t cesr_report_text(const uint8_t *stream, size_t stream_len, uint8_t *out,
 /* The same of a binary. */
 uint8_t cesr_report_binary(const uint8_t *stream, size_t stream_len, uint8_t *out, size_t out_len, size_t *answer);
 
-/* The same reports by the second engine, a plain one to be read by eye: for every stream its answer and its report are those of
- * cesr_report_text. */
+/* The report of a mixed stream, which changes form at top level. Each top-level item starts with '-' (a group or genus/version in T), a
+ * byte F8 to FB (the same in B) or '{' (JSON); any other first byte is a remainder 17. A JSON item opens with {"v":" and the 17
+ * characters of a version 1 string: four capital letters of protocol, two lowercase hexadecimal digits of version, JSON, six of total
+ * length, _. With fewer than 23 bytes left the remainder is 4; with a malformed header, or a length below 23, 17; with a length past the
+ * end, 4. THE BODY OF A JSON ITEM IS NOT JUDGED: its verdict is 0. Items in T and in B are framed and judged as by the calls above; all
+ * offsets, sizes and places count bytes of the stream. An item's row has a tenth byte behind its verdict, its form, enum cesr_form.
+ * Refused 1, then 3 exactly if out_len is below 17 + 19 x items. *answer and out as above. cesr_passed, cesr_compare and the readers of
+ * rows without `mixed` in their name are not for this report. */
+uint8_t cesr_report_mixed(const uint8_t *stream, size_t stream_len, uint8_t *out, size_t out_len, size_t *answer);
+
+/* The reports of a text and a binary by the second engine, a plain one to be read by eye: for every stream its answer and its report are
+ * those of cesr_report_text. */
 uint8_t cesr_second_text(const uint8_t *stream, size_t stream_len, uint8_t *out, size_t out_len, size_t *answer);
 
 /* The same of a binary, which it turns into text first, in lent working room: 4 characters for each whole triplet. 1, 3 if work_len is below
@@ -122,6 +138,25 @@ size_t cesr_refusals(const uint8_t *report, size_t report_len);
 int cesr_item_row(const uint8_t *report, size_t report_len, size_t index, struct cesr_item_row *row);
 int cesr_refusal_row(const uint8_t *report, size_t report_len, size_t index, struct cesr_refusal_row *row);
 int cesr_remainder_row(const uint8_t *report, size_t report_len, struct cesr_remainder_row *row);
+
+/* The same of a mixed report, whose item rows are a byte wider. */
+enum cesr_form { CESR_FORM_TEXT = 0, CESR_FORM_BINARY = 1, CESR_FORM_JSON = 2 };
+
+struct cesr_mixed_row {
+    size_t offset, size;
+    uint8_t verdict; /* as above; of a JSON item, whose body is not judged, CESR_ACCEPTED */
+    uint8_t form;    /* enum cesr_form */
+};
+
+size_t cesr_mixed_items(const uint8_t *report, size_t report_len);
+size_t cesr_mixed_refusals(const uint8_t *report, size_t report_len);
+int cesr_mixed_item_row(const uint8_t *report, size_t report_len, size_t index, struct cesr_mixed_row *row);
+int cesr_mixed_refusal_row(const uint8_t *report, size_t report_len, size_t index, struct cesr_refusal_row *row);
+int cesr_mixed_remainder_row(const uint8_t *report, size_t report_len, struct cesr_remainder_row *row);
+
+/* Has the stream of a mixed report a byte, and does every byte lie in an accepted item, JSON bodies unjudged? 1 or 0: by the rows, as the
+ * readers above tell them; 0 for what is no whole mixed report. */
+int cesr_mixed_passed(const uint8_t *report, size_t report_len);
 
 /* A code is two numbers. chars: 1, 2 or 4 for a fixed code of so many characters, 5 for a small variable, 6 for a large one. letter:
  * the code's last character, or the variable's type. The value of type A is text: characters of the alphabet, filled up in front with A
@@ -284,10 +319,10 @@ enum cesr_compared {
     CESR_COMPARED
 };
 
-/* Compares an expectation file with a report: 20. The file has two sections, each after its count in 4 bytes, big-endian: expected verdicts
- * (one byte an item), then the number of the remainder that is expected (one byte, count 0 or 1). The report is that of cesr_report_text
- * or cesr_report_binary; only its counts, its verdicts and its remainder's number are looked at. Equal remainders and no count of failed,
- * not reached or beyond say that all is as expected, unless nothing was. */
+/* Compares an expectation file with a report: 20. The file has two sections, each after its count in 4 bytes, big-endian: expected
+ * verdicts (one byte an item), then the number of the remainder that is expected (one byte, count 0 or 1). The report is that of
+ * cesr_report_text or cesr_report_binary, not of cesr_report_mixed; only its counts, its verdicts and its remainder's number are looked
+ * at. Equal remainders and no count of failed, not reached or beyond say that all is as expected, unless nothing was. */
 uint8_t cesr_compare(const uint8_t *expected, size_t expected_len, const uint8_t *report, size_t report_len, size_t answer[CESR_COMPARED]);
 
 #ifdef __cplusplus

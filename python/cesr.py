@@ -5,8 +5,8 @@
     report.passed, report.items, report.refusals, report.remainder
 
 Nothing here judges: every verdict, size, place and number is an answer of the library, which is lent memory. A stream is bytes, in the
-form "text" (characters of URL-safe Base64) or "binary"; offsets, sizes and places count characters or bytes, from 0. A call that is refused
-raises Refused, with the number and the place.
+form "text" (characters of URL-safe Base64) or "binary"; offsets, sizes and places count characters or bytes, from 0. A stream that changes
+form at top level is judged by judge_mixed, in bytes. A call that is refused raises Refused, with the number and the place.
 
 Assumes a library of the version below. It is looked for where CESR_LIBRARY says, then in ../../../lib from here, which is where `make
 install` puts it, then where the system finds libraries.
@@ -28,17 +28,22 @@ class _Forms(dict):
 
 
 LIMIT = _Forms(text=4194304, binary=3145728)
+MIXED_LIMIT = 4194304
 UNIT = _Forms(text=4, binary=3)
 
 # Lengths of what the library is lent, as in cesr.h.
 _TAG, _INFO, _ITEM, _COMPARED, _STATE, _INDEXED = 11, 7, 6, 5, 68, 7
-_UNFIT_LENGTH, _END = 12, 255
+_UNFIT_LENGTH, _MALFORMED, _END = 12, 20, 255
 
 _byte, _size = ctypes.c_uint8, ctypes.c_size_t
 _bytes, _sizes = ctypes.c_char_p, ctypes.POINTER(_size)
 
 # 0 is accepted, else the number of its refusal.
 Item = namedtuple("Item", "index offset size verdict")
+# Of a mixed stream; its form is "text", "binary" or "json". The body of a JSON item is not judged: its verdict is 0.
+MixedItem = namedtuple("MixedItem", "index offset size verdict form")
+# What the header of a JSON item says: four letters, two hexadecimal digits, and its length, which is its size.
+Json = namedtuple("Json", "protocol version length")
 Refusal = namedtuple("Refusal", "index number place")
 Remainder = namedtuple("Remainder", "offset number")
 # code is like M, 0H, 1AAM, 5B, 8AAB, -A, --A or -_.
@@ -91,6 +96,8 @@ _to = _Forms(
     text=_declared("cesr_binary_to_text", _bytes, _size, _bytes, _size, _sizes),
 )
 _report = _both("report", _bytes, _size, _bytes, _size, _sizes)
+_report_mixed = _declared("cesr_report_mixed", _bytes, _size, _bytes, _size, _sizes)
+_mixed_passed = _declared("cesr_mixed_passed", _bytes, _size, answers=ctypes.c_int)
 _second = _Forms(
     text=_declared("cesr_second_text", _bytes, _size, _bytes, _size, _sizes),
     binary=_declared("cesr_second_binary", _bytes, _size, _bytes, _size, _bytes, _size, _sizes),
@@ -159,13 +166,18 @@ class Report:
         self.passed = passed.value == 1
         rows, at = self._rows(0, ">IIB")
         self.items = [Item(index, *row) for index, row in enumerate(rows)]
+        self._others(at)
+
+    def _others(self, at):
+        """The sections behind the items, and where they end."""
         rows, at = self._rows(at, ">IBI")
         self.refusals = [Refusal(*row) for row in rows]
         rows, at = self._rows(at, ">IB")
         self.remainder = Remainder(*rows[0]) if rows else None
+        return at
 
     def _rows(self, at, shape):
-        """The section at a place, and where the next one is. The library has seen that it is whole."""
+        """The section at a place, and where the next one is."""
         (count,) = struct.unpack_from(">I", self.bytes, at)
         behind = at + 4 + count * struct.calcsize(shape)
         return list(struct.iter_unpack(shape, self.bytes[at + 4 : behind])), behind
@@ -185,6 +197,39 @@ def judge(form, stream):
     """The report of a stream. A report is no pass: ask `passed`."""
     stream = _plain(stream)
     return Report(_filled(_report[form], 17 + 18 * _within(form, len(stream)), stream, len(stream)))
+
+
+class MixedReport(Report):
+    """The same of a mixed stream: items have a form each, and the bodies of `unjudged` JSON items were not judged."""
+
+    def __init__(self, data):
+        self.bytes = _plain(data)
+        try:
+            rows, at = self._rows(0, ">IIBB")
+            self.items = [MixedItem(index, *row, ("text", "binary", "json")[form]) for index, (*row, form) in enumerate(rows)]
+            behind = self._others(at)
+        except (struct.error, IndexError):
+            behind = None
+        if behind != len(self.bytes):
+            raise Refused(_MALFORMED, 0)
+        self.unjudged = sum(item.form == "json" for item in self.items)
+        # Has the stream a byte, and does every byte lie in an accepted item, JSON bodies unjudged? By the rows.
+        self.passed = _mixed_passed(self.bytes, len(self.bytes)) == 1
+
+
+def judge_mixed(stream):
+    """The report of a stream that changes form at top level: groups in text, groups in binary, JSON. JSON bodies are not judged."""
+    stream = _plain(stream)
+    return MixedReport(_filled(_report_mixed, 17 + 19 * (min(len(stream), MIXED_LIMIT) // 3), stream, len(stream)))
+
+
+def json_header(item):
+    """What the header of a JSON item says: the bytes of one that judge_mixed has framed."""
+    found = re.match(rb'\{"v":"([A-Z]{4})([0-9a-f]{2})JSON([0-9a-f]{6})_', _plain(item))
+    if not found:
+        raise ValueError("no JSON item of a mixed stream")
+    protocol, version, length = (part.decode() for part in found.groups())
+    return Json(protocol, version, int(length, 16))
 
 
 def judge_second(form, stream):

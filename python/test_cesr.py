@@ -229,13 +229,53 @@ class Second(unittest.TestCase):
         self.assertRaises(ValueError, cesr.judge_second, "mixed", b"MAAB")
 
 
+class Mixed(unittest.TestCase):
+    # 02 d: a JSON item of 24 bytes, a text group refused 8, a binary group, and a primitive, which starts no item.
+    STREAM = b'{"v":"KERI10JSON000018_"' + b"-AABMQAA" + b"\xF8\x00\x00" + b"MAAB"
+
+    def test_rows_with_their_form(self):
+        report = cesr.judge_mixed(self.STREAM)
+        rows = [(item.offset, item.size, item.verdict, item.form) for item in report.items]
+        self.assertEqual(rows, [(0, 24, 0, "json"), (24, 8, 8, "text"), (32, 3, 0, "binary")])
+        self.assertEqual(report.refusals, [cesr.Refusal(1, 8, 28)])
+        self.assertEqual(report.remainder, cesr.Remainder(35, 17))
+        self.assertEqual((report.passed, report.unjudged), (False, 1))
+        self.assertEqual(str(report), "3 items, 2 accepted, 1 refused, remainder 17 from 35")
+        self.assertTrue(cesr.judge_mixed(self.STREAM[:24] + self.STREAM[32:35]).passed)
+        self.assertFalse(cesr.judge_mixed(b"").passed)
+        self.assertRaises(TypeError, bool, report)
+
+    def test_the_order_of_02(self):
+        def rest(stream):
+            return cesr.judge_mixed(stream).remainder
+
+        head = b'{"v":"KERI10JSON0000%s_'
+        for stream, number in [
+            (b"{" * 22, 4), (b"{" * 23, 17), (head % b"1A", 17), (head % b"16", 17), (head % b"18", 4),
+            ((head % b"17").replace(b"JSON", b"MGPK"), 17), (b"MAAB", 17), (b"-A!A", 5), (b"-A+A", 19), (b"\xF7\0\0", 17), (b"\xFC\0\0", 17),
+        ]:
+            self.assertEqual(rest(stream), cesr.Remainder(0, number), stream)
+        self.assertTrue(cesr.judge_mixed(head % b"17").passed)
+
+    def test_a_header(self):
+        self.assertEqual(cesr.json_header(self.STREAM[:24]), cesr.Json("KERI", "10", 24))
+        self.assertRaises(ValueError, cesr.json_header, b"-AAA")
+
+    def test_refusals(self):
+        self.assertEqual(refused(cesr.judge_mixed, b"-" * (cesr.MIXED_LIMIT + 1)), (1, 0))
+        whole = cesr.judge_mixed(self.STREAM).bytes
+        for end in range(len(whole)):
+            self.assertEqual(refused(cesr.MixedReport, whole[:end]), (20, 0))
+        self.assertEqual(refused(cesr.MixedReport, whole + b"\0"), (20, 0))
+
+
 class Said(unittest.TestCase):
     def test_words_are_those_of_the_list(self):
         rows = [line.split(" ", 2) for line in (HERE.parent / "include/numbers.txt").read_text().splitlines() if line[:1].isdigit()]
         self.assertGreater(len(rows), 16)
         for number, _, words in rows:
             self.assertEqual(cesr.words(int(number)), words)
-        self.assertEqual([cesr.words(number) for number in (17, 200, -1, 256)], [""] * 4)
+        self.assertEqual([cesr.words(number) for number in (21, 200, -1, 256)], [""] * 4)
 
     def test_a_report_is_no_pass(self):
         with self.assertRaisesRegex(TypeError, "a report is no pass"):

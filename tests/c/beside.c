@@ -84,6 +84,48 @@ static void rows(void) {
     check(cesr_items(report, sizeof report) == 0 && !cesr_item_row(report, sizeof report, 0, &item), "no rows", "a count too large");
 }
 
+/* The rows of a mixed report: two accepted items, one refused between them, a remainder; cut anywhere; and one that passed. */
+static void mixed_rows(void) {
+    const char *text = "{\"v\":\"KERI10JSON000017_-AABMQAA-AAAMAAB";
+    size_t length = 0;
+    struct cesr_mixed_row item = {99, 99, 99, 99};
+    struct cesr_refusal_row refusal = {99, 99, 99};
+    struct cesr_remainder_row rest = {99, 99};
+    size_t room = CESR_REPORT_ROOM_MIXED(strlen(text));
+    check(cesr_report_mixed(bytes(text), strlen(text), report, room, &length) == 0, "room is enough", text);
+    check(cesr_mixed_items(report, length) == 3 && cesr_mixed_refusals(report, length) == 1, "counts", text);
+    check(cesr_mixed_item_row(report, length, 0, &item) && item.size == 23 && item.verdict == 0, "item 0", text);
+    check(item.form == CESR_FORM_JSON, "JSON", text);
+    check(cesr_mixed_item_row(report, length, 1, &item) && item.offset == 23 && item.verdict == 8, "item 1", text);
+    check(item.form == CESR_FORM_TEXT, "text", text);
+    check(!cesr_mixed_item_row(report, length, 3, &item) && item.offset == 23, "no item 3, and the row stays", text);
+    check(cesr_mixed_refusal_row(report, length, 0, &refusal) && refusal.item == 1 && refusal.number == 8, "refusal 0", text);
+    check(refusal.place == 27, "its place", text);
+    check(!cesr_mixed_refusal_row(report, length, 1, &refusal), "no refusal 1", text);
+    check(cesr_mixed_remainder_row(report, length, &rest) && rest.offset == 35 && rest.number == CESR_MIXED_START, "the remainder", text);
+    check(!cesr_mixed_passed(report, length), "a refusal is no pass", text);
+    for (size_t cut = 0; cut < length; cut++) {
+        check(cesr_mixed_items(report, cut) == (cut < 34 ? 0u : 3u), "items of a cut report", text);
+        check(cesr_mixed_refusals(report, cut) == (cut < 47 ? 0u : 1u), "refusals of a cut report", text);
+        check(!cesr_mixed_remainder_row(report, cut, &rest) && !cesr_mixed_passed(report, cut), "a cut report", text);
+    }
+    check(cesr_report_mixed(bytes("\xF8\0\0-AAA"), 7, report, CESR_MIXED_ROOM(2), &length) == 0 && length == 32, "two items", "two forms");
+    check(cesr_mixed_item_row(report, length, 0, &item) && item.form == CESR_FORM_BINARY && item.size == 3, "binary", "two forms");
+    check(cesr_mixed_passed(report, length), "passed", "two forms");
+    for (size_t cut = 0; cut < length; cut++) {
+        check(!cesr_mixed_passed(report, cut), "a cut report has not passed", "two forms");
+    }
+    report[length] = 0;
+    check(!cesr_mixed_passed(report, length + 1), "a longer one neither", "two forms");
+    static const size_t places[] = {12, 27, 31};
+    for (size_t at = 0; at < sizeof places / sizeof places[0]; at++) {
+        report[places[at]]++;
+        check(!cesr_mixed_passed(report, length), "nor with a verdict, a refusal or a remainder", "two forms");
+        report[places[at]]--;
+    }
+    check(cesr_report_mixed(NULL, 0, report, CESR_MIXED_ROOM(0), &length) == 0 && !cesr_mixed_passed(report, length), "empty", "no pass");
+}
+
 /* ---- null where the length is 0 */
 
 static void nulls(void) {
@@ -97,6 +139,9 @@ static void nulls(void) {
     check(cesr_report_binary(NULL, 0, out, sizeof out, &answer) == 0 && answer == 12, "an empty report", "null");
     check(cesr_report_text(bytes("MAAB"), 4, NULL, 0, &answer) == CESR_ROOM, "no room", "null");
     check(cesr_report_binary(NULL, 0, NULL, 0, &answer) == CESR_ROOM, "no room", "null");
+    check(cesr_report_mixed(NULL, 0, out, sizeof out, &answer) == 0 && answer == 12, "an empty report", "null");
+    check(cesr_report_mixed(bytes("-AAA"), 4, NULL, 0, &answer) == CESR_ROOM, "no room", "null");
+    check(cesr_mixed_items(NULL, 0) == 0 && cesr_mixed_refusals(NULL, 0) == 0 && !cesr_mixed_passed(NULL, 0), "no rows", "null");
     check(cesr_second_text(NULL, 0, out, sizeof out, &answer) == 0 && answer == 12, "an empty report", "null");
     check(cesr_second_binary(NULL, 0, NULL, 0, out, sizeof out, &answer) == 0 && answer == 12, "an empty report", "null");
     check(cesr_second_binary(bytes("ab"), 2, NULL, 0, out, sizeof out, &answer) == 0 && answer == 17, "no whole triplet", "null");
@@ -168,6 +213,7 @@ int main(int argc, char **argv) {
     }
     whether_passed();
     rows();
+    mixed_rows();
     nulls();
     limits();
     check(strcmp(cesr_version(), CESR_VERSION) == 0, "one version", "version");

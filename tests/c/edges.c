@@ -117,12 +117,31 @@ static void streams_of(size_t items) {
     uint8_t *binary = repeated(YES_IN_BINARY, 3, 3 * items);
     rooms(cesr_report_text, text, 4 * items, 17 + 18 * items, 12 + 9 * items);
     rooms(cesr_report_binary, binary, 3 * items, 17 + 18 * items, 12 + 9 * items);
+    uint8_t *groups = repeated("\xF8\0\0", 3, 3 * items);
+    rooms(cesr_report_mixed, groups, 3 * items, 17 + 19 * items, 12 + 10 * items);
+    free(groups);
     rooms(cesr_second_text, text, 4 * items, 17 + 18 * items, 12 + 9 * items);
     second_binary_of(binary, items);
     rooms(cesr_text_to_binary, text, 4 * items, 3 * items, 3 * items);
     rooms(cesr_binary_to_text, binary, 3 * items, 4 * items, 4 * items);
     free(text);
     free(binary);
+}
+
+/* Each beginning of a mixed stream, whose bytes end where its memory does: nothing behind them is read. */
+static void mixed_cut(void) {
+    static const char whole[] = "-AABMAAB{\"v\":\"KERI10JSON000018_\"\xF8\0\0\xFB\xE2\x40\0\x10\0-_AAACAA";
+    size_t answer;
+    for (size_t length = 0; length < sizeof whole; length++) {
+        uint8_t *stream = copied((const uint8_t *)whole, length), *out = exact(CESR_REPORT_ROOM_MIXED(length));
+        calls++;
+        check(cesr_report_mixed(stream, length, out, CESR_REPORT_ROOM_MIXED(length), &answer) == 0, "room is enough", length);
+        check(held(out, answer, CESR_REPORT_ROOM_MIXED(length)), "bytes behind the report stay", length);
+        check(memcmp(stream, whole, length) == 0, "read only", length);
+        check(cesr_mixed_passed(out, answer) == (length == 8 || length == 32 || length == 35), "passed", length);
+        free(stream);
+        free(out);
+    }
 }
 
 /* ---- the walk */
@@ -514,6 +533,7 @@ int main(void) {
     cut_in_both_forms("EBdXt3gIXOf2BBWNHdSXCJnFJL5OuQPyM5K0neuniccM1AAF____0HD_____", CESR_END);
     cut_in_both_forms("MAAB--KAAAABAAAA", CESR_NOT_SHORT);
     cut_in_both_forms("MAAB9AABAAABAABh", CESR_NOT_SHORT);
+    mixed_cut();
     reading();
     reading_binary();
     reading_texts();

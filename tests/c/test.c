@@ -124,6 +124,53 @@ static void second_binary(void) {
     check(memcmp(work, "1AAM", 4) == 0 && held(work, 4, ROOM), "bytes behind the text stay", "second");
 }
 
+/* ---- mixed streams */
+
+/* A JSON item of 24 bytes, a text group refused 8, an empty binary group, and a primitive, which starts no item. */
+static const uint8_t MIXED[] = "{\"v\":\"KERI10JSON000018_\"-AABMQAA\xF8\x00\x00MAAB";
+
+static void mixed_report(void) {
+    static const uint8_t told[] = {0, 0, 0, 3, 0, 0, 0, 0,  0, 0, 0, 24, 0, 2, 0, 0, 0, 24, 0, 0, 0, 8, 8,  0, 0, 0, 0, 32, 0, 0,
+                                   0, 3, 0, 1, 0, 0, 0, 1, 0, 0, 0, 1,  8, 0, 0, 0, 28, 0, 0, 0, 1, 0, 0, 0, 35, 17};
+    uint8_t out[ROOM];
+    size_t answer = 99, room = CESR_MIXED_ROOM(3);
+    memset(out, HELD, ROOM);
+    check(cesr_report_mixed(MIXED, sizeof MIXED - 1, out, room - 1, &answer) == CESR_ROOM, "one short is 3", "mixed");
+    check(answer == 0 && held(out, 0, ROOM), "3 leaves the buffer", "mixed");
+    check(cesr_report_mixed(MIXED, sizeof MIXED - 1, out, room, &answer) == 0, "report accepted", "mixed");
+    check(answer == sizeof told && memcmp(out, told, sizeof told) == 0, "report as told", "mixed");
+    check(held(out, sizeof told, ROOM), "bytes behind the report stay", "mixed");
+}
+
+/* The remainder of a stream that begins with one: its number, or 0 for none. */
+static uint8_t mixed_remainder(const char *stream, size_t length) {
+    uint8_t out[ROOM];
+    size_t answer = 99;
+    struct cesr_remainder_row rest = {99, 0};
+    check(cesr_report_mixed(bytes(stream), length, out, ROOM, &answer) == 0, "report accepted", stream);
+    return cesr_mixed_remainder_row(out, answer, &rest) && rest.offset == 0 ? rest.number : 0;
+}
+
+/* 02's order, by its own examples. */
+static void mixed_order(void) {
+    static const struct {
+        const char *stream;
+        uint8_t number;
+    } rows[] = {
+        {"{!!!!!!!!!!!!!!!!!!!!!", CESR_PAST_END},      {"{!!!!!!!!!!!!!!!!!!!!!!", CESR_MIXED_START},
+        {"{\"v\":\"KERI10JSON00001A_", CESR_MIXED_START}, {"{\"v\":\"KERI10MGPK000017_", CESR_MIXED_START},
+        {"{\"v\":\"KERI10JSON000016_", CESR_MIXED_START}, {"{\"v\":\"KERI10JSON000017_", 0},
+        {"{\"v\":\"KERI10JSON000018_", CESR_PAST_END},    {"MAAB", CESR_MIXED_START},
+        {"\n", CESR_MIXED_START},                        {"-A!A", CESR_CHARACTER},
+        {"-A+A", CESR_ORDINARY_BASE64},                  {"-AA", CESR_PAST_END},
+        {"\xF7", CESR_MIXED_START},                      {"\xF8", CESR_PAST_END},
+        {"\xFB", CESR_PAST_END},                         {"\xFC", CESR_MIXED_START},
+    };
+    for (size_t row = 0; row < sizeof rows / sizeof rows[0]; row++) {
+        check(mixed_remainder(rows[row].stream, strlen(rows[row].stream)) == rows[row].number, "remainder", rows[row].stream);
+    }
+}
+
 /* ---- the longest streams */
 
 static uint8_t longest[4194305];
@@ -137,6 +184,7 @@ static void limits(void) {
     check(cesr_report_binary(longest, 3145729, out, ROOM, &answer) == CESR_TOO_LONG, "one more is 1", "binary");
     check(cesr_second_text(longest, 4194305, out, ROOM, &answer) == CESR_TOO_LONG, "one more is 1", "second, text");
     check(cesr_second_binary(longest, 3145729, out, ROOM, NULL, 0, &answer) == CESR_TOO_LONG, "one more is 1", "second, binary");
+    check(cesr_report_mixed(longest, 4194305, out, ROOM, &answer) == CESR_TOO_LONG, "one more is 1", "mixed");
     check(cesr_text_to_binary(longest, 4194305, out, ROOM, &answer) == CESR_TOO_LONG, "one more is 1", "text to binary");
     check(cesr_binary_to_text(longest, 3145729, out, ROOM, &answer) == CESR_TOO_LONG, "one more is 1", "binary to text");
     check(cesr_text_to_binary(longest, 4194304, out, ROOM, &answer) == CESR_ROOM, "the limit is read", "text to binary");
@@ -609,6 +657,8 @@ int main(void) {
     reports();
     binary_report();
     second_binary();
+    mixed_report();
+    mixed_order();
     limits();
     conversion();
     reading();

@@ -19,7 +19,8 @@ same "fish: commands" "judge " "$(fish_offers 'cesr ju')"
 same "fish: options" "--help --html " "$(fish_offers 'cesr judge --h')"
 same "fish: options of another" "--help --out --to " "$(fish_offers 'cesr convert --')"
 same "fish: an option to write" "--index " "$(fish_offers 'cesr write --i')"
-same "fish: forms" "binary text " "$(fish_offers 'cesr judge --form ')"
+same "fish: forms" "binary mixed text " "$(fish_offers 'cesr judge --form ')"
+same "fish: forms to expect" "binary text " "$(fish_offers 'cesr expect --form ')"
 same "fish: engines" "both first second " "$(fish_offers 'cesr judge --engine ')"
 same "fish: files" "samples/clean-binary.cesr samples/clean.cesr " "$(fish_offers 'cesr judge samples/cl')"
 
@@ -43,6 +44,7 @@ same "zsh: an option" "cesr judge --manifest=" "$(zsh_completes 'cesr judge --ma
 same "zsh: an option of another" "cesr convert --to=" "$(zsh_completes 'cesr convert --t')"
 same "zsh: no option of another" "cesr convert --man" "$(zsh_completes 'cesr convert --man')"
 same "zsh: a form" "cesr judge --form=text " "$(zsh_completes 'cesr judge --form=te')"
+same "zsh: another form" "cesr judge --form=mixed " "$(zsh_completes 'cesr judge --form=mi')"
 same "zsh: an engine" "cesr judge --engine=second " "$(zsh_completes 'cesr judge --engine=se')"
 same "zsh: a file" "cesr judge samples/first" "$(zsh_completes 'cesr judge samples/fi')"
 

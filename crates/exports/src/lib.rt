@@ -25,6 +25,7 @@ ghost use Rattle.exports_values.specs.Answers.{binaryFoundNumber, binaryFoundVa
 ghost use Rattle.exports_values.specs.Answers.{textWrittenNumber, textWrittenValue, binaryWrittenNumber, binaryWrittenValue};
 ghost use Rattle.exports_indexed.specs.Answers.{indexCodeFrom, textNumber, textValue, textInfo, binaryNumber, binaryValue, binaryInfo};
 ghost use Rattle.format.specs.Report.{reportAnswer, reportNumber, reportValue, reportLeft};
+ghost use Rattle.mixed.specs.Mixed.{mixedAnswer, mixedLeft};
 ghost use Rattle.second_claims.specs.Second.{secondBinary, workLeft};
 ghost use Rattle.comparison.specs.Comparing.{compared};
 ghost use Rattle.passing.specs.Passing.{passedIn};
@@ -80,6 +81,17 @@ pub extern "C" fn cesr_report_binary(stream: &[u8], out: &mut [u8], answer: &mut
     ensures { λ r. ⌜ now (out .exit) ≡ reportLeft (reportAnswer binary (now (stream .entry)) (length (now (out .entry)))) binary (now (stream .entry)) (now (out .entry)) ⌝ }
 {
     let outcome = report::report_binary(stream, out);
+    exports_answers::reported(outcome, answer)
+}
+
+// answer: the length of the report, or 0 for 1 and 3.
+#[no_mangle]
+pub extern "C" fn cesr_report_mixed(stream: &[u8], out: &mut [u8], answer: &mut usize) -> u8
+    ensures { λ r. ⌜ r ≡ reportNumber (mixedAnswer (now (stream .entry)) (length (now (out .entry)))) ⌝ }
+    ensures { λ r. ⌜ now (answer .exit) ≡ reportValue (mixedAnswer (now (stream .entry)) (length (now (out .entry)))) ⌝ }
+    ensures { λ r. ⌜ now (out .exit) ≡ mixedLeft (mixedAnswer (now (stream .entry)) (length (now (out .entry)))) (now (stream .entry)) (now (out .entry)) ⌝ }
+{
+    let outcome = mixed_report::report_mixed(stream, out);
     exports_answers::reported(outcome, answer)
 }
 

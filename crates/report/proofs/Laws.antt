@@ -186,19 +186,25 @@ module _ {f : Form} {u : ℕ} {values classes rows s : List ℕ} {known n : ℕ}
   ends-few (Whole k) mid w = w .0
   ends-few (E.Rest p k x) mid w = w .0
 
-  by-last : (e : End) (mid : List ℕ) → Ends f s o n e mid → length mid ≡ length o → (r : ℕ) (last : List ℕ) → Last n e mid r last → Written f s o r last
+  -- behind rows of nine bytes
+  by-last : (e : End) (mid : List ℕ) → Ends f s o n e mid → length mid ≡ length o → (r : ℕ) (last : List ℕ) → Last (4 + 9 * n) e mid r last → Written f s o r last
   unfolding Ends
-  by-last (Whole k) mid w z r last c = record {
-    long = c .0 ∙ sym (w .2);
-    held = put-counts mid n k (omega (arith, C .room)) (w .0) refl 0 (c .1) ∙ w .1;
-  }
-  by-last (E.Rest p k x) mid w z r last c = record {
-    long = c .0 ∙ sym (w .2);
-    held = put-last mid n k (omega (arith, C .room)) (w .0) refl p x refl (c .1) ∙ w .1;
-  }
+  by-last (Whole k) mid w z r last c =
+      let y : 4 + 9 * n + 4 + 9 * k ≡ 8 + 9 * n + 9 * k = omega arith in
+      record {
+        long = omega (arith, c .0, w .2);
+        held = rw y at (put-counts mid (4 + 9 * n) k (omega (arith, C .room, w .0)) refl 0 (c .1)) ∙ w .1;
+      }
+  by-last (E.Rest p k x) mid w z r last c =
+      let y : 4 + 9 * n + 4 + 9 * k ≡ 8 + 9 * n + 9 * k = omega arith in
+      let x′ : 4 + 9 * n + 8 + 9 * k ≡ 12 + 9 * n + 9 * k = omega arith in
+      record {
+        long = omega (arith, c .0, w .2);
+        held = rw (y, x′) at (put-last mid (4 + 9 * n) k (omega (arith, C .room, w .0)) refl p x refl (c .1)) ∙ w .1;
+      }
 
-  pub ends-last : (e : End) (mid : List ℕ) → Ends f s o n e mid → length mid ≡ length o → (r : ℕ) (last : List ℕ) → Lasts n e mid r last → Written f s o r last
-  ends-last e mid w z r last c = by-last e mid w z r last (c .right (omega (arith, C .room)) (ends-few e mid w))
+  pub ends-last : (e : End) (mid : List ℕ) → Ends f s o n e mid → length mid ≡ length o → (r : ℕ) (last : List ℕ) → Lasts (4 + 9 * n) e mid r last → Written f s o r last
+  ends-last e mid w z r last c = by-last e mid w z r last (c .right (omega (arith, C .room, ends-few e mid w)))
 
 -- ---- the answers
 

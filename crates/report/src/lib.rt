@@ -94,7 +94,7 @@ fn fill(
     ensures { λ r. ⌜ Written form (now (s .entry)) (now (out .entry)) r (now (out .exit)) ⌝ }
 {
     let end = put_items(form, u, values, classes, rows, s, out, known, n);
-    report_last::put_last(out, n, end)
+    report_last::put_last(out, 4 + 9 * n, end)
 }
 
 // ---- the calls

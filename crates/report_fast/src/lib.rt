@@ -13,6 +13,7 @@ ghost use Rattle.format.specs.Judging.{maxDepth};
 ghost use Rattle.runs.specs.Levels.{Clear};
 ghost use Rattle.report_next.specs.Next.{isRuled, holdsIndexed};
 ghost use Rattle.report_first.specs.First.{Lent};
+ghost use Rattle.report_found.specs.Limits.{longest};
 ghost use Rattle.report_fast_laws.specs.Fast.{Reach, Accepts, Take, Passes};
 
 // ---- items accepted whole, where all is known
@@ -256,7 +257,7 @@ pub fn accepted(
     clean: usize,
     at: usize,
 ) -> usize
-    ensures { λ r. ⌜ (r ≤ length (now (s .entry)) / domain form .unit - at) × (length (now (s .entry)) ≤ domain form .limit → Lent (now (values .entry)) (now (classes .entry)) (now (rows .entry)) → Clear (domain form .sextets (now (s .entry))) at clean → Accepts (domain form) (now (s .entry)) at r) ⌝ }
+    ensures { λ r. ⌜ (r ≤ length (now (s .entry)) / domain form .unit - at) × (length (now (s .entry)) ≤ longest → Lent (now (values .entry)) (now (classes .entry)) (now (rows .entry)) → Clear (domain form .sextets (now (s .entry))) at clean → Accepts (domain form) (now (s .entry)) at r) ⌝ }
 {
     let end = report_first::least(clean, report_units::units(form, s.len()));
     if end <= at {

@@ -14,6 +14,7 @@ use Rattle.format.specs.Judging.{shift}
 use Rattle.format.specs.Report.{judgeIn}
 use Rattle.laws.specs.Levels.{level}
 use Rattle.runs.specs.Levels.{Clear}
+use Rattle.report_found.specs.Limits.{longest}
 use Rattle.report_item.specs.Items.{Takes}
 use Rattle.report_first.specs.First.{Lent}
 
@@ -22,9 +23,9 @@ pub record Reach (f : Form) (s : List ℕ) (at stop : ℕ) : Type 0 where
   pub order : at ≤ stop
   pub room : stop ≤ length s / domain f .unit
 
--- the stream is within the limit, the tables are right, and all from a unit to another is known
+-- the stream is not too long, the tables are right, and all from a unit to another is known
 pub record Ready (f : Form) (values classes rows s : List ℕ) (at stop : ℕ) : Type 0 where
-  pub few : length s ≤ domain f .limit
+  pub few : length s ≤ longest
   pub lent : Lent values classes rows
   pub clear : Clear (domain f .sextets s) at stop
 

@@ -26,6 +26,7 @@ use Rattle.runs_value.specs.Taken.{valued-taken}
 use Rattle.runs_indexed.specs.Indexed.{indexedAt}
 use Rattle.runs_indexed.specs.Taken.{indexed-taken}
 use Rattle.report_next.specs.Next.{isEntered, isRuled, holdsIndexed}
+use Rattle.report_found.specs.Limits.{longest}
 use Rattle.report_found.specs.Finds.{Inside, Fits, Finds}
 use Rattle.report_item.specs.Items.{Takes}
 use native.Mathlib.Nat.{pos-of-ne-zero}
@@ -134,7 +135,7 @@ module _ (f : Form) (values classes rows s : List ℕ) (at clean units stop : �
 
   pub top-good : (r : ℕ) → Take f values classes rows s false maxDepth true at stop r
       → (r ≤ length s / domain f .unit - at)
-      × (length s ≤ domain f .limit → Lent values classes rows → Clear (domain f .sextets s) at clean → Accepts (domain f) s at r)
+      × (length s ≤ longest → Lent values classes rows → Clear (domain f .sextets s) at clean → Accepts (domain f) s at r)
   top-good r t = (
     omega (arith, t .few, min-le-right clean units),
     λ l L K p.

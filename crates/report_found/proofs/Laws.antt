@@ -18,6 +18,7 @@ use Rattle.laws.specs.Domains.{Reader, reader, text-reader, binary-reader}
 use Rattle.laws.specs.Levels.{part}
 use Rattle.report_next.specs.Next.{nextOwn, isEntered, Found}
 use Rattle.report_next.proofs.Laws.{fits, length-sextets, length-binary, text-part, binary-part, next-near, found-refused, found-item, enters}
+use Rattle.report_found.specs.Limits.{longest}
 use Rattle.report_found.specs.Finds.{Inside, Here, Fits, Finds, Near, moved}
 
 -- ---- either form
@@ -28,7 +29,7 @@ text-in f s at stop I e = subst (λ (g : Form). Inside (domain g) s at stop) e I
 binary-in : (f : Form) (s : List ℕ) (at stop : ℕ) → Inside (domain f) s at stop → f ≡ Binary → Inside binary s at stop
 binary-in f s at stop I e = subst (λ (g : Form). Inside (domain g) s at stop) e I
 
-units-small : (f : Form) (s : List ℕ) (at stop : ℕ) → Inside (domain f) s at stop → stop ≤ 1048576
+units-small : (f : Form) (s : List ℕ) (at stop : ℕ) → Inside (domain f) s at stop → stop ≤ 1398101
 units-small Text s at stop I = omega (arith, I .room, I .few)
 units-small Binary s at stop I = omega (arith, I .room, I .few)
 
@@ -70,8 +71,8 @@ pub moved-on : (by : ℕ) (f : Framed) (m p : ℕ) → f ≡ Unframed m p → Un
 unfolding moved
 moved-on by f m p e = rw e
 
-near : (t first : Bool) (x : List ℕ) (l : ℕ) (f : Framed) → f ≡ nextOwn t first x l → length x ≤ 4194304 → (m p : ℕ) → f ≡ Unframed m p
-    → p ≤ 4194312
+near : (t first : Bool) (x : List ℕ) (l : ℕ) (f : Framed) → f ≡ nextOwn t first x l → length x ≤ 5592404 → (m p : ℕ) → f ≡ Unframed m p
+    → p ≤ 5592412
 near t first x l f e h m p q = omega (arith, next-near t first x l m p (sym e ∙ q))
 
 -- the part is within the stream
@@ -161,9 +162,9 @@ none-fits l at stop m p = record { each = λ k h n e. absurd (other-variant k h 
     other-variant : (k : Kind) (h n : ℕ) → Unframed m p ≡ Item k h n → ⊥
     other-variant k h n e = let y : _≡_ {A = ℕ} 0 1 = cc in omega arith
 
--- what is past the end or the limit
+-- what is past the end, or too long
 module _ (f : Form) (s : List ℕ) (t : Bool) (l : ℕ) (first : Bool) (at stop m p : ℕ) where
-  pub past-limit : (n : ℕ) → n ≡ domain f .limit → n < length s → Finds f s t l first at stop (Unframed m p)
+  pub past-limit : (n : ℕ) → n ≡ longest → n < length s → Finds f s t l first at stop (Unframed m p)
   past-limit n e h = record { fits = none-fits l at stop m p; right = λ I _. absurd (omega (arith, I .few)) }
 
   pub past-end : (u : ℕ) → u ≡ length s / domain f .unit → u < stop → Finds f s t l first at stop (Unframed m p)
@@ -175,7 +176,7 @@ module _ (f : Form) (s : List ℕ) (t : Bool) (l : ℕ) (first : Bool) (at stop 
 
 -- ---- what the calls look at
 
-pub inside-units : (f : Form) (s : List ℕ) (at stop u m : ℕ) → u ≡ length s / domain f .unit → m ≡ domain f .limit → stop ≤ u → length s ≤ m
+pub inside-units : (f : Form) (s : List ℕ) (at stop u m : ℕ) → u ≡ length s / domain f .unit → m ≡ longest → stop ≤ u → length s ≤ m
     → at ≤ stop
     → Inside (domain f) s at stop
 inside-units f s at stop u m e q h few le = record {
@@ -185,6 +186,6 @@ inside-units f s at stop u m e q h few le = record {
 }
 
 pub here : (f : Form) (s : List ℕ) (at stop u m : ℕ) → stop ≤ u → length s ≤ m → at < stop → u ≡ length s / domain f .unit
-    → m ≡ domain f .limit
+    → m ≡ longest
     → Here f s at stop
 here f s at stop u m h few lt e q = record { inside = inside-units f s at stop u m e q h few (omega arith); left = lt }

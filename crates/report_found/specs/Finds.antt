@@ -10,12 +10,13 @@ use Rattle.format.specs.declared.Framed.{Framed}
 use Rattle.format.specs.declared.Framed.the-variants.{Item, Unframed}
 use Rattle.format.specs.Units.{Domain, domain}
 use Rattle.report_next.specs.Next.{isEntered, Found}
+use Rattle.report_found.specs.Limits.{longest}
 
--- units of a stream within the limit
+-- units of a stream that is not too long
 pub record Inside (d : Domain) (xs : List ℕ) (at stop : ℕ) : Type 0 where
   pub order : at ≤ stop
   pub room : d .unit * stop ≤ length xs
-  pub few : length xs ≤ d .limit
+  pub few : length xs ≤ longest
 
 -- and something of them left
 pub record Here (f : Form) (s : List ℕ) (at stop : ℕ) : Type 0 where
@@ -31,12 +32,12 @@ moved by (Unframed m p) = Unframed m (by + p)
 pub record Fits (l at stop : ℕ) (r : Framed) : Type 0 where
   pub each : (k : Kind) (h n : ℕ) → r ≡ Item k h n → (0 < h) × (h ≤ n) × (at + n ≤ stop) × (isEntered k ≡ true → 0 < l)
 
--- and right where there is something left of a stream within the limit
+-- and right where there is something left of a stream that is not too long
 pub record Finds (f : Form) (s : List ℕ) (t : Bool) (l : ℕ) (first : Bool) (at stop : ℕ) (r : Framed) : Type 0 where
   pub fits : Fits l at stop r
   pub right : Inside (domain f) s at stop → at < stop → Found (domain f .sextets s) t l first at stop r
 
 -- a place that is counted on is near
 pub record Near (by : ℕ) (r : Framed) : Type 0 where
-  pub few : by ≤ 4194304
-  pub near : (m p : ℕ) → r ≡ Unframed m p → p ≤ 4194312
+  pub few : by ≤ 5592404
+  pub near : (m p : ℕ) → r ≡ Unframed m p → p ≤ 5592412

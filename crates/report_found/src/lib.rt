@@ -2,6 +2,7 @@
 // refusal's place counted from the stream's start. Positions count units, and places sextets.
 use format::Form;
 use format::Framed;
+use report_units::LONGEST;
 ghost use mathlib.Core.Path.{_≡_};
 ghost use Prim.Native.Nat.{_*_, _<_};
 ghost use Rattle.report_found.specs.Finds.{Here, moved, Near, Finds};
@@ -58,7 +59,7 @@ fn next(
     }
 }
 
-// The same of any units: what is past the end or the limit is not framed.
+// The same of any units: what is past the end, or of a stream that is too long, is not framed.
 pub fn found(
     form: Form,
     s: &[u8],
@@ -70,7 +71,7 @@ pub fn found(
 ) -> Framed
     ensures { λ r. ⌜ Finds form (now (s .entry)) indexed levels first at stop r ⌝ }
 {
-    if report_units::limit(form) < s.len() {
+    if LONGEST < s.len() {
         return Framed::Unframed {
             number: 1,
             place: 0,

@@ -19,6 +19,7 @@ use Rattle.format.specs.Judging.{shift}
 use Rattle.format.specs.Report.{frameIn, judgeIn, be4, rowBytes, verdictByte, refusalBytes, refusal, concat}
 use Rattle.laws.specs.Domains.{reader}
 use Rattle.laws.specs.Frames.{frames}
+use Rattle.report_found.specs.Limits.{within-longest}
 use Rattle.report_item.specs.Items.{Judges}
 use Rattle.report_item.proofs.Laws.{framed-units}
 use Rattle.filling.specs.Stores.{rowWith, concat-long, row-long, refusal-long}
@@ -106,7 +107,7 @@ module _ {f : Form} {u : ℕ} {s : List ℕ} {n a i k : ℕ} {out : List ℕ} (�
         → (o : List ℕ) → Fill f s o n (u * a) i k out → After f u s o n a i k (Stored m 1 b) out′
     judged-turn v J b eb out′ c o φ =
         let w = item-fits f u (Φ .unit) s a t (h * u) m (Φ .here) here-in in
-        let j : v ≡ shift (u * a) (judgeIn (domain f) (take (u * m) (drop (u * a) s))) = rw (Φ .unit) (J .judged (Φ .few) t h e) in
+        let j : v ≡ shift (u * a) (judgeIn (domain f) (take (u * m) (drop (u * a) s))) = rw (Φ .unit) (J .judged (within-longest f (length s) (Φ .few)) t h e) in
         (w .0, w .1, rw (mul-add u a m, eb, stored-is v out′ c) (filled-more (frameIn (domain f)) (judgeIn (domain f)) (frames (domain f) (reader f)) rowBytes 9 row-long s o n (Φ .count) (u * a) i k out φ here-in v j))
 
   pub rest-turn : (g : Framed) → g ≡ frameRuled (domain f .sextets (drop (domain f .unit * a) s)) → (m p : ℕ) → g ≡ Unframed m p → (o : List ℕ)

@@ -18,6 +18,7 @@ use Rattle.laws.specs.Domains.{reader}
 use Rattle.laws.specs.Levels.{level, level-end}
 use Rattle.runs.specs.Plain.{plainTable, plainAt, groupAt, letterAt, nested}
 use Rattle.runs.specs.Levels.{Clear, clear-less, plain-level, Nested, nested-level}
+use Rattle.report_found.specs.Limits.{longest}
 use Rattle.report_found.specs.Finds.{Inside}
 use Rattle.report_found.proofs.Laws.{wide, in-units}
 use Rattle.report_first.specs.First.{Lent}
@@ -116,7 +117,7 @@ module _ (f : Form) (values classes rows s : List ℕ) (at size clean units stop
 
   pub group-good : (r : Bool) → (Ready f values classes rows s at (at + size) → groupAt (domain f .sextets s) at ≡ at + size - at → r ≡ true
       → level (domain f .sextets s) false (maxDepth - 1) (isOverrideable (letterAt (domain f .sextets s) at)) (at + 1) (at + size) ≡ Accepted)
-      → length s ≤ domain f .limit → Lent values classes rows → Clear (domain f .sextets s) at clean → groupAt (domain f .sextets s) at ≡ size → r ≡ true
+      → length s ≤ longest → Lent values classes rows → Clear (domain f .sextets s) at clean → groupAt (domain f .sextets s) at ≡ size → r ≡ true
       → Good (domain f) s at size
   group-good r v l L K q t =
       let R : Ready f values classes rows s at (at + size) = record {

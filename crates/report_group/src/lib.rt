@@ -15,6 +15,7 @@ ghost use Rattle.laws.specs.Levels.{level};
 ghost use Rattle.runs.specs.Plain.{groupAt, letterAt};
 ghost use Rattle.runs.specs.Levels.{Clear};
 ghost use Rattle.report_first.specs.First.{Lent};
+ghost use Rattle.report_found.specs.Limits.{longest};
 ghost use Rattle.report_fast_laws.specs.Fast.{Reach, Ready, Good};
 
 // The contents of a small group that ends in front of another unit.
@@ -62,7 +63,7 @@ pub fn group_accepted(
     at: usize,
     size: usize,
 ) -> bool
-    ensures { λ r. ⌜ (length (now (s .entry)) ≤ domain form .limit → Lent (now (values .entry)) (now (classes .entry)) (now (rows .entry)) → Clear (domain form .sextets (now (s .entry))) at clean → groupAt (domain form .sextets (now (s .entry))) at ≡ size → r ≡ true → Good (domain form) (now (s .entry)) at size) ⌝ }
+    ensures { λ r. ⌜ (length (now (s .entry)) ≤ longest → Lent (now (values .entry)) (now (classes .entry)) (now (rows .entry)) → Clear (domain form .sextets (now (s .entry))) at clean → groupAt (domain form .sextets (now (s .entry))) at ≡ size → r ≡ true → Good (domain form) (now (s .entry)) at size) ⌝ }
 {
     let end = report_first::least(clean, report_units::units(form, s.len()));
     if end <= at {

@@ -24,6 +24,7 @@ use Rattle.laws.specs.Levels.{then-accepts, part, take-of-drop, any-item, item-
 use Rattle.judging.specs.Own.{toldBy}
 use Rattle.report_next.specs.Next.{isEntered, isRuled, holdsIndexed, Own, Found}
 use Rattle.report_next.proofs.Laws.{whole-plain, whole-entered, turn-inner}
+use Rattle.report_found.specs.Limits.{longest}
 use Rattle.report_found.specs.Finds.{Inside, Finds}
 use Rattle.report_found.proofs.Laws.{wide, inside-units}
 use Rattle.report_item.specs.Items.{Whole, Judges}
@@ -218,7 +219,7 @@ judged f s at n v w e q = record { judged = λ few k h i. q ∙ judged-row (doma
 
 -- what is no item of so many units there
 module _ (f : Form) (s : List ℕ) (at n u : ℕ) (w : Verdict) where
-  pub over-limit : u ≡ domain f .limit → u < length s → Judges (domain f) s at n w
+  pub over-limit : u ≡ longest → u < length s → Judges (domain f) s at n w
   over-limit e l = record { judged = λ few k h i. absurd (omega arith) }
 
   pub behind-all : u ≡ length s / domain f .unit → u < at → Judges (domain f) s at n w
@@ -228,6 +229,6 @@ module _ (f : Form) (s : List ℕ) (at n u : ℕ) (w : Verdict) where
   more-than-all e l = record { judged = λ few k h i. absurd (omega (arith, framed-units (domain f) (reader f) s at n k h i)) }
 
 pub inside-item : (f : Form) (s : List ℕ) (at size u m : ℕ) → size ≤ u - at → at ≤ u → length s ≤ m → u ≡ length s / domain f .unit
-    → m ≡ domain f .limit
+    → m ≡ longest
     → Inside (domain f) s at (at + size)
 inside-item f s at size u m h g few e q = inside-units f s at (at + size) u m e q (omega arith) few (omega arith)

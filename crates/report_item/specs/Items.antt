@@ -14,10 +14,11 @@ use Rattle.format.specs.Framing.{frameRuled}
 use Rattle.format.specs.Judging.{shift}
 use Rattle.format.specs.Report.{judgeIn}
 use Rattle.laws.specs.Levels.{level, Taken}
+use Rattle.report_found.specs.Limits.{longest}
 
--- the verdict on an item of n units that is framed at a unit of a stream within the limit: its own bytes', its place counted on
+-- the verdict on an item of n units that is framed at a unit of a stream that is not too long: its own bytes', its place counted on
 pub record Judges (d : Domain) (xs : List ℕ) (at n : ℕ) (v : Verdict) : Type 0 where
-  pub judged : length xs ≤ d .limit → (k : Kind) (h : ℕ) → frameRuled (d .sextets (drop (d .unit * at) xs)) ≡ Item k h n
+  pub judged : length xs ≤ longest → (k : Kind) (h : ℕ) → frameRuled (d .sextets (drop (d .unit * at) xs)) ≡ Item k h n
       → v ≡ shift (d .unit * at) (judgeIn d (take (d .unit * n) (drop (d .unit * at) xs)))
 
 -- one-sided: 0 says nothing

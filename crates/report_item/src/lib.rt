@@ -5,6 +5,7 @@ use format::Form;
 use format::Framed;
 use format::Verdict;
 use judging::MAX_DEPTH;
+use report_units::LONGEST;
 ghost use mathlib.Core.Path.{_≡_};
 ghost use Prim.Native.Nat.{_<_};
 ghost use Rattle.format.specs.Units.{domain};
@@ -101,7 +102,7 @@ pub fn verdict(form: Form, s: &[u8], at: usize, size: usize) -> Verdict
     ensures { λ r. ⌜ Judges (domain form) (now (s .entry)) at size r ⌝ }
 {
     let all = report_units::units(form, s.len());
-    if report_units::limit(form) < s.len() {
+    if LONGEST < s.len() {
         return Verdict::Refused {
             number: 1,
             place: 0,

@@ -12,13 +12,12 @@ unfoldable pub refusedOf : End → ℕ
 refusedOf (Whole k) = k
 refusedOf (Rest p k x) = k
 
--- the length that is answered, and what is stored
+-- the length that is answered, and what is stored, where the items' rows end at a place
 abbrev pub Last : ℕ → End → List ℕ → ℕ → List ℕ → Type 0
-Last n (Whole k) out r out′ = (r ≡ 12 + 9 * n + 9 * k) × (out′ ≡ put (put out (4 + 9 * n) (be4 k)) (8 + 9 * n + 9 * k) (be4 0))
-Last n (Rest p k x) out r out′ =
-    (r ≡ 17 + 9 * n + 9 * k)
-    × (out′ ≡ put (put (put out (4 + 9 * n) (be4 k)) (8 + 9 * n + 9 * k) (be4 1)) (12 + 9 * n + 9 * k) (be4 p ++ (x ∷ [])))
+Last at (Whole k) out r out′ = (r ≡ at + 8 + 9 * k) × (out′ ≡ put (put out at (be4 k)) (at + 4 + 9 * k) (be4 0))
+Last at (Rest p k x) out r out′ =
+    (r ≡ at + 13 + 9 * k) × (out′ ≡ put (put (put out at (be4 k)) (at + 4 + 9 * k) (be4 1)) (at + 8 + 9 * k) (be4 p ++ (x ∷ [])))
 
--- where the buffer has room for a report of n items, of which no more are refused
-pub record Lasts (n : ℕ) (e : End) (out : List ℕ) (r : ℕ) (out′ : List ℕ) : Type 0 where
-  pub right : 17 + 18 * n ≤ length out → refusedOf e ≤ n → Last n e out r out′
+-- where the buffer has room for the refusals' rows behind them
+pub record Lasts (at : ℕ) (e : End) (out : List ℕ) (r : ℕ) (out′ : List ℕ) : Type 0 where
+  pub right : at + 9 * refusedOf e ≤ length out → Last at e out r out′

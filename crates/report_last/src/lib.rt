@@ -1,5 +1,5 @@
-// The last sections of a report, behind the rows of its n items: the count of refusals, which stands in front of their rows, and the
-// remainder with its count. Of any numbers: where no buffer has room for such a report, nothing is stored.
+// The last sections of a report, behind the rows of its items, whatever their width: the count of refusals, which stands in front of
+// their rows, and the remainder with its count. Of any numbers: where a buffer has no room for them, nothing is stored.
 ghost use mathlib.Core.Path.{_≡_};
 ghost use mathlib.Core.List.{[], _∷_, _++_};
 ghost use Prim.Native.Nat.{_+_, _*_, _≤_};
@@ -19,24 +19,24 @@ pub enum End {
     },
 }
 
-// The counts of refusals and of remainders: where they end.
-fn put_counts(out: &mut [u8], n: usize, k: usize, rest: usize) -> usize
-    requires { ⌜ (n ≤ 512409557603043100) × (k ≤ n) ⌝ }
-    ensures { λ r. ⌜ (r ≡ 12 + 9 * n + 9 * k) × (now (out .exit) ≡ put (put (now (out .entry)) (4 + 9 * n) (be4 k)) (8 + 9 * n + 9 * k) (be4 rest)) ⌝ }
+// The counts of refusals, behind the items' rows, and of remainders, behind the refusals' rows: where they end.
+fn put_counts(out: &mut [u8], at: usize, k: usize, rest: usize) -> usize
+    requires { ⌜ at + 9 * k ≤ 9223372036854775807 ⌝ }
+    ensures { λ r. ⌜ (r ≡ at + 8 + 9 * k) × (now (out .exit) ≡ put (put (now (out .entry)) at (be4 k)) (at + 4 + 9 * k) (be4 rest)) ⌝ }
 {
-    report_rows::put_number(out, 4 + 9 * n, k);
-    report_rows::put_number(out, 8 + 9 * n + 9 * k, rest);
-    12 + 9 * n + 9 * k
+    report_rows::put_number(out, at, k);
+    report_rows::put_number(out, at + 4 + 9 * k, rest);
+    at + 8 + 9 * k
 }
 
 // The counts, and a remainder: the report's length.
-fn put_rest(out: &mut [u8], n: usize, k: usize, offset: usize, number: u8) -> usize
-    requires { ⌜ (n ≤ 512409557603043100) × (k ≤ n) ⌝ }
-    ensures { λ r. ⌜ (r ≡ 17 + 9 * n + 9 * k) × (now (out .exit) ≡ put (put (put (now (out .entry)) (4 + 9 * n) (be4 k)) (8 + 9 * n + 9 * k) (be4 1)) (12 + 9 * n + 9 * k) (be4 offset ++ (number ∷ []))) ⌝ }
+fn put_rest(out: &mut [u8], at: usize, k: usize, offset: usize, number: u8) -> usize
+    requires { ⌜ at + 9 * k ≤ 9223372036854775807 ⌝ }
+    ensures { λ r. ⌜ (r ≡ at + 13 + 9 * k) × (now (out .exit) ≡ put (put (put (now (out .entry)) at (be4 k)) (at + 4 + 9 * k) (be4 1)) (at + 8 + 9 * k) (be4 offset ++ (number ∷ []))) ⌝ }
 {
-    let at = put_counts(out, n, k, 1);
-    report_rows::put_told(out, at, offset, number);
-    at + 5
+    let end = put_counts(out, at, k, 1);
+    report_rows::put_told(out, end, offset, number);
+    end + 5
 }
 
 fn refused(end: End) -> usize
@@ -53,29 +53,29 @@ fn refused(end: End) -> usize
 }
 
 // By the way that the rows ended.
-fn put_end(out: &mut [u8], n: usize, end: End) -> usize
-    requires { ⌜ (n ≤ 512409557603043100) × (refusedOf end ≤ n) ⌝ }
-    ensures { λ r. ⌜ Last n end (now (out .entry)) r (now (out .exit)) ⌝ }
+fn put_end(out: &mut [u8], at: usize, end: End) -> usize
+    requires { ⌜ at + 9 * refusedOf end ≤ 9223372036854775807 ⌝ }
+    ensures { λ r. ⌜ Last at end (now (out .entry)) r (now (out .exit)) ⌝ }
 {
     match end {
-        End::Whole { refused } => put_counts(out, n, refused, 0),
+        End::Whole { refused } => put_counts(out, at, refused, 0),
         End::Rest {
             offset,
             refused,
             number,
-        } => put_rest(out, n, refused, offset, number),
+        } => put_rest(out, at, refused, offset, number),
     }
 }
 
-// The last sections of a report of n items: its length.
-pub fn put_last(out: &mut [u8], n: usize, end: End) -> usize
-    ensures { λ r. ⌜ Lasts n end (now (out .entry)) r (now (out .exit)) ⌝ }
+// The last sections of a report whose items' rows end at a place: its length.
+pub fn put_last(out: &mut [u8], at: usize, end: End) -> usize
+    ensures { λ r. ⌜ Lasts at end (now (out .entry)) r (now (out .exit)) ⌝ }
 {
-    if out.len() / 18 < n {
+    if out.len() < at {
         return 0;
     }
-    if n < refused(end) {
+    if (out.len() - at) / 9 < refused(end) {
         return 0;
     }
-    put_end(out, n, end)
+    put_end(out, at, end)
 }

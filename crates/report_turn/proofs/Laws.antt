@@ -21,6 +21,7 @@ use Rattle.laws.specs.Levels.{Taken}
 use Rattle.runs.specs.Plain.{plainTable, plainAt}
 use Rattle.runs.specs.Levels.{Clear, clear-less, plain-taken}
 use Rattle.runs.specs.Runs.{Run}
+use Rattle.report_found.specs.Limits.{longest, within-longest}
 use Rattle.report_found.specs.Finds.{Inside}
 use Rattle.report_found.proofs.Laws.{wide}
 use Rattle.report_first.specs.First.{Lent}
@@ -59,7 +60,7 @@ module _ (f : Form) (u : ℕ) (is-u : u ≡ domain f .unit) (s : List ℕ) where
   good-judged a m g = rw is-u (g .judged)
 
   -- a run of plain primitives: each is framed and accepted
-  run-good : length s ≤ d .limit → (a clean k from r : ℕ) → Clear (d .sextets s) a clean → a ≤ from
+  run-good : length s ≤ longest → (a clean k from r : ℕ) → Clear (d .sextets s) a clean → a ≤ from
       → Run (plainAt plainTable (d .sextets s)) k (min clean (length s / d .unit)) from r → (j : ℕ) → j < r → Good d s (from + j * k) k
   run-good few a clean k from r K le R j h =
       let S : List ℕ = d .sextets s in
@@ -77,6 +78,9 @@ module _ (f : Form) (u : ℕ) (is-u : u ≡ domain f .unit) (s : List ℕ) where
       taken-good f s (from + j * k) stop k I t
 
 -- ---- the rows
+
+pub not-long : {f : Form} {u : ℕ} {s : List ℕ} {n a i k : ℕ} {out : List ℕ} → Filling f u s n a i k out → length s ≤ longest
+not-long {f} {u} {s} Φ = within-longest f (length s) (Φ .few)
 
 module _ {f : Form} {u : ℕ} {s : List ℕ} {n a i k : ℕ} {out : List ℕ} (Φ : Filling f u s n a i k out) where
   -- by the fast way: an item of m units
@@ -108,7 +112,7 @@ module _ {f : Form} {u : ℕ} {s : List ℕ} {n a i k : ℕ} {out : List ℕ} (�
           × (Accepted ≡ shift (u * (a + m) + j * (u * m)) (judgeIn (domain f) (take (u * m) (drop (u * (a + m) + j * (u * m)) s))))
       each j h =
           let z = in-elements u (a + m) j m in
-          let g = run-good f u (Φ .unit) s (Φ .few) a clean m (a + m) r K (omega arith) Q j h in
+          let g = run-good f u (Φ .unit) s (not-long Φ) a clean m (a + m) r K (omega arith) Q j h in
           let e = good-framed f u (Φ .unit) s (a + m + j * m) m g in
           (e .0, e .1, rw (← z) (e .2), rw (← z) (good-judged f u (Φ .unit) s (a + m + j * m) m g))
 

@@ -4,6 +4,9 @@ ghost use mathlib.Core.Path.{_≡_};
 ghost use Prim.Native.Nat.{_/_};
 ghost use Rattle.format.specs.Units.{domain};
 
+// No report takes a longer stream, in elements: a text has so many at most, a binary fewer.
+pub const LONGEST: usize = 4194304;
+
 // Elements of a stream to a unit.
 pub fn unit(form: Form) -> usize
     ensures { λ r. ⌜ r ≡ domain form .unit ⌝ }

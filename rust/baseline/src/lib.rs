@@ -8,7 +8,7 @@
 //!
 //! The report and the two conversions exist for lent buffers (`write_report`,
 //! `to_binary`, `to_text`); `report` allocates its answer, and `Walk` keeps its place. `plain` holds the
-//! conversions as a plain loop.
+//! conversions as a plain loop. `report_mixed` and `write_report_mixed` are of mixed streams.
 
 #![forbid(unsafe_code)]
 
@@ -16,11 +16,13 @@ mod alphabet;
 mod codes;
 mod convert;
 mod judge;
+mod mixed;
 mod plain;
 mod report;
 mod walk;
 
 pub use convert::{to_binary, to_text};
+pub use mixed::{report_mixed, write_report_mixed};
 pub use plain::{plain_to_binary, plain_to_text};
 pub use report::{report, write_report};
 pub use walk::{Pause, Walk};

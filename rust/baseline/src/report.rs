@@ -118,7 +118,7 @@ impl Rows {
 }
 
 /// Writes a count and the rows behind it, and gives the rest of the buffer.
-fn section<'o>(out: &'o mut [u8], count: usize, rows: &[u8]) -> &'o mut [u8] {
+pub(crate) fn section<'o>(out: &'o mut [u8], count: usize, rows: &[u8]) -> &'o mut [u8] {
     let (number, out) = out.split_at_mut(4);
     number.copy_from_slice(&four(count));
     let (part, out) = out.split_at_mut(rows.len());
@@ -127,7 +127,7 @@ fn section<'o>(out: &'o mut [u8], count: usize, rows: &[u8]) -> &'o mut [u8] {
 }
 
 /// Four bytes, big-endian. No offset or count here is above 4,194,304.
-fn four(number: usize) -> [u8; 4] {
+pub(crate) fn four(number: usize) -> [u8; 4] {
     (number as u32).to_be_bytes()
 }
 
@@ -211,7 +211,7 @@ impl Rows {
 
 /// Frames a top-level item: 7 follows.
 #[inline(always)]
-fn top_level<U: Unit>(left: &[U], clean: usize) -> Result<Frame, u8> {
+pub(crate) fn top_level<U: Unit>(left: &[U], clean: usize) -> Result<Frame, u8> {
     let item = frame::<U, true>(left, clean)?;
     if item.class == Class::OtherGenus {
         return Err(7);
@@ -237,7 +237,7 @@ fn alike<U: Unit>(clean: &[U], mut at: usize, item: &Frame, like: Code) -> usize
 
 /// Judges a framed top-level item.
 #[inline(always)]
-fn judge<'s, U: Unit, const CAREFUL: bool>(
+pub(crate) fn judge<'s, U: Unit, const CAREFUL: bool>(
     whole: &'s [U],
     at: usize,
     item: &Frame,

@@ -3,7 +3,7 @@
 mod common;
 
 use common::assert_alike;
-use streams::decks::{digests, labels, mixed, nests, small_bytes};
+use streams::decks::{all_codes, digests, labels, nests, small_bytes};
 use streams::form::FORMS;
 use streams::{Form, Random};
 
@@ -22,7 +22,7 @@ fn of_just_the_limit_and_one_more() {
 #[test]
 fn the_timed_decks_are_accepted_and_alike() {
     let mut random = Random::new(0x71AED);
-    for make in [digests, nests, mixed, labels, small_bytes] {
+    for make in [digests, nests, all_codes, labels, small_bytes] {
         let deck = make(&mut random, 200_000);
         for form in FORMS {
             let stream = form.of_text(&deck);
@@ -37,7 +37,7 @@ fn the_timed_decks_are_accepted_and_alike() {
 #[test]
 fn strangers_far_in() {
     let mut random = Random::new(0x57A6);
-    for make in [digests, nests, mixed, labels, small_bytes] {
+    for make in [digests, nests, all_codes, labels, small_bytes] {
         for strangers in 1..12 {
             let mut deck = make(&mut random, 20_000);
             for _ in 0..strangers {

@@ -1,10 +1,12 @@
 //! Times the proved library against ordinary Rust, in one process, and prints
-//! the tables: `cargo run --release --offline -p bench`.
+//! the tables: `cargo run --release --offline -p bench`. Words behind it choose the
+//! tables with all of them in their title: `-- Mixed '3 MiB'`.
 //!
 //! The library is the archive that `rt staticlib exports` writes.
 
 mod conversion;
 mod engines;
+mod mixed;
 mod race;
 mod reports;
 mod table;
@@ -26,7 +28,11 @@ fn main() {
     let mut races = conversion::races();
     races.extend(reports::races());
     races.extend(engines::races());
+    races.extend(mixed::races());
     races.extend(walks::races());
+    let words: Vec<String> = std::env::args().skip(1).collect();
+    let chosen = |title: &str| words.iter().all(|word| title.contains(word.as_str()));
+    races.retain(|race| chosen(&race.title));
     for _ in 0..SWEEPS {
         races.iter_mut().for_each(race::Race::sweep);
     }

@@ -3,7 +3,7 @@
 
 use crate::race::{Contender, Race, Rate, REFUSED};
 use crate::SIZES;
-use streams::decks::{digests, labels, mixed, nests, signatures, small_bytes};
+use streams::decks::{all_codes, digests, labels, nests, signatures, small_bytes};
 use streams::{Form, Random};
 
 /// A further program is one more line in each of the two lists.
@@ -41,7 +41,7 @@ pub const DECKS: [(&str, Deck); 6] = [
     ("digests", digests),
     ("groups nested ten deep", nests),
     ("groups of one to four indexed signatures", signatures),
-    ("all codes, groups three deep", mixed),
+    ("all codes, groups three deep", all_codes),
     ("labels and locations of type A", labels),
     ("the same as bytes of type B", small_bytes),
 ];

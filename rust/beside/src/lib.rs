@@ -12,7 +12,7 @@ use oracle::indexed::{self, IndexedItem};
 use oracle::primitive::{self, Named};
 use oracle::registry::Indexed as Row;
 use oracle::report::write_report;
-use oracle::{convert, group, second, Form};
+use oracle::{convert, group, mixed, second, Form};
 use proved::{Counts, Indexed, IndexedInfo, Info, Primitive, Refusal, Tag};
 pub use walk::{walk_binary, walk_on_binary, walk_on_text, walk_text};
 
@@ -38,6 +38,10 @@ pub fn report_text(text: &[u8], out: &mut [u8]) -> Result<usize, Refusal> {
 
 pub fn report_binary(binary: &[u8], out: &mut [u8]) -> Result<usize, Refusal> {
     write_report(binary, Form::Binary, out).map_err(refused)
+}
+
+pub fn report_mixed(stream: &[u8], out: &mut [u8]) -> Result<usize, Refusal> {
+    mixed::write_report(stream, out).map_err(refused)
 }
 
 pub fn second_text(text: &[u8], out: &mut [u8]) -> Result<usize, Refusal> {

@@ -9,6 +9,7 @@
 //! | To | Call |
 //! | --- | --- |
 //! | judge a stream | [`judge`], [`judge_into`], [`judge_with`]: a [`Report`] with its rows |
+//! | judge one of text, binary and JSON by turns | [`judge_mixed`] and its `_into` and `_with` forms: a [`MixedReport`] |
 //! | judge it by the second engine | [`judge_second`] and its `_into` and `_with` forms |
 //! | hold two answers against each other | [`difference`]: a [`Difference`] or none |
 //! | convert a stream | [`to_binary`], [`to_text`] and their `_into` forms |
@@ -25,7 +26,9 @@
 //!
 //! A stream is *text* (characters of URL-safe Base64) or *binary*, see
 //! [`Form`]. Offsets, sizes and places count characters in text and bytes in
-//! binary, always from the stream's start. A refused call gives a
+//! binary, always from the stream's start. A stream that changes form at top
+//! level is *mixed*, which is a kind of report and no form: what stands in it is
+//! read, walked and converted item by item. A refused call gives a
 //! [`Refusal`]: a [`Number`] with its meaning in words, and the place. A
 //! stream longer than [`Form::limit`] is refused.
 //!
@@ -76,6 +79,7 @@ mod expectation;
 mod form;
 mod group;
 mod indexed;
+mod mixed;
 mod names;
 mod primitive;
 mod refusal;
@@ -91,6 +95,10 @@ pub use group::{write_group, write_group_into, Builder};
 pub use indexed::{
     read_indexed, read_indexed_text_into, write_indexed, write_indexed_into, IndexedCode,
     IndexedItem, ParseIndexedCodeError,
+};
+pub use mixed::{
+    judge_mixed, judge_mixed_into, judge_mixed_with, ItemForm, JsonHead, MixedItem, MixedItems,
+    MixedReport,
 };
 pub use primitive::{
     read, read_binary_into, read_text_into, write, write_into, write_variable, write_variable_into,

@@ -1,8 +1,9 @@
 // Made by tools/numbers from include/numbers.txt: change that, and make it anew.
 numbers! {
-    /// Stream longer than 4,194,304 characters or 3,145,728 bytes.
+    /// Stream longer than 4,194,304 characters or 3,145,728 bytes, a mixed one
+    /// than 4,194,304 bytes.
     TooLong = 1,
-    "stream longer than 4,194,304 characters or 3,145,728 bytes";
+    "stream longer than 4,194,304 characters or 3,145,728 bytes, a mixed one than 4,194,304 bytes";
     /// Whole-stream conversion: not whole units.
     NotWholeUnits = 2,
     "whole-stream conversion: not whole units";
@@ -49,6 +50,10 @@ numbers! {
     /// Type `A` without its full fill, or text that itself starts with `A`.
     TextFill = 16,
     "type `A` without its full fill, or text that itself starts with `A`";
+    /// Mixed stream: first byte not `-`, F8 to FB or `{`, or a JSON header that
+    /// is malformed or states a length below 23.
+    MixedStart = 17,
+    "mixed stream: first byte not `-`, F8 to FB or `{`, or a JSON header that is malformed or states a length below 23";
     /// Large variable code or large group whose size fits the small code.
     NotShort = 18,
     "large variable code or large group whose size fits the small code";

@@ -142,18 +142,12 @@ impl<'a> Report<'a> {
 
     /// One row for each refused item, in stream order.
     pub fn refusals(&self) -> Refusals<'_> {
-        Refusals(self.sections().refusals.chunks_exact(ROW))
+        Refusals::over(self.sections().refusals)
     }
 
     /// What could not be framed, if anything.
     pub fn remainder(&self) -> Option<Remainder> {
-        let &[a, b, c, d, number] = self.sections().remainder else {
-            return None;
-        };
-        Some(Remainder {
-            offset: quad([a, b, c, d]),
-            number: Number::answered(number),
-        })
+        remainder_of(self.sections().remainder)
     }
 
     /// The number of accepted items.
@@ -245,8 +239,25 @@ pub(crate) fn section(bytes: &[u8], row: usize) -> (&[u8], &[u8]) {
     rest.split_at_checked(length).unwrap_or_default()
 }
 
-fn quad(bytes: [u8; 4]) -> usize {
+pub(crate) fn quad(bytes: [u8; 4]) -> usize {
     usize::try_from(u32::from_be_bytes(bytes)).unwrap_or(usize::MAX)
+}
+
+pub(crate) fn remainder_of(row: &[u8]) -> Option<Remainder> {
+    let &[a, b, c, d, number] = row else {
+        return None;
+    };
+    Some(Remainder {
+        offset: quad([a, b, c, d]),
+        number: Number::answered(number),
+    })
+}
+
+pub(crate) const fn verdict_of(byte: u8) -> Verdict {
+    match byte {
+        0 => Verdict::Accepted,
+        number => Verdict::Refused(Number::answered(number)),
+    }
 }
 
 /// A top-level item of a report.
@@ -330,7 +341,8 @@ impl fmt::Display for RefusalRow {
 pub struct Remainder {
     /// Where it starts.
     pub offset: usize,
-    /// Why nothing could be framed there: 4, 5, 6 or 7.
+    /// Why nothing could be framed there: 4, 5, 6, 7 or 19, in a mixed stream 17
+    /// too.
     pub number: Number,
 }
 
@@ -394,16 +406,19 @@ fn item_of(index: usize, row: &[u8]) -> Option<Item> {
         index,
         offset: quad([a, b, c, d]),
         size: quad([e, f, g, h]),
-        verdict: match verdict {
-            0 => Verdict::Accepted,
-            number => Verdict::Refused(Number::answered(number)),
-        },
+        verdict: verdict_of(verdict),
     })
 }
 
 /// The refusals of a report in stream order.
 #[derive(Clone, Debug)]
 pub struct Refusals<'r>(ChunksExact<'r, u8>);
+
+impl<'r> Refusals<'r> {
+    pub(crate) fn over(rows: &'r [u8]) -> Refusals<'r> {
+        Refusals(rows.chunks_exact(ROW))
+    }
+}
 
 impl Iterator for Refusals<'_> {
     type Item = RefusalRow;

@@ -1,8 +1,9 @@
 //! The command's arguments.
 
-use crate::engine::Engine;
+use crate::engine::{Engine, FIRST_ALONE};
 use crate::help;
 use crate::input::Source;
+use crate::kind::Kind;
 use crate::name::shown;
 use crate::pages::Asked;
 use crate::standing::Standing;
@@ -16,7 +17,7 @@ const COMMANDS: &str = "judge, convert, show, group, write, manifest, compare, e
 
 #[rustfmt::skip]
 const JUDGE: &[&str] = &[
-    "--form", "--engine", "--manifest", "--all", "--json", "--report", "--html", "--junit",
+    "--form", MIXED, "--engine", "--manifest", "--all", "--json", "--report", "--html", "--junit",
     "--sarif",
 ];
 
@@ -29,6 +30,9 @@ const WRITE: &[&str] = &[
 /// may be given with the `-` of a group.
 const LETTER: &str = "LETTER";
 const CODE: &str = "CODE";
+
+/// And one that says that the form may be mixed.
+const MIXED: &str = "MIXED";
 
 /// What is asked for.
 #[derive(Debug)]
@@ -47,7 +51,7 @@ pub enum Task {
 
 #[derive(Debug)]
 pub struct Judge {
-    pub form: Option<Form>,
+    pub form: Option<Kind>,
     pub engine: Engine,
     pub style: Style,
     pub manifest: Option<PathBuf>,
@@ -80,7 +84,7 @@ pub struct Convert {
 
 #[derive(Debug)]
 pub struct Show {
-    pub form: Option<Form>,
+    pub form: Option<Kind>,
     pub at: usize,
     pub source: Source,
 }
@@ -104,7 +108,7 @@ pub struct Write {
 
 #[derive(Debug)]
 pub struct Manifest {
-    pub form: Option<Form>,
+    pub form: Option<Kind>,
     pub sources: Vec<Source>,
 }
 
@@ -117,8 +121,8 @@ pub struct Compare {
 
 #[derive(Debug)]
 pub struct Expect {
-    /// Given, the source is a stream.
-    pub form: Option<Form>,
+    /// Given, the source is a stream; never a mixed one.
+    pub form: Option<Kind>,
     pub out: Option<PathBuf>,
     pub source: Source,
 }
@@ -126,7 +130,7 @@ pub struct Expect {
 /// All that a call can give.
 #[derive(Default)]
 struct Given {
-    form: Option<Form>,
+    form: Option<Kind>,
     engine: Option<Engine>,
     to: Option<Form>,
     out: Option<OsString>,
@@ -151,10 +155,10 @@ pub fn parse(mut arguments: impl Iterator<Item = OsString>) -> Result<Task, Stri
     let (task, allowed): (Made, &[&str]) = match command.to_str().unwrap_or_default() {
         "judge" => (judge, JUDGE),
         "convert" => (convert, &["--to", "--out"]),
-        "show" => (show, &["--form"]),
+        "show" => (show, &["--form", MIXED]),
         "group" => (group, &["--form", "--out", LETTER]),
         "write" => (write, WRITE),
-        "manifest" => (manifest, &["--form"]),
+        "manifest" => (manifest, &["--form", MIXED]),
         "compare" => (compare, &["--json"]),
         "expect" => (expect, &["--form", "--out"]),
         "numbers" => (|given| said(given, help::numbers()), &[]),
@@ -238,7 +242,7 @@ impl Given {
             value.ok_or_else(|| format!("{name} asks for a value"))
         };
         match name {
-            "--form" => once(name, &mut self.form, form(valued()?)?)?,
+            "--form" => once(name, &mut self.form, kind(valued()?, allowed)?)?,
             "--engine" => once(name, &mut self.engine, engine(valued()?)?)?,
             "--to" => once(name, &mut self.to, form(valued()?)?)?,
             "--out" => once(name, &mut self.out, valued()?)?,
@@ -313,6 +317,15 @@ fn form(name: OsString) -> Result<Form, String> {
     parsed.map_err(|wrong| format!("{wrong}, not {}", shown(&name)))
 }
 
+/// The form of a stream, which may be mixed where that is allowed.
+fn kind(name: OsString, allowed: &[&str]) -> Result<Kind, String> {
+    if !allowed.contains(&MIXED) {
+        return form(name).map(Kind::Cesr);
+    }
+    let parsed = name.to_str().unwrap_or_default().parse();
+    parsed.map_err(|wrong: &str| format!("{wrong}, not {}", shown(&name)))
+}
+
 fn engine(name: OsString) -> Result<Engine, String> {
     let known = Engine::named(name.to_str().unwrap_or_default());
     known.ok_or_else(|| {
@@ -336,6 +349,11 @@ fn judge(given: Given) -> Result<Task, String> {
         (false, false, true) => Style::Report,
         _ => return Err("--report goes with neither --json nor --all".to_string()),
     };
+    if given.form == Some(Kind::Mixed) && given.engine.is_some_and(|one| one != Engine::First) {
+        return Err(format!(
+            "--engine goes not with --form mixed: {FIRST_ALONE}"
+        ));
+    }
     let mut sources = given.sources;
     let inputs = sources.iter().filter(|one| **one == Source::Standard);
     match (inputs.count(), &given.manifest) {
@@ -390,8 +408,11 @@ fn show(given: Given) -> Result<Task, String> {
 }
 
 /// The form of what is written, which nothing tells.
-fn stated(command: &str, form: Option<Form>) -> Result<Form, String> {
-    form.ok_or_else(|| format!("{command} asks for --form text or --form binary"))
+fn stated(command: &str, form: Option<Kind>) -> Result<Form, String> {
+    match form {
+        Some(Kind::Cesr(form)) => Ok(form),
+        _ => Err(format!("{command} asks for --form text or --form binary")),
+    }
 }
 
 fn group(given: Given) -> Result<Task, String> {

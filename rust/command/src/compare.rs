@@ -81,9 +81,29 @@ fn compared(task: &Compare, expected: &[u8], report: &[u8]) -> Found {
     }
 }
 
-/// The refusal, and what to do with what looks like text.
+/// Do these bytes read as the report of a mixed stream, whose items have rows of
+/// ten bytes?
+fn is_of_mixed(bytes: &[u8]) -> bool {
+    let mut rest = bytes;
+    for width in [10, 9, 5] {
+        let Some((count, behind)) = rest.split_first_chunk() else {
+            return false;
+        };
+        let count = usize::try_from(u32::from_be_bytes(*count)).unwrap_or(usize::MAX);
+        let Some(behind) = behind.get(count.saturating_mul(width)..) else {
+            return false;
+        };
+        rest = behind;
+    }
+    rest.is_empty()
+}
+
+/// The refusal, and what to do with what looks like text or is of a mixed stream.
 fn refused(source: &Source, bytes: &[u8], refusal: Refusal, made: &str) {
     let mut said = format!("{}: {refusal}", source.name());
+    if is_of_mixed(bytes) {
+        said.push_str("\n        it reads as the report of a mixed stream, and compare reads none");
+    }
     if !bytes.is_empty() && Form::told_from(bytes) == Form::Text {
         said.push_str(&format!("\n        it looks like text: {made}"));
     }

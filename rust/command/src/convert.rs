@@ -87,7 +87,12 @@ pub fn to_file(path: &Path, bytes: &[u8]) -> io::Result<Standing> {
 /// The refusal; where it has a place in the stream, with the bytes there, and
 /// what is to be told of it or seen from them. What makes units not whole is
 /// looked for at the end.
-pub fn explained(input: &Input, refusal: Refusal, is_placed: bool, told: Option<String>) -> String {
+pub fn explained(
+    input: &Input<Form>,
+    refusal: Refusal,
+    is_placed: bool,
+    told: Option<String>,
+) -> String {
     let mut text = refusal.to_string();
     let mut place = input.bytes.len().saturating_sub(1);
     if is_placed {
@@ -96,7 +101,9 @@ pub fn explained(input: &Input, refusal: Refusal, is_placed: bool, told: Option<
         text.push('\n');
         text.push_str(lines.unwrap_or_default().trim_end());
     }
-    let note = told.or_else(|| readable::note(input, refusal.number, place));
+    let number = refusal.number;
+    let seen = || readable::note(input.form, &input.bytes, Refusal { number, place });
+    let note = told.or_else(seen);
     if let Some(note) = note {
         text.push_str(&format!("\n        {note}"));
     }

@@ -1,9 +1,11 @@
 //! `--engine`: which of the library's two engines judges. By both, a stream has
-//! an answer only where they give the same.
+//! an answer only where they give the same. A mixed stream is the first one's.
 
+use crate::judged::Judged;
+use crate::kind::Kind;
 use crate::memory;
 use crate::outcome::no_memory;
-use cesr::{difference, Form, Refusal, Report};
+use cesr::{difference, Form, MixedReport, Refusal, Report};
 
 #[derive(Clone, Copy, Debug, Default, PartialEq, Eq)]
 pub enum Engine {
@@ -14,8 +16,11 @@ pub enum Engine {
     Both,
 }
 
-/// What an engine says of a stream.
-pub type Answer = Result<Report<'static>, Refusal>;
+/// What an engine says of a text or a binary.
+type Answer = Result<Report<'static>, Refusal>;
+
+/// Why no other engine judges a mixed stream.
+pub const FIRST_ALONE: &str = "a mixed stream is judged by the first engine alone";
 
 impl Engine {
     pub fn named(name: &str) -> Option<Engine> {
@@ -47,7 +52,22 @@ impl Engine {
     }
 
     /// The answer to a stream; in words, why there is none.
-    pub fn answer(self, form: Form, stream: &[u8]) -> Result<Answer, String> {
+    pub fn answer(self, kind: Kind, stream: &[u8]) -> Result<Result<Judged, Refusal>, String> {
+        let answer = match (kind, self) {
+            (Kind::Cesr(form), _) => {
+                let answer = self.of_form(form, stream)?;
+                answer.map(|report| Judged::Cesr(form, report))
+            }
+            (Kind::Mixed, Engine::First) => {
+                let room = room(MixedReport::room(stream.len()))?;
+                cesr::judge_mixed_with(stream, room).map(Judged::Mixed)
+            }
+            (Kind::Mixed, _) => return Err(format!("{FIRST_ALONE}: nothing was judged")),
+        };
+        Ok(answer)
+    }
+
+    fn of_form(self, form: Form, stream: &[u8]) -> Result<Answer, String> {
         match self {
             Engine::First => first(form, stream),
             Engine::Second => second(form, stream),
@@ -99,14 +119,19 @@ mod tests {
     fn outcome(first: Answer, second: Answer) -> Outcome {
         let input = Input {
             bytes: b"MAAB".to_vec(),
-            form: Form::Text,
+            form: Kind::Cesr(Form::Text),
             detected: false,
         };
         Outcome {
             name: Name::StandardInput,
             engine: Engine::Both,
-            found: outcome::found(input, agreed(first, second)),
+            found: outcome::found(input, formed(agreed(first, second))),
         }
+    }
+
+    /// As a text's.
+    fn formed(agreed: Result<Answer, String>) -> Result<Result<Judged, Refusal>, String> {
+        agreed.map(|answer| answer.map(|report| Judged::Cesr(Form::Text, report)))
     }
 
     #[test]
@@ -151,11 +176,21 @@ mod tests {
     fn every_engine_answers_the_same() {
         for stream in ["", "MAAB", "MQAA", "-AAB0AAAMAAB", "MAABMA!!"] {
             for form in [Form::Text, Form::Binary] {
-                let answer = |engine: Engine| engine.answer(form, stream.as_bytes());
+                let answer = |engine: Engine| engine.of_form(form, stream.as_bytes());
                 let first = answer(Engine::First);
                 assert_eq!(answer(Engine::Second), first);
                 assert_eq!(answer(Engine::Both), first);
             }
+        }
+    }
+
+    #[test]
+    fn a_mixed_stream_is_the_first_engines() {
+        let answer = |engine: Engine| engine.answer(Kind::Mixed, b"-AABMAAB");
+        assert!(matches!(answer(Engine::First), Ok(Ok(Judged::Mixed(_)))));
+        for engine in [Engine::Second, Engine::Both] {
+            let why = answer(engine).expect_err("no answer");
+            assert!(why.starts_with(FIRST_ALONE), "{why}");
         }
     }
 }

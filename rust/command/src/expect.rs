@@ -6,6 +6,8 @@ use crate::complain;
 use crate::convert::{failed, to_file};
 use crate::engine::Engine;
 use crate::input::{self, Input};
+use crate::judged::Judged;
+use crate::kind::{Kind, Told};
 use crate::outcome::{self, Found};
 use crate::standing::Standing;
 use crate::terminal::Progress;
@@ -53,8 +55,12 @@ fn told(input: Input) -> Result<(Expectation, String), String> {
         let verdicts = counted(list.verdicts.len(), "verdict");
         return Ok((list, format!("a list of {verdicts}")));
     }
+    if input.form == Kind::Mixed {
+        return Err(MIXED.to_string());
+    }
     let own = match outcome::judged(input, Engine::First) {
-        Found::Judged(_, report) => Expectation::of(&report),
+        Found::Judged(_, Judged::Cesr(_, report)) => Expectation::of(&report),
+        Found::Judged(_, Judged::Mixed(_)) => return Err(MIXED.to_string()),
         Found::Refused(_, refusal) => return Err(refusal.to_string()),
         Found::Unread(why) => return Err(why),
     };
@@ -68,6 +74,9 @@ fn told(input: Input) -> Result<(Expectation, String), String> {
         }
     }
 }
+
+/// Why there is no expectation of a mixed stream.
+const MIXED: &str = "a mixed stream, as it begins with {: compare reads no report of one";
 
 /// A number a line, then `remainder N` or nothing; or in words what is wrong.
 fn list(bytes: &[u8]) -> Result<Expectation, String> {

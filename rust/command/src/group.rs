@@ -8,7 +8,7 @@ use crate::standing::Standing;
 use crate::terminal::Progress;
 use crate::words::measured;
 use crate::{complain, memory, words};
-use cesr::{Code, Number, Refusal};
+use cesr::{Code, Form, Number, Refusal};
 use std::io::{self, Write};
 
 /// Room for the largest header of either form.
@@ -41,7 +41,7 @@ pub fn run(task: &Group, out: &mut dyn Write) -> io::Result<Standing> {
 }
 
 /// The refusal, with the bytes where it is of the body's items.
-fn refused(task: &Group, input: &Input, refusal: Refusal) -> String {
+fn refused(task: &Group, input: &Input<Form>, refusal: Refusal) -> String {
     let letter = task.letter;
     let shown = letter.escape_ascii();
     let is_known = Code::SmallGroup { letter }.name().is_some();

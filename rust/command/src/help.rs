@@ -6,28 +6,32 @@ use cesr::Number;
 pub const HELP: &str = "\
 cesr: judges, converts, shows, compares and writes CESR streams
 
-  cesr judge [--form text|binary] [--engine first|second|both] [--manifest LIST]
-             [--all] [--json | --report]
+  cesr judge [--form text|binary|mixed] [--engine first|second|both]
+             [--manifest LIST] [--all] [--json | --report]
              [--html FILE] [--junit FILE] [--sarif FILE] [--] [FILE...]
   cesr convert [--to text|binary] [--out FILE] [--] [FILE]
-  cesr show [--form text|binary] OFFSET [--] [FILE]
+  cesr show [--form text|binary|mixed] OFFSET [--] [FILE]
   cesr group --form text|binary LETTER [--out FILE] [--] [FILE]
   cesr write CODE --form text|binary [--index N] [--ondex N]
              [--raw HEX | --tag T | --text T] [--out FILE]
-  cesr manifest [--form text|binary] [--] FILE...
+  cesr manifest [--form text|binary|mixed] [--] FILE...
   cesr compare [--json] [--] EXPECTED [REPORT]
   cesr expect [--form text|binary] [--out FILE] [--] [FILE]
   cesr numbers
 
 judge     One FILE: items, accepted, refused, remainder; then refused items, eight
           at most, with number, meaning, place and bytes. Many: a line each and a
-          total.
-          --all       every item with its code's name and every refused one
+          total. A mixed stream has groups in text and in binary, and JSON, at
+          its top level by turns; the bodies of JSON items are not judged, and
+          every output says so.
+          --all       every item with its code's name and every refused one; in a
+                      mixed stream with its form, of JSON protocol and version
           --json      one object a line, for machines; with --all every item too
           --report    the report's bytes
           --engine    second judges by a plain engine that shares little with the
                       first; both by either, and where their reports differ that
-                      is an error and nothing is passed
+                      is an error and nothing is passed. A mixed stream is judged
+                      by the first alone
           --manifest  the streams of LIST, or the given ones held against it: 0
                       only if every stream of LIST is there, is the one that is
                       listed, and passed
@@ -56,8 +60,8 @@ write     One item, to standard output or --out FILE. With --index it is an inde
           --index, --ondex   places in the current and in the next key list
 manifest  A line for each FILE: SHA256 LENGTH FORM NAME. Names in a manifest are
           relative to its folder. It looks at no codes.
-compare   An expectation file held against a report's bytes (judge --report): how
-          many verdicts passed, failed or were not reached, items beyond them,
+compare   An expectation file held against a report's bytes (judge --report, of a
+          text or a binary): how many verdicts passed, failed or were not reached, items beyond them,
           and whether the remainders agree. --json: one object.
 expect    An expectation file, of a stream's own verdicts, or of a list: a number
           a line, 0 for accepted, then 'remainder N' or nothing. With --form it
@@ -67,9 +71,10 @@ numbers   What each number of a refusal means.
 No FILE or REPORT, or -, is standard input. Behind -- every word is a file's name, - too:
 put it before names that come from a list or a pattern. Without it a word that
 could be an option and is a file's name is an error. Without --form the form is
-detected from the first sixteen bytes (text if all are printable), and the output
-says so; group and write guess nothing. Items are counted from 0. Offsets, sizes
-and places count characters in text and bytes in binary, from 0 too.
+detected from the first sixteen bytes (text if all are printable; judge, show and
+manifest take a stream that begins with { for mixed), and the output says so; group
+and write guess nothing. Items are counted from 0. Offsets, sizes and places count
+characters in text and bytes in binary and mixed streams, from 0 too.
 
 Exit status
   0  every byte of every stream lies in an accepted item

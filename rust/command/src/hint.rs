@@ -102,6 +102,11 @@ const WORDS: &[(Number, &str, &str)] = &[
         "text filled up behind its end, or another selector than its length asks for",
     ),
     (
+        Number::MixedStart,
+        "No item of a mixed stream starts like this.",
+        "a value outside a group, a line feed, or JSON without a version 1 string",
+    ),
+    (
         Number::NotShort,
         "A large code stands where the small one has room.",
         "a writer that takes the large code for every size",

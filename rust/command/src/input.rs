@@ -1,6 +1,7 @@
 //! Streams from files and standard input, never more of them than one byte
 //! past the limit, and none that changed on the way.
 
+use crate::kind::{Kind, Told};
 use crate::name::Name;
 use crate::terminal::Progress;
 use crate::watch::Watch;
@@ -31,16 +32,16 @@ impl Source {
     }
 }
 
-/// A stream as far as it was read.
+/// A stream as far as it was read: to be judged as some kind, or read in a form.
 #[derive(Debug)]
-pub struct Input {
+pub struct Input<K = Kind> {
     pub bytes: Vec<u8>,
-    pub form: Form,
+    pub form: K,
     /// Was the form guessed from the first bytes?
     pub detected: bool,
 }
 
-impl Input {
+impl<K: Told> Input<K> {
     /// Form, and whether it was guessed.
     pub fn form_in_words(&self) -> String {
         match self.detected {
@@ -56,7 +57,11 @@ impl Input {
 }
 
 /// Reads a stream, or says in words why it could not be read.
-pub fn read(source: &Source, form: Option<Form>, progress: &mut Progress) -> Result<Input, String> {
+pub fn read<K: Told>(
+    source: &Source,
+    form: Option<K>,
+    progress: &mut Progress,
+) -> Result<Input<K>, String> {
     let input = match source {
         Source::Standard => typed_or_piped(form, progress),
         Source::File(path) => whole(path, form, progress),
@@ -66,7 +71,7 @@ pub fn read(source: &Source, form: Option<Form>, progress: &mut Progress) -> Res
 }
 
 /// What is typed ends without a line feed, so that the report needs a new line.
-fn typed_or_piped(form: Option<Form>, progress: &mut Progress) -> io::Result<Input> {
+fn typed_or_piped<K: Told>(form: Option<K>, progress: &mut Progress) -> io::Result<Input<K>> {
     let typed = progress.waits();
     let standard = io::stdin();
     let watch = Watch::begin(File::from(standard.as_fd().try_clone_to_owned()?), None)?;
@@ -77,31 +82,31 @@ fn typed_or_piped(form: Option<Form>, progress: &mut Progress) -> io::Result<Inp
     steady(&watch, input?)
 }
 
-fn whole(path: &Path, form: Option<Form>, progress: &mut Progress) -> io::Result<Input> {
+fn whole<K: Told>(path: &Path, form: Option<K>, progress: &mut Progress) -> io::Result<Input<K>> {
     let mut file = File::open(path)?;
     let watch = Watch::begin(file.try_clone()?, Some(path))?;
     steady(&watch, limited(&mut file, form, progress)?)
 }
 
-fn steady(watch: &Watch, input: Input) -> io::Result<Input> {
+fn steady<K: Told>(watch: &Watch, input: Input<K>) -> io::Result<Input<K>> {
     watch.end(input.bytes.len(), past(input.form))?;
     Ok(input)
 }
 
 /// One byte past the limit, which is enough for the library to refuse.
-fn past(form: Form) -> usize {
+fn past(form: impl Told) -> usize {
     form.limit().saturating_add(1)
 }
 
-fn limited(
+fn limited<K: Told>(
     reader: &mut dyn Read,
-    form: Option<Form>,
+    form: Option<K>,
     progress: &mut Progress,
-) -> io::Result<Input> {
+) -> io::Result<Input<K>> {
     let mut bytes = Vec::new();
     let ended = filled(reader, &mut bytes, Form::TELLING, progress)?;
     let detected = form.is_none();
-    let form = form.unwrap_or_else(|| Form::told_from(&bytes));
+    let form = form.unwrap_or_else(|| K::told_from(&bytes));
     if !ended {
         filled(reader, &mut bytes, past(form), progress)?;
     }

@@ -1,11 +1,13 @@
 //! A stream's outcome for machines: one object on one line.
 
 use crate::input::Input;
+use crate::judged::Judged;
+use crate::kind::Kind;
 use crate::memory::Gathered;
 use crate::name::is_seen;
 use crate::outcome::{code_and_name, Found, Outcome};
 use crate::sha256;
-use cesr::{Item, Number, RefusalRow, Remainder, Report};
+use cesr::{ItemForm, MixedItem, Number, RefusalRow, Remainder};
 use std::io::{self, Write};
 
 /// One line, to be written at once: lines of calls that share a file stay
@@ -48,18 +50,21 @@ fn form(out: &mut dyn Write, input: &Input) -> io::Result<()> {
     write!(out, ",\"form\":\"{form}\",\"detected\":{detected}")
 }
 
-fn judged(out: &mut dyn Write, input: &Input, report: &Report, all: bool) -> io::Result<()> {
+fn judged(out: &mut dyn Write, input: &Input, report: &Judged, all: bool) -> io::Result<()> {
     form(out, input)?;
     write!(out, ",\"length\":{}", input.bytes.len())?;
     write!(out, ",\"sha256\":\"{}\"", sha256::of(&input.bytes))?;
     write!(out, ",\"items\":{}", report.items().len())?;
     write!(out, ",\"accepted\":{}", report.accepted())?;
     write!(out, ",\"refused\":{}", report.refused())?;
+    if let Some(bodies) = report.unjudged() {
+        write!(out, ",\"unjudged_json_bodies\":{bodies}")?;
+    }
     listed(out, "refusals", report.refusals(), |out, row| {
         refusal(out, input, report, &row)
     })?;
     match report.remainder() {
-        Some(rest) => remainder(out, input, rest)?,
+        Some(rest) => remainder(out, input, report, rest)?,
         None => write!(out, ",\"remainder\":null")?,
     }
     let zeros = input.is_all_zeros();
@@ -88,18 +93,38 @@ fn listed<T>(
     write!(out, "]")
 }
 
-/// An item's place in the stream and its code.
-fn item(out: &mut dyn Write, input: &Input, item: &Item) -> io::Result<()> {
-    let (code, name) = code_and_name(input.form, item.of(&input.bytes));
-    let Item { offset, size, .. } = item;
+/// An item's place in the stream and its code. In a mixed stream it has its own
+/// form, and JSON its protocol and version.
+fn item(out: &mut dyn Write, input: &Input, item: &MixedItem) -> io::Result<()> {
+    let MixedItem {
+        offset, size, form, ..
+    } = item;
     write!(out, ",\"offset\":{offset},\"size\":{size}")?;
-    write!(out, ",\"code\":{},\"name\":{}", quoted(&code), quoted(name))
+    if input.form == Kind::Mixed {
+        let form = form.to_string().to_lowercase();
+        write!(out, ",\"form\":\"{form}\"")?;
+    }
+    if *form == ItemForm::Json {
+        let head = item.json(&input.bytes);
+        let [protocol, version] = head
+            .as_ref()
+            .map_or(["", ""], |head| [head.protocol(), head.version()]);
+        let [protocol, version] = [protocol, version].map(quoted);
+        return write!(out, ",\"protocol\":{protocol},\"version\":{version}");
+    }
+    let (code, name) = code_and_name(item, &input.bytes);
+    write!(
+        out,
+        ",\"code\":{},\"name\":{}",
+        quoted(&code),
+        quoted(&name)
+    )
 }
 
 fn refusal(
     out: &mut dyn Write,
     input: &Input,
-    report: &Report,
+    report: &Judged,
     row: &RefusalRow,
 ) -> io::Result<()> {
     write!(out, "{{\"item\":{}", row.index)?;
@@ -110,8 +135,13 @@ fn refusal(
     write!(out, ",{why},\"place\":{}}}", row.refusal.place)
 }
 
-fn remainder(out: &mut dyn Write, input: &Input, rest: Remainder) -> io::Result<()> {
-    let place = rest.refusal(input.form, &input.bytes).place;
+fn remainder(
+    out: &mut dyn Write,
+    input: &Input,
+    report: &Judged,
+    rest: Remainder,
+) -> io::Result<()> {
+    let place = report.refusal_of(rest, &input.bytes).place;
     let length = input.bytes.len().saturating_sub(rest.offset);
     let why = why(rest.number);
     write!(out, ",\"remainder\":{{\"offset\":{}", rest.offset)?;
@@ -119,7 +149,7 @@ fn remainder(out: &mut dyn Write, input: &Input, rest: Remainder) -> io::Result<
 }
 
 /// A row of the report: 0 for accepted, else the number.
-fn row(out: &mut dyn Write, input: &Input, row: &Item) -> io::Result<()> {
+fn row(out: &mut dyn Write, input: &Input, row: &MixedItem) -> io::Result<()> {
     write!(out, "{{\"item\":{}", row.index)?;
     item(out, input, row)?;
     let verdict = row.verdict.number().map_or(0, Number::get);

@@ -4,6 +4,7 @@
 use crate::arguments::Manifest;
 use crate::complain;
 use crate::input::{self, Input};
+use crate::kind::Told;
 use crate::manifest::Entry;
 use crate::standing::Standing;
 use crate::terminal::Progress;

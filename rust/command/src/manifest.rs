@@ -1,8 +1,8 @@
 //! A manifest: the streams that are expected, a line for each. A line is
 //! `SHA256 LENGTH FORM NAME`, and names are escaped as `sha256sum` does it.
 
+use crate::kind::Kind;
 use crate::sha256::{self, Digest};
-use cesr::Form;
 use std::ffi::{OsStr, OsString};
 use std::os::unix::ffi::{OsStrExt, OsStringExt};
 
@@ -11,7 +11,7 @@ use std::os::unix::ffi::{OsStrExt, OsStringExt};
 pub struct Entry {
     digest: Digest,
     length: usize,
-    pub form: Form,
+    pub form: Kind,
     pub name: OsString,
 }
 
@@ -32,7 +32,7 @@ pub fn parse(text: &[u8]) -> Vec<Result<Entry, &'static str>> {
 
 impl Entry {
     /// The entry of a stream as it is now.
-    pub fn new(bytes: &[u8], form: Form, name: &OsStr) -> Entry {
+    pub fn new(bytes: &[u8], form: Kind, name: &OsStr) -> Entry {
         Entry {
             digest: sha256::of(bytes),
             length: bytes.len(),
@@ -146,11 +146,12 @@ fn unescaped(name: &[u8]) -> Option<Vec<u8>> {
 #[cfg(test)]
 mod tests {
     use super::*;
+    use cesr::Form;
 
     const ABC: &str = "ba7816bf8f01cfea414140de5dae2223b00361a396177a9cb410ff61f20015ad";
 
     fn parsed(name: &[u8]) -> Entry {
-        Entry::new(b"abc", Form::Text, OsStr::from_bytes(name))
+        Entry::new(b"abc", Kind::Cesr(Form::Text), OsStr::from_bytes(name))
     }
 
     /// Names as `sha256sum` writes them, there and back.
@@ -176,6 +177,15 @@ mod tests {
     }
 
     #[test]
+    fn a_line_of_each_form() {
+        for form in [Form::Text.into(), Form::Binary.into(), Kind::Mixed] {
+            let entry = Entry::new(b"abc", form, OsStr::new("a"));
+            assert_eq!(entry.line(), format!("{ABC} 3 {form} a\n").into_bytes());
+            assert_eq!(parse(&entry.line()), [Ok(entry)]);
+        }
+    }
+
+    #[test]
     fn lines_that_are_none() {
         let short = &ABC[1..];
         for line in [
@@ -186,7 +196,8 @@ mod tests {
             format!("{ABC}  3 text a"),
             format!("{ABC} +3 text a"),
             format!("{ABC}  text a"),
-            format!("{ABC} 3 mixed a"),
+            format!("{ABC} 3 Mixed a"),
+            format!("{ABC} 3 json a"),
             format!("{ABC} 99999999999999999999 text a"),
             format!("{short} 3 text a"),
             format!(" {ABC} 3 text a"),

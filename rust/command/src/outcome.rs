@@ -1,14 +1,16 @@
 //! A stream judged: what came of it.
 
-use crate::engine::{Answer, Engine};
+use crate::engine::Engine;
 use crate::expected::Case;
 use crate::input::{self, Input};
+use crate::judged::Judged;
+use crate::kind::{Kind, Told};
 use crate::manifest::Entry;
 use crate::name::Name;
 use crate::standing::Standing;
 use crate::terminal::Progress;
 use crate::words;
-use cesr::{Form, Head, Refusal, Report};
+use cesr::{Head, ItemForm, MixedItem, Refusal};
 use std::io;
 
 /// A stream's name and what came of it.
@@ -21,7 +23,7 @@ pub struct Outcome {
 
 #[derive(Debug)]
 pub enum Found {
-    Judged(Input, Report<'static>),
+    Judged(Input, Judged),
     /// The library refused the call.
     Refused(Input, Refusal),
     /// In words, why nothing was judged, or why no verdict is believed.
@@ -29,7 +31,7 @@ pub enum Found {
 }
 
 impl Outcome {
-    pub fn of(case: Case, form: Option<Form>, engine: Engine, progress: &mut Progress) -> Outcome {
+    pub fn of(case: Case, form: Option<Kind>, engine: Engine, progress: &mut Progress) -> Outcome {
         let (name, found) = match case {
             Case::Trouble(name, why) => (name, Found::Unread(why)),
             Case::Stream(source, listed) => {
@@ -97,7 +99,7 @@ pub fn judged(input: Input, engine: Engine) -> Found {
 }
 
 /// What comes of a stream by the answer to it, or by why there is none.
-pub fn found(input: Input, answer: Result<Answer, String>) -> Found {
+pub fn found(input: Input, answer: Result<Result<Judged, Refusal>, String>) -> Found {
     match answer {
         Ok(Ok(report)) => Found::Judged(input, report),
         Ok(Err(refusal)) => Found::Refused(input, refusal),
@@ -109,10 +111,21 @@ pub fn no_memory(error: &io::Error) -> String {
     format!("{}: nothing was judged", words::of_error(error))
 }
 
-/// The characters and the name of the code at the head of a framed item.
-pub fn code_and_name(form: Form, item: &[u8]) -> (String, &'static str) {
-    match Head::of(form, item) {
-        Some(head) => (head.to_string(), head.name().unwrap_or_default()),
-        None => (String::new(), ""),
+/// The characters and the name of the code at the head of a framed item; of a
+/// JSON item its protocol, and what is to be said of it.
+pub fn code_and_name(item: &MixedItem, stream: &[u8]) -> (String, String) {
+    let ItemForm::Cesr(form) = item.form else {
+        let head = item.json(stream);
+        return head.map_or_else(Default::default, |head| {
+            let said = format!("version {}, its body not judged", head.version());
+            (head.protocol().to_string(), said)
+        });
+    };
+    match Head::of(form, item.of(stream)) {
+        Some(head) => {
+            let name = head.name().unwrap_or_default();
+            (head.to_string(), name.to_string())
+        }
+        None => Default::default(),
     }
 }

@@ -4,8 +4,8 @@
 //! For display only, and by the library's answers alone.
 
 use crate::inner::{innermost, is_indexed, position, Inner};
-use crate::input::Input;
-use cesr::{judge, Form, Head, Item, Refusal, Step, Walk};
+use crate::part::Part;
+use cesr::{judge, Head, Item, Refusal, Step, Walk};
 
 /// What is known of an offset.
 #[derive(Debug, Default)]
@@ -17,23 +17,33 @@ pub struct Place {
 }
 
 impl Place {
-    pub fn of(input: &Input, at: usize) -> Place {
-        let Ok(report) = judge(input.form, &input.bytes) else {
+    pub fn of(part: &Part, at: usize) -> Place {
+        let Ok(report) = judge(part.form, part.bytes) else {
             return Place::default();
         };
-        if let Some(item) = report.items().find(|item| item.range().contains(&at)) {
-            return Place::within(input, &item, at);
+        let on = |item: Item| {
+            let offset = item.offset.saturating_add(part.start);
+            Item { offset, ..item }
+        };
+        if let Some(item) = report
+            .items()
+            .map(on)
+            .find(|item| item.range().contains(&at))
+        {
+            return Place::within(part, &item, at);
         }
-        let rest = report.remainder().map(|rest| rest.offset);
-        let rest = rest.filter(|rest| (*rest..input.bytes.len()).contains(&at) && *rest < at);
+        let rest = report
+            .remainder()
+            .map(|rest| rest.offset.saturating_add(part.start));
+        let rest = rest.filter(|rest| (*rest..part.end()).contains(&at) && *rest < at);
         Place {
             said: rest.map(|rest| format!("of no item: in the remainder from {rest}")),
             signatures: None,
         }
     }
 
-    fn within(input: &Input, item: &Item, at: usize) -> Place {
-        let walked = Walked::of(input.form, item, &input.bytes, at);
+    fn within(part: &Part, item: &Item, at: usize) -> Place {
+        let walked = Walked::of(part, item, at);
         let group = |end: Option<usize>| end.filter(|end| at < *end);
         match (walked.last, walked.stop) {
             (Some((step, end)), _) if step.offset == at => Place {
@@ -42,7 +52,8 @@ impl Place {
             },
             (_, Some((refusal, end))) if walked.reached <= at => Place {
                 said: (walked.reached < at).then(|| {
-                    let inner = Inner::of(input.form, item.of(&input.bytes), item.offset);
+                    let bytes = part.of(item.range().start, item.range().end);
+                    let inner = Inner::of(part.form, bytes, item.offset);
                     behind(&inner, refusal, at)
                 }),
                 signatures: group(end),
@@ -68,9 +79,10 @@ struct Walked {
 }
 
 impl Walked {
-    fn of(form: Form, item: &Item, stream: &[u8], at: usize) -> Walked {
+    fn of(part: &Part, item: &Item, at: usize) -> Walked {
+        let (form, range) = (part.form, item.range());
         let on = |offset: usize| offset.saturating_add(item.offset);
-        let mut walk = Walk::new(form, item.of(stream));
+        let mut walk = Walk::new(form, part.of(range.start, range.end));
         let (mut last, mut stop) = (None, None);
         loop {
             let group = is_indexed(&walk).then(|| innermost(form, &walk)).flatten();

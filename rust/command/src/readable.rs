@@ -4,11 +4,16 @@ use crate::excerpt;
 use crate::hint;
 use crate::inner::Inner;
 use crate::input::Input;
+use crate::json_head;
+use crate::judged::Judged;
+use crate::kind::Kind;
 use crate::outcome::{code_and_name, Found, Outcome};
 use crate::standing::Standing;
 use crate::terminal::Paint;
 use crate::words::{counted, measured};
-use cesr::{Code, Form, Head, Item, Number, Refusal, RefusalRow, Remainder, Report, Verdict};
+use cesr::{
+    Code, Form, Head, ItemForm, MixedItem, Number, Refusal, RefusalRow, Remainder, Verdict,
+};
 use std::io::{self, Write};
 use std::ops::Range;
 
@@ -28,6 +33,7 @@ pub fn in_a_line(outcome: &Outcome) -> String {
             let detected = if input.detected { " (detected)" } else { "" };
             let mut parts = vec![format!("{}{detected}, {}", input.form, sums(report))];
             parts.extend(first_fault(report));
+            parts.extend(unjudged(report.unjudged().unwrap_or(0)));
             parts.extend(beware(input).map(str::to_string));
             parts.extend(outcome.engine.in_words().map(str::to_string));
             parts.join("; ")
@@ -46,7 +52,7 @@ fn word(standing: Standing, paint: Paint) -> String {
     }
 }
 
-pub fn sums(report: &Report) -> String {
+pub fn sums(report: &Judged) -> String {
     let items = counted(report.items().len(), "item");
     let (accepted, refused) = (report.accepted(), report.refused());
     let rest = match report.remainder() {
@@ -56,7 +62,21 @@ pub fn sums(report: &Report) -> String {
     format!("{items}, {accepted} accepted, {refused} refused, {rest}")
 }
 
-fn first_fault(report: &Report) -> Option<String> {
+/// The bodies that nobody judged, of so many JSON items.
+pub fn bodies(items: usize) -> Option<String> {
+    match items {
+        0 => None,
+        1 => Some("the body of 1 JSON item".to_string()),
+        _ => Some(format!("the bodies of {items} JSON items")),
+    }
+}
+
+/// The same for a line.
+pub fn unjudged(items: usize) -> Option<String> {
+    bodies(items).map(|bodies| format!("{bodies} not judged"))
+}
+
+fn first_fault(report: &Judged) -> Option<String> {
     let Refusal { number, place } = report.refusals().next()?.refusal;
     Some(format!("first refused {number} at {place}"))
 }
@@ -81,6 +101,9 @@ pub fn block(out: &mut dyn Write, outcome: &Outcome, all: bool, paint: Paint) ->
         Some(engine) => writeln!(out, ", judged {engine}")?,
         None => writeln!(out)?,
     }
+    if let Some(part) = unjudged(report.unjudged().unwrap_or(0)) {
+        writeln!(out, "        {part}")?;
+    }
     if let Some(part) = beware(input) {
         writeln!(out, "        {part}")?;
     }
@@ -99,7 +122,7 @@ pub fn block(out: &mut dyn Write, outcome: &Outcome, all: bool, paint: Paint) ->
     }
     match report.remainder() {
         Some(rest) => {
-            remainder(out, input, rest, paint)?;
+            remainder(out, input, report, rest, paint)?;
             hints.tell(out, rest.number)
         }
         None => Ok(()),
@@ -124,25 +147,36 @@ pub fn usually(out: &mut dyn Write, number: Number) -> io::Result<()> {
     writeln!(out, "        usually {}", hint::usually(number))
 }
 
-/// Every item with its code's name.
-fn table(out: &mut dyn Write, input: &Input, report: &Report, paint: Paint) -> io::Result<()> {
+/// Every item with its code's name; in a mixed stream with its form too, and of a
+/// JSON item protocol and version.
+fn table(out: &mut dyn Write, input: &Input, report: &Judged, paint: Paint) -> io::Result<()> {
+    let is_mixed = input.form == Kind::Mixed;
+    let form = if is_mixed { "form    " } else { "" };
     writeln!(out)?;
-    writeln!(out, "  item   offset     size  verdict     code  name")?;
+    writeln!(
+        out,
+        "  item   offset     size  verdict     {form}code  name"
+    )?;
     for item in report.items() {
-        let Item {
+        let MixedItem {
             index,
             offset,
             size,
             verdict,
+            form,
         } = item;
-        let (code, name) = code_and_name(input.form, item.of(&input.bytes));
+        let (code, name) = code_and_name(&item, &input.bytes);
+        let form = match is_mixed {
+            true => format!("{:<8}", form.to_string()),
+            false => String::new(),
+        };
         let verdict = match verdict {
             Verdict::Accepted => paint.good(&format!("{:<10}", "accepted")),
             Verdict::Refused(number) => paint.bad(&format!("refused {number:<2}")),
         };
         writeln!(
             out,
-            "{index:>6} {offset:>8} {size:>8}  {verdict}  {code:<4}  {name}"
+            "{index:>6} {offset:>8} {size:>8}  {verdict}  {form}{code:<4}  {name}"
         )?;
     }
     Ok(())
@@ -151,7 +185,7 @@ fn table(out: &mut dyn Write, input: &Input, report: &Report, paint: Paint) -> i
 fn refused(
     out: &mut dyn Write,
     input: &Input,
-    report: &Report,
+    report: &Judged,
     row: &RefusalRow,
     paint: Paint,
 ) -> io::Result<()> {
@@ -161,12 +195,28 @@ fn refused(
     let Some(item) = report.item(row.index) else {
         return Ok(());
     };
-    let (code, name) = code_and_name(input.form, item.of(&input.bytes));
+    let (code, name) = code_and_name(&item, &input.bytes);
     let size = measured(input.form, item.size);
-    writeln!(out, "        {code} {name}, {size} from {}", item.offset)?;
-    bytes_at(out, input, item.range(), row.refusal)?;
-    let inner = || Inner::of(input.form, item.of(&input.bytes), item.offset);
+    let form = formed(input, item.form);
+    writeln!(
+        out,
+        "        {form}{code} {name}, {size} from {}",
+        item.offset
+    )?;
+    let Some(form) = item.form.cesr() else {
+        return Ok(());
+    };
+    bytes_at(out, form, &input.bytes, item.range(), row.refusal)?;
+    let inner = || Inner::of(form, item.of(&input.bytes), item.offset);
     asked(out, inner, row.refusal)
+}
+
+/// An item's form in front of its code, where the stream is mixed.
+pub fn formed(input: &Input, form: ItemForm) -> String {
+    match input.form {
+        Kind::Mixed => format!("{form} "),
+        Kind::Cesr(_) => String::new(),
+    }
 }
 
 /// For 4: how much is asked for and how much is left.
@@ -180,59 +230,86 @@ pub fn asked(out: &mut dyn Write, inner: impl Fn() -> Inner, refusal: Refusal) -
     }
 }
 
-fn remainder(out: &mut dyn Write, input: &Input, rest: Remainder, paint: Paint) -> io::Result<()> {
+fn remainder(
+    out: &mut dyn Write,
+    input: &Input,
+    report: &Judged,
+    rest: Remainder,
+    paint: Paint,
+) -> io::Result<()> {
     let Remainder { offset, number } = rest;
-    let refusal = rest.refusal(input.form, &input.bytes);
+    let refusal = report.refusal_of(rest, &input.bytes);
+    let part = input.bytes.get(offset..).unwrap_or_default();
     let left = measured(input.form, input.bytes.len().saturating_sub(offset));
     let verdict = paint.bad(&format!("remainder {number} from {offset}"));
     writeln!(out, "\n{verdict}: {}", number.words())?;
     writeln!(out, "        {left} not judged")?;
-    bytes_at(out, input, offset..refusal.place, refusal)?;
-    let inner = || {
-        Inner::of(
-            input.form,
-            input.bytes.get(offset..).unwrap_or_default(),
-            offset,
-        )
-    };
-    asked(out, inner, refusal)
+    let form = shown_in(report.form_of(part));
+    bytes_at(out, form, &input.bytes, offset..refusal.place, refusal)?;
+    if let Some(note) = mixed_note(input, rest) {
+        writeln!(out, "        {note}")?;
+        if input.form == Kind::Mixed {
+            return Ok(());
+        }
+    }
+    asked(out, || Inner::of(form, part, offset), refusal)
 }
+
+/// JSON is shown as characters.
+pub fn shown_in(form: ItemForm) -> Form {
+    form.cesr().unwrap_or(Form::Text)
+}
+
+/// What is to be said of a remainder that begins with `{`: in a mixed stream what
+/// is wrong with it, and elsewhere that there are mixed streams.
+pub fn mixed_note(input: &Input, rest: Remainder) -> Option<String> {
+    let part = input.bytes.get(rest.offset..)?;
+    match input.form {
+        Kind::Mixed => json_head::note(rest.number, part, rest.offset),
+        Kind::Cesr(_) if part.first() == Some(&b'{') => Some(MIXED.to_string()),
+        Kind::Cesr(_) => None,
+    }
+}
+
+const MIXED: &str = "with { JSON may begin: --form mixed judges JSON and CESR by turns";
 
 /// The bytes of an item with a caret, and a note where one helps.
 pub fn bytes_at(
     out: &mut dyn Write,
-    input: &Input,
+    form: Form,
+    stream: &[u8],
     item: Range<usize>,
     refusal: Refusal,
 ) -> io::Result<()> {
-    let Refusal { number, place } = refusal;
-    let lines = excerpt::at(input.form, &input.bytes, item, place);
+    let lines = excerpt::at(form, stream, item, refusal.place);
     out.write_all(lines.unwrap_or_default().as_bytes())?;
-    match note(input, number, place) {
+    match note(form, stream, refusal) {
         Some(note) => writeln!(out, "        {note}"),
         None => Ok(()),
     }
 }
 
 /// What a person would ask next.
-pub fn note(input: &Input, number: Number, place: usize) -> Option<String> {
-    let byte = *input.bytes.get(place)?;
-    let ends_line = input.bytes.ends_with(b"\n");
-    let last = place.saturating_add(2) >= input.bytes.len();
-    match (number, input.form) {
-        _ if place == 0 && input.bytes.starts_with(b"\xEF\xBB\xBF") => {
+pub fn note(form: Form, stream: &[u8], refusal: Refusal) -> Option<String> {
+    let Refusal { number, place } = refusal;
+    let byte = *stream.get(place)?;
+    let ends_line = stream.ends_with(b"\n");
+    let last = place.saturating_add(2) >= stream.len();
+    match (number, form) {
+        _ if place == 0 && stream.starts_with(b"\xEF\xBB\xBF") => {
             Some("the stream opens with a byte order mark, which is no part of it".to_string())
         }
-        (Number::Character, _) => {
+        (Number::MixedStart, _) if byte == b'{' => None,
+        (Number::Character | Number::MixedStart, _) => {
             let kind = kind_of(byte);
             Some(format!(
                 "the byte at {place} is {byte:02X} hexadecimal{kind}"
             ))
         }
         (Number::OrdinaryBase64, _) => Some(format!("{} at {place}", url_safe(byte)?)),
-        (Number::TextFill, form) => fill(form, input.bytes.get(place..)?),
+        (Number::TextFill, form) => fill(form, stream.get(place..)?),
         (Number::NotShort, form) => {
-            let short = short_header(form, input.bytes.get(place..)?)?;
+            let short = short_header(form, stream.get(place..)?)?;
             Some(format!("the small code's header is {short}"))
         }
         (Number::PastEnd | Number::NotWholeUnits, Form::Text) if ends_line && last => {

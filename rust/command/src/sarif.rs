@@ -4,6 +4,7 @@
 use crate::hint;
 use crate::input::Input;
 use crate::json::quoted;
+use crate::judged::Judged;
 use crate::memory::Gathered;
 use crate::name::Name;
 use crate::outcome::{Found, Outcome};
@@ -12,7 +13,7 @@ use crate::sha256;
 use crate::standing::Standing;
 use crate::total::Total;
 use crate::words::measured;
-use cesr::{Number, Refusal, Report};
+use cesr::{Number, Refusal};
 use std::io::{self, Write};
 use std::ops::Range;
 use std::time::Duration;
@@ -93,6 +94,9 @@ impl Log {
                 ",\"form\":\"{}\",\"detected\":{}",
                 input.form, input.detected
             )?;
+            if let Some(bodies) = report.unjudged() {
+                write!(out, ",\"unjudgedJsonBodies\":{bodies}")?;
+            }
             if let Some(engine) = outcome.engine.word() {
                 write!(out, ",\"engine\":\"{engine}\"")?;
             }
@@ -102,7 +106,7 @@ impl Log {
         write!(out, ",\"properties\":{{\"outcome\":\"{word}\"}}}}")
     }
 
-    fn judged(&mut self, place: &Place, input: &Input, report: &Report) -> io::Result<()> {
+    fn judged(&mut self, place: &Place, input: &Input, report: &Judged) -> io::Result<()> {
         for row in report.refusals() {
             let Refusal { number, place: at } = row.refusal;
             let item = report.item(row.index).map(|item| item.range());
@@ -119,7 +123,7 @@ impl Log {
         let left = measured(input.form, input.bytes.len().saturating_sub(offset));
         let words = number.words();
         let said = format!("remainder {number} from {offset}, {words}; {left} not judged");
-        let more = format!("\"place\":{}", rest.refusal(input.form, &input.bytes).place);
+        let more = format!("\"place\":{}", report.refusal_of(rest, &input.bytes).place);
         let region = place.region(offset..input.bytes.len());
         self.result(place, number, &said, &region, &more)
     }

@@ -3,14 +3,17 @@
 use crate::arguments::Show;
 use crate::inner::Inner;
 use crate::input::{self, Input};
+use crate::judged::Judged;
+use crate::kind::{Kind, Told};
+use crate::part::Part;
 use crate::place::Place;
 use crate::standing::Standing;
 use crate::terminal::{Paint, Progress};
 use crate::words::measured;
 use crate::{complain, readable};
 use cesr::{
-    item_at, judge, read, read_indexed, Code, Form, Head, IndexedItem, Number, Primitive, Refusal,
-    Report, Step, Value, Walk,
+    judge, judge_mixed, Code, Form, Head, IndexedItem, ItemForm, MixedItem, Number, Primitive,
+    Refusal, Remainder, Report, Step, Value, Walk,
 };
 use std::io::{self, Write};
 
@@ -38,38 +41,150 @@ pub fn run(task: &Show, out: &mut dyn Write) -> io::Result<Standing> {
             return Ok(Standing::Error);
         }
     };
-    match item_at(input.form, &input.bytes, task.at) {
-        Err(refusal) if refusal.number == Number::TooLong => {
-            complain(&format!("{name}: {refusal}"));
-            Ok(Standing::Error)
-        }
-        answer => {
-            writeln!(out, "stream   {name}: {}", input.form_in_words())?;
-            writeln!(out, "offset   {}", task.at)?;
-            let place = Place::of(&input, task.at);
-            if let Some(said) = &place.said {
-                writeln!(out, "start    {said}")?;
-            }
-            let verdict = match place.signatures {
-                Some(end) => signature(out, &input, task.at, end)?,
-                None => shown(out, &input, task.at, answer)?,
-            };
-            tell(out, &input, task.at, &place, verdict)
+    if input.bytes.len() > input.form.limit() {
+        let (number, place) = (Number::TooLong, 0);
+        complain(&format!("{name}: {}", Refusal { number, place }));
+        return Ok(Standing::Error);
+    }
+    writeln!(out, "stream   {name}: {}", input.form_in_words())?;
+    writeln!(out, "offset   {}", task.at)?;
+    match input.form {
+        Kind::Mixed => mixed(out, &input, task.at),
+        Kind::Cesr(form) => {
+            let bytes = &input.bytes[..];
+            let start = 0;
+            of_part(out, &input, Part { form, bytes, start }, task.at)
         }
     }
+}
+
+/// An offset of a mixed stream: in which item it lies, or that it lies in none.
+fn mixed(out: &mut dyn Write, input: &Input, at: usize) -> io::Result<Standing> {
+    let report = match judge_mixed(&input.bytes) {
+        Ok(report) => Judged::Mixed(report),
+        // Its length was looked at, and the room is enough.
+        Err(refusal) => {
+            complain(&refusal.to_string());
+            return Ok(Standing::Error);
+        }
+    };
+    if let Some(item) = report.items().find(|item| item.range().contains(&at)) {
+        return of_item(out, input, &item, at);
+    }
+    match report.remainder() {
+        Some(rest) if at < input.bytes.len() => of_remainder(out, input, &report, rest, at),
+        _ => {
+            let (number, place) = (Number::PastEnd, at);
+            refused(out, Refusal { number, place })?;
+            readable::usually(out, number)?;
+            Ok(Standing::Failed)
+        }
+    }
+}
+
+fn of_item(
+    out: &mut dyn Write,
+    input: &Input,
+    item: &MixedItem,
+    at: usize,
+) -> io::Result<Standing> {
+    let (index, start) = (item.index, item.offset);
+    let size = measured(Kind::Mixed, item.size);
+    writeln!(out, "item     {index}: {}, {size} from {start}", item.form)?;
+    match item.form {
+        ItemForm::Json => json(out, input, item, at),
+        ItemForm::Cesr(form) => {
+            let bytes = item.of(&input.bytes);
+            of_part(out, input, Part { form, bytes, start }, at)
+        }
+    }
+}
+
+fn of_remainder(
+    out: &mut dyn Write,
+    input: &Input,
+    report: &Judged,
+    rest: Remainder,
+    at: usize,
+) -> io::Result<Standing> {
+    writeln!(out, "item     none: {rest}")?;
+    let start = rest.offset;
+    let bytes = input.bytes.get(start..).unwrap_or_default();
+    match report.form_of(bytes) {
+        ItemForm::Cesr(form) if rest.number != Number::MixedStart => {
+            of_part(out, input, Part { form, bytes, start }, at)
+        }
+        _ => no_item(out, input, rest, at),
+    }
+}
+
+/// A JSON item, which has a header and a body that is not judged.
+fn json(out: &mut dyn Write, input: &Input, item: &MixedItem, at: usize) -> io::Result<Standing> {
+    if let Some(head) = item.json(&input.bytes) {
+        writeln!(out, "protocol {}", head.protocol())?;
+        writeln!(out, "version  {}", head.version())?;
+        writeln!(out, "length   {}", measured(Kind::Mixed, head.length))?;
+    }
+    let paint = Paint::told();
+    if at == item.offset {
+        writeln!(
+            out,
+            "verdict  {}, its body not judged",
+            paint.good("accepted")
+        )?;
+        return Ok(Standing::Passed);
+    }
+    writeln!(out, "start    of no item: within JSON from {}", item.offset)?;
+    writeln!(out, "verdict  {}", paint.bad(NONE))?;
+    Ok(Standing::Failed)
+}
+
+/// What starts no item of a mixed stream.
+fn no_item(out: &mut dyn Write, input: &Input, rest: Remainder, at: usize) -> io::Result<Standing> {
+    let (number, place) = (rest.number, rest.offset);
+    let refusal = Refusal { number, place };
+    if place < at {
+        writeln!(out, "start    of no item: in the remainder from {place}")?;
+    }
+    refused(out, refusal)?;
+    let bytes = input.bytes.get(place..).unwrap_or_default();
+    let form = Form::told_from(bytes);
+    readable::bytes_at(out, form, &input.bytes, place..place, refusal)?;
+    if let Some(note) = readable::mixed_note(input, rest) {
+        writeln!(out, "        {note}")?;
+    }
+    readable::usually(out, number)?;
+    Ok(Standing::Failed)
+}
+
+fn refused(out: &mut dyn Write, refusal: Refusal) -> io::Result<()> {
+    let Refusal { number, place } = refusal;
+    let refused = Paint::told().bad(&format!("refused {number} at {place}"));
+    writeln!(out, "verdict  {refused}, {}", number.words())
+}
+
+/// What stands at an offset of a part that has one form.
+fn of_part(out: &mut dyn Write, input: &Input, part: Part, at: usize) -> io::Result<Standing> {
+    let place = Place::of(&part, at);
+    if let Some(said) = &place.said {
+        writeln!(out, "start    {said}")?;
+    }
+    let verdict = match place.signatures {
+        Some(end) => signature(out, &part, at, end)?,
+        None => shown(out, &part, at)?,
+    };
+    tell(out, input, at, part, &place, verdict)
 }
 
 /// What is accepted, or why it is not.
 type Read = Result<(), Refusal>;
 
 /// An indexed item, in its group as far as that goes.
-fn signature(out: &mut dyn Write, input: &Input, at: usize, end: usize) -> io::Result<Read> {
-    let group = input.bytes.get(..end).unwrap_or(&input.bytes);
-    match read_indexed(input.form, group, at) {
-        Ok(item) => indexed(out, input.form, &item).map(Ok),
+fn signature(out: &mut dyn Write, part: &Part, at: usize, end: usize) -> io::Result<Read> {
+    match part.read_indexed(at, end) {
+        Ok(item) => indexed(out, part.form, &item).map(Ok),
         Err(refusal) => {
-            let rest = group.get(at..).unwrap_or_default();
-            if let Some(head) = Head::of_indexed(input.form, rest) {
+            if let Some(head) = Head::of_indexed(part.form, part.of(at, end)) {
                 named(out, &head)?;
             }
             Ok(Err(refusal))
@@ -88,26 +203,21 @@ fn indexed(out: &mut dyn Write, form: Form, item: &IndexedItem) -> io::Result<()
     writeln!(out, "length   {}", measured(Form::Binary, item.raw.len()))
 }
 
-fn shown(
-    out: &mut dyn Write,
-    input: &Input,
-    at: usize,
-    answer: Result<Step, Refusal>,
-) -> io::Result<Read> {
-    match answer {
+fn shown(out: &mut dyn Write, part: &Part, at: usize) -> io::Result<Read> {
+    match part.item_at(at) {
         Err(refusal) => {
-            let rest = input.bytes.get(at..).unwrap_or_default();
-            if let Some(head) = Head::of(input.form, rest) {
+            let rest = part.of(at, part.end());
+            if let Some(head) = Head::of(part.form, rest) {
                 named(out, &head)?;
             }
             Ok(Err(refusal))
         }
         Ok(step) => {
             named(out, &step.head)?;
-            writeln!(out, "size     {}", measured(input.form, step.size))?;
-            match read(input.form, &input.bytes, at) {
+            writeln!(out, "size     {}", measured(part.form, step.size))?;
+            match part.read(at) {
                 Ok(primitive) => value(out, &primitive).map(Ok),
-                Err(_) => inside(out, input, &step),
+                Err(_) => inside(out, part, &step),
             }
         }
     }
@@ -160,21 +270,21 @@ fn hexadecimal(bytes: &[u8]) -> String {
 
 /// A group's items at all depths, up to the first refusal, and its verdict as
 /// a stream by itself.
-fn inside(out: &mut dyn Write, input: &Input, step: &Step) -> io::Result<Read> {
-    let end = step.offset.saturating_add(step.size);
-    let item = input.bytes.get(step.offset..end).unwrap_or_default();
+fn inside(out: &mut dyn Write, part: &Part, step: &Step) -> io::Result<Read> {
+    let form = part.form;
+    let item = part.of(step.offset, step.offset.saturating_add(step.size));
     if step.head.code() == Code::GenusVersion {
-        let text = match input.form {
+        let text = match form {
             Form::Text => item.to_vec(),
             Form::Binary => cesr::to_text(item).unwrap_or_default(),
         };
         let characters = text.get(2..).unwrap_or_default().escape_ascii();
         writeln!(out, "version  {characters}")?;
     }
-    for inner in Walk::new(input.form, item).skip(1).map_while(Result::ok) {
+    for inner in Walk::new(form, item).skip(1).map_while(Result::ok) {
         let indent = indented(inner.depth);
         let offset = step.offset.saturating_add(inner.offset);
-        let size = measured(input.form, inner.size);
+        let size = measured(form, inner.size);
         let name = inner.head.name().unwrap_or_default();
         writeln!(
             out,
@@ -182,11 +292,11 @@ fn inside(out: &mut dyn Write, input: &Input, step: &Step) -> io::Result<Read> {
             inner.head
         )?;
     }
-    let report = match judge(input.form, item) {
+    let report = match judge(form, item) {
         Ok(report) => report,
         Err(refusal) => return Ok(Err(refusal)),
     };
-    Ok(by_itself(input, item, &report, step.offset))
+    Ok(by_itself(form, item, &report, step.offset))
 }
 
 fn indented(depth: usize) -> String {
@@ -198,10 +308,10 @@ fn indented(depth: usize) -> String {
 
 /// What the report of the item's own bytes says; places counted on from its
 /// offset.
-fn by_itself(input: &Input, item: &[u8], report: &Report, offset: usize) -> Read {
+fn by_itself(form: Form, item: &[u8], report: &Report, offset: usize) -> Read {
     let first = report.refusals().next().map(|row| row.refusal);
     let rest = || report.remainder();
-    match first.or_else(|| rest().map(|rest| rest.refusal(input.form, item))) {
+    match first.or_else(|| rest().map(|rest| rest.refusal(form, item))) {
         None => Ok(()),
         Some(refusal) => Err(Refusal {
             place: refusal.place.saturating_add(offset),
@@ -214,6 +324,7 @@ fn tell(
     out: &mut dyn Write,
     input: &Input,
     at: usize,
+    part: Part,
     place: &Place,
     verdict: Read,
 ) -> io::Result<Standing> {
@@ -230,11 +341,10 @@ fn tell(
     let refused = paint.bad(&format!("refused {number} at {to}"));
     writeln!(out, "verdict  {none}{refused}, {}", number.words())?;
     let refusal = Refusal { number, place: to };
-    readable::bytes_at(out, input, at..to, refusal)?;
-    let part = |end: usize| input.bytes.get(at..end).unwrap_or_default();
+    readable::bytes_at(out, part.form, &input.bytes, at..to, refusal)?;
     let inner = || match place.signatures {
-        Some(end) => Inner::indexed(input.form, part(end), at),
-        None => Inner::of(input.form, part(input.bytes.len()), at),
+        Some(end) => Inner::indexed(part.form, part.of(at, end), at),
+        None => Inner::of(part.form, part.of(at, part.end()), at),
     };
     readable::asked(out, inner, refusal)?;
     readable::usually(out, number)?;

@@ -1,6 +1,7 @@
 //! Sums over all streams of a call, and how the call stands.
 
 use crate::outcome::{Found, Outcome};
+use crate::readable::unjudged;
 use crate::standing::Standing;
 use crate::words::counted;
 
@@ -12,6 +13,8 @@ pub struct Total {
     accepted: usize,
     refused: usize,
     remainders: usize,
+    /// JSON items.
+    unjudged: usize,
 }
 
 impl Total {
@@ -27,6 +30,8 @@ impl Total {
         if let Found::Judged(_, report) = &outcome.found {
             self.accepted = self.accepted.saturating_add(report.accepted());
             self.refused = self.refused.saturating_add(report.refused());
+            let unjudged = report.unjudged().unwrap_or(0);
+            self.unjudged = self.unjudged.saturating_add(unjudged);
             let rest = usize::from(report.remainder().is_some());
             self.remainders = self.remainders.saturating_add(rest);
         }
@@ -60,10 +65,14 @@ impl Total {
             streams.push_str(&format!(", {listed} expected"));
         }
         let rest = counted(self.remainders, "remainder");
-        format!(
+        let mut said = format!(
             "{streams}: {passed} passed, {failed} failed, {not_judged} not judged; \
              {items}, {} accepted, {} refused, {rest}",
             self.accepted, self.refused
-        )
+        );
+        if let Some(bodies) = unjudged(self.unjudged) {
+            said.push_str(&format!("; {bodies}"));
+        }
+        said
     }
 }

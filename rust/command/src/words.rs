@@ -1,6 +1,6 @@
 //! Numbers with their nouns, and errors in plain words.
 
-use cesr::Form;
+use crate::kind::Kind;
 use std::io;
 
 /// `1 item`, `2 items`.
@@ -12,8 +12,8 @@ pub fn counted(number: usize, noun: &str) -> String {
 }
 
 /// `1 character`, `12 bytes`.
-pub fn measured(form: Form, number: usize) -> String {
-    counted(number, form.measure())
+pub fn measured(form: impl Into<Kind>, number: usize) -> String {
+    counted(number, form.into().measure())
 }
 
 /// The system's words without its number.

@@ -140,6 +140,7 @@ fn every_number_has_its_words_and_an_example() {
             14 => cesr::read(cesr::Form::Text, example, 0)
                 .unwrap_err()
                 .to_string(),
+            17 => fed(&["judge", "--form", "mixed"], example).text(),
             _ => fed(&["judge", "--form", "text"], example).text(),
         };
         assert!(said.contains(&told), "{number}: {said}");

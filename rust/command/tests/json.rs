@@ -63,7 +63,9 @@ fn the_guide_has_every_key() {
         "samples/cut.cesr",
     ];
     let call = ["judge", "--json", "--all", "--engine=both"];
-    let ran = run(&[&call, &names[..]].concat());
+    let mut ran = run(&[&call, &names[..]].concat());
+    let mixed = run(&["judge", "--json", "--all", "samples/mixed.cesr"]);
+    ran.out.extend(mixed.out);
     let script = "
 import json, re, sys
 used = set()
@@ -74,8 +76,8 @@ def look(at):
 for line in sys.stdin:
     look(json.loads(line))
 table = open('docs/GUIDE.md').read().split('| Key | Stands where | Holds |')[1].split('\\n\\n')[0]
-said = set(re.findall('`([a-z0-9]+)`', table))
-words = {'passed', 'failed', 'empty', 'text', 'binary'}
+said = set(re.findall('`([a-z0-9_]+)`', table))
+words = {'passed', 'failed', 'empty', 'text', 'binary', 'mixed', 'json'}
 print(sorted(used - said), sorted(said - used - words))
 ";
     assert_eq!(python(script, &ran.out), "[] []\n");

@@ -83,7 +83,7 @@ fn the_limit() {
         ("text", b"1AAK", 4_194_304),
         ("binary", b"\xD4\x00\x0A", 3_145_728),
     ];
-    let refused = "refused 1 at 0: stream longer than 4,194,304 characters or 3,145,728 bytes\n";
+    let refused = "refused 1 at 0: stream longer than 4,194,304 characters or 3,145,728 bytes, a mixed one than 4,194,304 bytes\n";
     for (form, unit, limit) in unit {
         let mut stream = unit.repeat(limit / unit.len());
         assert_eq!(stream.len(), limit);

@@ -85,6 +85,7 @@ pub fn one(input: &[u8]) {
                 let work = front.room();
                 second(memory, form, [work, room], &front.stream(form, long));
             }
+            Call::Mixed => mixed(memory, room, &front.stream(form, long)),
             _ => stream(memory, call, form, room, &front.stream(form, long)),
         }
     });
@@ -117,6 +118,7 @@ fn stream(memory: &mut Memory, call: Call, form: Form, room: Room, stream: &[u8]
         _ => {
             report(memory, form, room, stream);
             second(memory, form, [Room::Exact, room], stream);
+            mixed(memory, room, stream);
             convert(memory, form, room, stream);
             walk(memory, form, stream, [0; STATE], steps);
         }
@@ -160,6 +162,17 @@ fn report_room(stream: &[u8], report: Lent) -> usize {
         Err(_) => 0,
     };
     17 + 18 * items as usize
+}
+
+/// The room asked is 17 + 19 x items.
+fn mixed(memory: &mut Memory, room: Room, stream: &[u8]) {
+    let mut long = vec![0; 17 + 19 * (stream.len() / 3)];
+    let items = match beside::report_mixed(stream, &mut long) {
+        Ok(_) => u32::from_be_bytes([long[0], long[1], long[2], long[3]]),
+        Err(_) => 0,
+    };
+    let calls = [proved::report_mixed, beside::report_mixed];
+    lent(memory, stream, room.of(17 + 19 * items as usize), calls);
 }
 
 /// The working room asked is 4 characters for each whole triplet; the first engine

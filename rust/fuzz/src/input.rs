@@ -2,7 +2,7 @@
 //!
 //! | Byte | Meaning |
 //! | --- | --- |
-//! | 0 | call (bits 0 to 2), binary (bit 3), buffers against the page before them (bit 4), one too long (bits 5 to 7 all set), a comparison (bits 6 and 7 alone of these set), a group (bits 5 and 7 alone), a report by the second engine (bits 5 and 6 alone) |
+//! | 0 | call (bits 0 to 2), binary (bit 3), buffers against the page before them (bit 4), one too long (bits 5 to 7 all set), a comparison (bits 6 and 7 alone of these set), a group (bits 5 and 7 alone), a report by the second engine (bits 5 and 6 alone), a mixed report (bit 7 alone) |
 //! | 1 | room: just enough, one less, none, nine more, or the number itself; of a walk the budget: without bound, 1, 0, 64, or the number itself; 255 just enough, and the stream is a long one |
 //! | then | comparison: how the two are made (bits 0 to 2 of byte 0), the number of verdicts expected, these, and a remainder's number, or the file's length and the file; read: two bytes of offset; walk from a state: the state; write: the primitive, and an indexed item of the same bytes; group: its letter, and two bytes of length, 0 for the body's own; second engine: the working room, as byte 1 |
 //! | then | the stream, or the raw value or text, or the body; of a long stream the last unit is taken over and over |
@@ -42,6 +42,8 @@ pub enum Call {
     Group,
     /// A report by the second engine, in working room of any length.
     Second,
+    /// A mixed report.
+    Mixed,
 }
 
 pub const CALLS: [Call; 8] = [
@@ -55,11 +57,12 @@ pub const CALLS: [Call; 8] = [
     Call::All,
 ];
 
-/// The first byte of a comparison, of a group and of a report by the second
-/// engine, without its low bits.
+/// The first byte of a comparison, of a group, of a report by the second engine
+/// and of a mixed one, without its low bits.
 pub const COMPARE: u8 = 0xC0;
 pub const GROUP: u8 = 0xA0;
 pub const SECOND: u8 = 0x60;
+pub const MIXED: u8 = 0x80;
 
 /// How the two of a comparison are made: the file of verdicts or as bytes, the
 /// report of a stream or as bytes.
@@ -147,6 +150,7 @@ impl Front<'_> {
             COMPARE => Call::Compare,
             GROUP => Call::Group,
             SECOND => Call::Second,
+            MIXED => Call::Mixed,
             _ => CALLS[usize::from(first % 8)],
         };
         let form = [Form::Text, Form::Binary][usize::from(first >> 3 & 1)];

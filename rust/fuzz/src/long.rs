@@ -33,9 +33,10 @@ pub fn one(call: Call, form: Form, lent_room: Room, mut front: Front) {
             group(form, stream, front.byte());
             lent(form, stream, room);
         }
-        Call::Report | Call::Convert | Call::Compare | Call::Group | Call::Second => {
+        Call::Report | Call::Convert | Call::Compare | Call::Group | Call::Second | Call::Mixed => {
             lent(form, stream, room);
             second(form, stream, room);
+            mixed(room);
         }
     }
 }
@@ -71,6 +72,15 @@ fn lent(form: Form, stream: &[u8], room: usize) {
         assert_eq!(ours(stream, &mut out), theirs(stream, &mut told));
         assert_eq!(out, told);
     }
+}
+
+/// One byte more than a mixed stream may have.
+fn mixed(room: usize) {
+    let stream = zeros(4_194_305);
+    let (mut out, mut told) = (vec![HELD; room], vec![HELD; room]);
+    let answer = proved::report_mixed(stream, &mut out);
+    assert_eq!(answer, beside::report_mixed(stream, &mut told));
+    assert_eq!(out, told);
 }
 
 fn second(form: Form, stream: &[u8], room: usize) {

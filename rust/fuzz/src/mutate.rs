@@ -10,7 +10,7 @@ use streams::expectation::{file, report, spoilt, varied, verdicts, FILE, REPORT}
 use streams::form::characters;
 use streams::generate::{any_item, large_code, LARGE_CODES, TOP};
 use streams::item::stream;
-use streams::{Form, Random};
+use streams::{mixed, Form, Random};
 
 extern "C" {
     fn LLVMFuzzerMutate(data: *mut u8, size: usize, most: usize) -> usize;
@@ -65,6 +65,7 @@ fn changed(random: &mut Random, input: &mut [u8], size: usize) -> Option<usize> 
         Call::Group if random.once_in(2) => return another_group(random, form, input),
         Call::Group => drop((front.byte(), front.number())),
         Call::Second => drop(front.room()),
+        Call::Mixed if random.once_in(2) => return another_mixed(random, front.0.to_vec(), input),
         _ if random.once_in(400) => return long_stream(random, form, input),
         _ => {}
     }
@@ -147,6 +148,23 @@ fn another_group(random: &mut Random, form: Form, input: &mut [u8]) -> Option<us
     };
     let [high, low] = stated.to_be_bytes();
     replaced(input, 2, &[&[letter, high, low], &bytes[..]].concat())
+}
+
+/// Another mixed stream, or a part of one put in or behind.
+fn another_mixed(random: &mut Random, mut made: Vec<u8>, input: &mut [u8]) -> Option<usize> {
+    match random.below(4) {
+        0 => made = mixed::any_deck(random, 3),
+        1 => made.extend(mixed::part(random)),
+        2 => {
+            let part = mixed::any_part(random);
+            made.splice(0..0, part);
+        }
+        _ => {
+            let (part, place) = (mixed::part(random), random.below(made.len() + 1));
+            made.splice(place..place, part);
+        }
+    }
+    replaced(input, 2, &made)
 }
 
 /// Where an input to write has its raw value's length.

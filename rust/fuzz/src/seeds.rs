@@ -1,10 +1,10 @@
 //! Inputs to start from: the papers' streams, an item of every code, large ones
 //! for few units too and around 4,096, groups around the depth limit, streams so
 //! long that conversion goes by its tables, a primitive and an indexed item of
-//! every code to write, bodies of every kind and letter for a group, some states,
-//! some comparisons, some rooms for the second engine.
+//! every code to write, bodies of every kind and letter for a group, mixed streams,
+//! some states, some comparisons, some rooms for the second engine.
 
-use crate::input::{Call, CALLS, COMPARE, GROUP, LONG, SECOND};
+use crate::input::{Call, CALLS, COMPARE, GROUP, LONG, MIXED, SECOND};
 use streams::body::{body, Body, KINDS};
 use streams::damage::GENUS_CODES;
 use streams::expectation::{file, report};
@@ -12,7 +12,7 @@ use streams::form::FORMS;
 use streams::generate::{large_code, nested, one_code, CODES, LARGE_CODES};
 use streams::item::{stream, Item};
 use streams::table::{Kind, FIXED, GROUPS, HEADS, INDEXED, TEXT, TYPES};
-use streams::{papers, Form, Random};
+use streams::{mixed, papers, Form, Random};
 
 /// The first byte of an input.
 fn choice(call: Call, form: Form) -> u8 {
@@ -56,6 +56,7 @@ pub fn seeds() -> Vec<Vec<u8>> {
         }
     }
     seeds.extend(compares());
+    seeds.extend(mixed_streams());
     seeds
 }
 
@@ -172,6 +173,28 @@ fn seconds(form: Form) -> Vec<Vec<u8>> {
     rooms.map(seed).collect()
 }
 
+/// 02's own examples, decks and what may be no item; long ones too.
+fn mixed_streams() -> Vec<Vec<u8>> {
+    let seed = |room: u8, stream: &[u8]| [&[MIXED, room], stream].concat();
+    let mut seeds: Vec<Vec<u8>> = papers::MIXED.iter().map(|stream| seed(0, stream)).collect();
+    let mut random = Random::new(5);
+    for room in 0..4 {
+        seeds.push(seed(room, &mixed::deck(&mut random, 6)));
+    }
+    for _ in 0..40 {
+        seeds.push(seed(0, &mixed::any_deck(&mut random, 3)));
+        seeds.push(seed(0, &mixed::any_part(&mut random)));
+    }
+    for long in [
+        &b"--JAABAA1AAK"[..],
+        b"-AAA",
+        b"{\"v\":\"KERI10JSON004000_    ",
+    ] {
+        seeds.push(seed(LONG, long));
+    }
+    seeds
+}
+
 /// So many units of a long body, stated by its length.
 pub fn long_group(form: Form, letter: u8, units: usize) -> Vec<u8> {
     let [high, low] = ((units * form.unit()) as u16).to_be_bytes();
@@ -215,13 +238,19 @@ fn states(form: Form) -> Vec<Vec<u8>> {
 /// Words that a fuzzer may put anywhere: heads in both forms.
 pub fn dictionary() -> String {
     let heads = HEADS.iter().chain(&GENUS_CODES);
+    let json = [
+        r#"{"v":""#,
+        "KERI10JSON",
+        "000017_",
+        r#"{"v":"KERI10JSON000017_"#,
+    ];
     let word = |bytes: Vec<u8>| {
         let shown: String = bytes.iter().map(|b| format!("\\x{b:02X}")).collect();
         format!("\"{shown}\"\n")
     };
-    heads
-        .flat_map(|head| FORMS.map(|form| word(form.of_text(head.as_bytes()))))
-        .collect()
+    let in_both = |head: &&str| FORMS.map(|form| word(form.of_text(head.as_bytes())));
+    let json = json.iter().map(|part| word(part.as_bytes().to_vec()));
+    heads.flat_map(in_both).chain(json).collect()
 }
 
 #[cfg(test)]

@@ -20,6 +20,7 @@ pub mod group;
 pub mod indexed;
 pub mod instalments;
 pub mod judge;
+pub mod mixed;
 pub mod primitive;
 pub mod refusal;
 pub mod registry;

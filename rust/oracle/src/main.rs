@@ -4,6 +4,7 @@ use oracle::convert;
 use oracle::form::Form;
 use oracle::group;
 use oracle::indexed::{self, IndexedItem};
+use oracle::mixed;
 use oracle::primitive::{self, Named, Primitive, Tag};
 use oracle::refusal::Refusal;
 use oracle::report::{report, write_report};
@@ -16,6 +17,7 @@ oracle: an independent second opinion on CESR streams
 
 usage, with FORM = text or binary; the stream comes from standard input:
   oracle report FORM [--room N]       the report's bytes
+  oracle report mixed [--room N]      those of a stream that changes form at top level
   oracle convert to-binary [--room N] the stream's bytes in binary
   oracle convert to-text [--room N]   the stream's characters in text
   oracle read FORM OFFSET [--room N]  one line: code=C tag=T raw=HEX text=T size=N
@@ -94,6 +96,7 @@ fn run(words: &[Vec<u8>]) -> Answer {
     let (plain, options) = Options::split(&words)?;
     match plain.as_slice() {
         [b"--help" | b"-h" | b"help"] => Ok(HELP.into()),
+        [b"report", b"mixed"] => run_report_mixed(&options),
         [b"report", name] => run_report(form(name)?, &options),
         [b"convert", way] => run_convert(way, &options),
         [b"read", name, offset] => run_read(form(name)?, number(offset)?, &options),
@@ -156,6 +159,14 @@ fn run_report(form: Form, options: &Options) -> Answer {
     let stream = standard_input()?;
     let mut out = options.buffer(report(&stream, form)?.room());
     let length = write_report(&stream, form, &mut out)?;
+    out.truncate(length);
+    Ok(out)
+}
+
+fn run_report_mixed(options: &Options) -> Answer {
+    let stream = standard_input()?;
+    let mut out = options.buffer(mixed::report(&stream)?.room());
+    let length = mixed::write_report(&stream, &mut out)?;
     out.truncate(length);
     Ok(out)
 }

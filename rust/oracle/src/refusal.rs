@@ -13,7 +13,8 @@ impl Refusal {
     }
 }
 
-/// Stream longer than 4,194,304 characters or 3,145,728 bytes.
+/// Stream longer than 4,194,304 characters or 3,145,728 bytes; a mixed one longer
+/// than 4,194,304 bytes.
 pub const TOO_LONG: u8 = 1;
 /// Whole-stream conversion: not whole units.
 pub const NOT_WHOLE_UNITS: u8 = 2;
@@ -45,6 +46,9 @@ pub const NOT_A_PRIMITIVE: u8 = 14;
 pub const ONDEX: u8 = 15;
 /// 02 c: Base64 text without its full fill, or that starts with `A`.
 pub const TEXT_FILL: u8 = 16;
+/// 02 d: in a mixed stream a first byte that opens no item, or a JSON header
+/// that is malformed or states a length below 23.
+pub const MIXED_START: u8 = 17;
 /// 02 h: large variable code or large group whose size fits the small code.
 pub const NOT_SHORT: u8 = 18;
 /// 02 j: `+`, `/` or `=` of the ordinary alphabet.
@@ -77,8 +81,8 @@ mod tests {
         ];
         assert!(numbers.iter().copied().eq(1..=14));
         assert_eq!(
-            [ONDEX, TEXT_FILL, NOT_SHORT, ORDINARY_BASE64],
-            [15, 16, 18, 19]
+            [ONDEX, TEXT_FILL, MIXED_START, NOT_SHORT, ORDINARY_BASE64],
+            [15, 16, 17, 18, 19]
         );
     }
 }

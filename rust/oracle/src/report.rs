@@ -120,7 +120,7 @@ impl Report {
 }
 
 /// Four bytes, big-endian. Offsets are at most 4,194,304, so none is cut.
-fn put4(bytes: &mut Vec<u8>, number: usize) {
+pub(crate) fn put4(bytes: &mut Vec<u8>, number: usize) {
     bytes.extend((number as u32).to_be_bytes());
 }
 

@@ -9,6 +9,7 @@ use oracle::form::Form;
 use oracle::frame::frame_top_level;
 use oracle::group::write as write_group;
 use oracle::judge::{judge, MOST_GROUPS};
+use oracle::mixed::{self, Kind};
 use oracle::primitive::{read_binary, read_text, write, Named, Primitive, Tag};
 use oracle::registry::{Code, FIXED, INDEXED, VARIABLE};
 use oracle::report::{report, write_report, Report};
@@ -206,6 +207,87 @@ fn check_group(noise: &mut Noise, stream: &[u8], form: Form) {
             assert_eq!(answer, Err(refused));
             assert_eq!(buffer, [body, &header].concat());
         }
+    }
+}
+
+/// 02 d: "Demand 3 holds with this header". The rows of a mixed report tile the
+/// stream, every item has the verdict and the place that it gets by itself, and a
+/// CESR item the one that 01's report of its form gives it.
+fn check_mixed(stream: &[u8]) {
+    let whole = mixed::report(stream).unwrap();
+    let (mut end, mut refusals) = (0, whole.refusals.iter().peekable());
+    for row in &whole.items {
+        assert_eq!((row.offset, Kind::of(stream[end])), (end, Some(row.kind)));
+        end += row.size;
+        let item = &stream[row.offset..end];
+        let own = mixed::report(item).unwrap();
+        assert_eq!((own.items.len(), own.remainder), (1, None));
+        let alone = own.items[0];
+        assert_eq!((alone.size, alone.verdict), (row.size, row.verdict));
+        let place = own
+            .refusals
+            .first()
+            .map(|r| (r.number, row.offset + r.place));
+        let told = refusals.next_if(|_| row.verdict > 0);
+        assert_eq!(place, told.map(|r| (r.number, r.place)));
+        let form = match row.kind {
+            Kind::Text => Form::Text,
+            Kind::Binary => Form::Binary,
+            Kind::Json => continue,
+        };
+        let by_01 = report(item, form).unwrap();
+        assert_eq!(
+            (by_01.items[0].size, by_01.items[0].verdict),
+            (row.size, row.verdict)
+        );
+        assert_eq!(by_01.refusals, own.refusals);
+    }
+    assert_eq!(refusals.next(), None);
+    let rest = whole.remainder.map_or(stream.len(), |rest| rest.offset);
+    assert_eq!(rest, end);
+}
+
+/// JSON items, right and wrong, and the pieces as groups in both forms.
+#[test]
+fn mixed_noise() {
+    let mut noise = Noise(0x02D);
+    let mut seen = [0; 20];
+    for _ in 0..4000 {
+        let mut stream = Vec::new();
+        for _ in 0..noise.below(6) {
+            let piece = PIECES[noise.below(PIECES.len())];
+            let group = around('J', noise.below(3), piece);
+            match noise.below(6) {
+                0 | 1 => stream.extend(group.bytes()),
+                2 | 3 if group.bytes().all(|c| !b"!=+/".contains(&c)) => {
+                    stream.extend(binary(&group))
+                }
+                4 => {
+                    let length = noise.below(40);
+                    let body = noise.bytes(length);
+                    let stated = 23 + length + usize::from(noise.below(8) == 0);
+                    stream.extend(format!(r#"{{"v":"KERI10JSON{stated:06x}_"#).bytes());
+                    stream.extend(body);
+                }
+                _ => {
+                    let length = noise.below(3);
+                    stream.extend(noise.bytes(length));
+                }
+            }
+        }
+        check_mixed(&stream);
+        let report = mixed::report(&stream).unwrap();
+        report
+            .items
+            .iter()
+            .for_each(|row| seen[usize::from(row.verdict)] += 1);
+        report
+            .remainder
+            .iter()
+            .for_each(|row| seen[usize::from(row.number)] += 1);
+    }
+    for number in [0, 4, 5, 6, 7, 8, 9, 10, 16, 17, 18, 19] {
+        assert!(seen[number] > 0, "{number} was not met");
     }
 }
 

@@ -52,6 +52,19 @@ fn reports() {
 }
 
 #[test]
+fn mixed_reports() {
+    // 02 d: `-AAA`, its binary form F8 00 00, and a primitive, which is 17.
+    let stream = b"-AAA\xF8\x00\x00MAAB";
+    let told = hex(
+        "00000002 00000000 00000004 00 00 00000004 00000003 00 01 00000000 00000001 00000007 11",
+    );
+    answered(&["report", "mixed"], stream, &told);
+    answered(&["report", "mixed", "--room", "55"], stream, &told);
+    refused(&["report", "mixed", "--room", "54"], stream, "", "3 0");
+    refused(&["report", "mixed"], &vec![b'-'; 4_194_305], "", "1 0");
+}
+
+#[test]
 fn conversions() {
     answered(&["convert", "to-binary"], b"1AAM", &[0xD4, 0, 0x0C]);
     answered(&["convert", "to-text"], &[0xD4, 0, 0x0C], b"1AAM");

@@ -74,6 +74,13 @@ extern "C" {
         room: usize,
         answer: *mut usize,
     ) -> u8;
+    pub fn cesr_report_mixed(
+        stream: *const u8,
+        length: usize,
+        out: *mut u8,
+        room: usize,
+        answer: *mut usize,
+    ) -> u8;
     pub fn cesr_second_text(
         stream: *const u8,
         length: usize,

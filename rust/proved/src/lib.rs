@@ -71,6 +71,12 @@ pub fn report_binary(binary: &[u8], out: &mut [u8]) -> Result<usize, Refusal> {
     lent(declared::cesr_report_binary, binary, out)
 }
 
+/// The report of a mixed stream: 1, 3, else its length. Its item rows have a tenth
+/// byte, the item's form.
+pub fn report_mixed(stream: &[u8], out: &mut [u8]) -> Result<usize, Refusal> {
+    lent(declared::cesr_report_mixed, stream, out)
+}
+
 fn lent(call: declared::Call, source: &[u8], out: &mut [u8]) -> Result<usize, Refusal> {
     let mut answer = 0;
     // SAFETY: both slices are valid for their lengths and do not overlap, and

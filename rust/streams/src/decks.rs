@@ -26,7 +26,7 @@ pub fn nests(random: &mut Random, size: usize) -> Vec<u8> {
 
 /// All codes alike but for the large ones, which only long items have; groups
 /// three deep.
-pub fn mixed(random: &mut Random, size: usize) -> Vec<u8> {
+pub fn all_codes(random: &mut Random, size: usize) -> Vec<u8> {
     fill(size, || any_item(random, TOP, 3))
 }
 
@@ -98,7 +98,7 @@ mod tests {
         let deck = nests(&mut random, 1000);
         assert_eq!(deck.len(), 968);
         assert!(deck.starts_with(b"-JAK-AAJ-CAI-DAH-IAG-JAF-AAE-CAD-DAC-IABM"));
-        assert!(mixed(&mut random, 100_000).len() > 90_000);
+        assert!(all_codes(&mut random, 100_000).len() > 90_000);
     }
 
     #[test]

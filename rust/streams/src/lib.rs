@@ -4,7 +4,8 @@
 //! nesting, and such that only their spelling, the fill of a text or the indexed
 //! items of a signature group may be refused; `decks` the long streams that are timed; `damage` changes a stream in
 //! the ways that streams go wrong; `noise` makes streams that were never right;
-//! `body` makes what a group is put around, with its letter;
+//! `body` makes what a group is put around, with its letter; `mixed` makes streams
+//! of JSON and of groups in both forms, right and wrong;
 //! `expectation` makes expected verdicts and reports to compare them with;
 //! `papers` are the papers' own; `shrink` makes a failing stream small.
 //! The codes are typed in from 003 (`table`), so nothing here is shared with
@@ -21,6 +22,7 @@ pub mod expectation;
 pub mod form;
 pub mod generate;
 pub mod item;
+pub mod mixed;
 pub mod noise;
 pub mod papers;
 pub mod random;

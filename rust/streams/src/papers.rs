@@ -1,6 +1,6 @@
 //! Streams of the papers, all in text: 01's deck and the errors it saw
 //! shipped, the streams that its readings are told by, and examples of 001,
-//! 002 and 003.
+//! 002 and 003; and mixed streams by the words of 02.
 
 /// 01, "The deck we check by" and "Errors we have seen shipped".
 #[rustfmt::skip]
@@ -150,6 +150,59 @@ pub const POINTS: &[&str] = &[
     "-KAWAAAAAAAAAAAAAAAAAAAAAAAAAAAAAAAAAAAAAAAAAAAAAAAAAAAAAAAAAAAAAAAAAAAAAAAAAAAAAAAAAAAAAAA!",
     "-KAX2BAAABEAAAAAAAAAAAAAAAAAAAAAAAAAAAAAAAAAAAAAAAAAAAAAAAAAAAAAAAAAAAAAAAAAAAAAAAAAAAAAAAAAAAA/",
     "-AAY-KAWA_AAAAAAAAAAAAAAAAAAAAAAAAAAAAAAAAAAAAAAAAAAAAAAAAAAAAAAAAAAAAAAAAAAAAAAAAAAAAAAAAAAAAAAMAAB",
+];
+
+/// 02 d by its words: what a top-level item of a mixed stream starts with, the
+/// order at `{`, and each rule from both sides.
+#[rustfmt::skip]
+pub const MIXED: &[&[u8]] = &[
+    b"",
+    b"-",
+    b"{",
+    b"\xF7",
+    b"\xF8",
+    b"\xFB",
+    b"\xFC",
+    b"\n",
+    b"MAAB",
+    b"-AAA",
+    b"-AAA\n",
+    b"-AAAMAAB",
+    b"-AABMAAB",
+    b"-AABMQAA-AAA",
+    b"-A!A",
+    b"-A+A",
+    b"-AA",
+    b"-0AA",
+    b"-_AAACAA",
+    b"-_AAABAA",
+    b"\xF8\x00\x00",
+    b"\xF8\x00\x01\x30\x00\x01-AAA",
+    b"\xF8\x00\x01\x31\x00\x00\xF8\x00\x00",
+    b"\xFB\xF0\x00\x00\x20\x00",
+    b"\xFB\xF0\x00\x00\x10\x00",
+    b"{!!!!!!!!!!!!!!!!!!!!!",
+    b"{!!!!!!!!!!!!!!!!!!!!!!",
+    br#"{"v":"KERI10JSON000017"#,
+    br#"{"v":"KERI10JSON000017_"#,
+    br#"{"v":"KERI10JSON000016_"#,
+    br#"{"v":"KERI10JSON000018_"#,
+    br#"{"v":"KERI10JSON000018_}"#,
+    br#"{"v":"KERI10JSON000018_}-AAA"#,
+    br#"{"v":"KERI10JSON00001A_   "#,
+    br#"{"v":"KERI10JSON00001a_   "#,
+    br#"{"v":"KERI1fJSON000017_"#,
+    br#"{"v":"KERI1FJSON000017_"#,
+    br#"{"v":"KERI10MGPK000017_"#,
+    br#"{"v":"KERI10CBOR000017_"#,
+    br#"{"v":"keri10JSON000017_"#,
+    br#"{"v":"KERI10JSON000017."#,
+    br#"{"v":"KERICAAJSONAAAX."#,
+    br#"{"d":"KERI10JSON000017_"#,
+    br#"{"v":"KERI10JSONffffff_"#,
+    br#"{"v":"ACDC10JSON00001f_-AABMAAB-AABMAAB"#,
+    br#"-AAB{"v""#,
+    b"-AAA\xF8\x00\x00-AAA\xF8\x00\x00",
 ];
 
 /// Of 001, 002 and 003.

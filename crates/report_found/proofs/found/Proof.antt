@@ -21,4 +21,4 @@ returns-4 c = c .next .ensures
 
 pub found-spec : {M : Type 1} → statement M
 found-spec =
-    tie.close (tie.spec (λ c κs. search needs) returns (λ c κs. search needs) returns-2 returns-3 next-requires returns-4)
+    tie.close (tie.spec returns (λ c κs. search needs) returns-2 returns-3 next-requires returns-4)

@@ -14,7 +14,7 @@ returns-3 c = search more-than-all
 
 level-requires : tie.Need-level-requires
 level-requires c κs =
-    let f = c .before .before .before .before .before .before .args .form in
+    let f = c .before .before .before .before .before .args .form in
     inside-item f _ _ _ _ _ (c .if3 .left) (c .before .if2 .left) (c .before .before .if1 .left) (search needs) (search needs)
 
 returns-4 : tie.Need-returns-4
@@ -24,5 +24,4 @@ pub verdict-spec : {M : Type 1} → statement M
 verdict-spec =
     tie.close
     (tie.spec
-    (λ c κs. search needs) (λ c κs. search needs) returns returns-2 returns-3 (λ c. search needs) level-requires (λ c κs. search needs)
-    returns-4)
+    (λ c κs. search needs) returns returns-2 returns-3 (λ c. search needs) level-requires (λ c κs. search needs) returns-4)

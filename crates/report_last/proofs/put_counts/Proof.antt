@@ -1,3 +1,4 @@
+-- `report_last::put_counts` meets its contract. Assumes nothing.
 use Rattle.report_last.proofs.Laws.{counts-put}
 use borrow.Author.Needs.{needs}
 use Rattle.report_last.proofs.put_counts.Statement.{statement}
@@ -10,6 +11,5 @@ pub put-counts-spec : {M : Type 1} → statement M
 put-counts-spec =
     tie.close
     (tie.spec
-    (λ c. search needs) (λ c. search needs) (λ c κs. search needs) (λ c. search needs) (λ c. search needs) (λ c. search needs)
-    (λ c. search needs) (λ c κs. search needs) (λ c. search needs) (λ c. search needs) (λ c. search needs) (λ c. search needs)
-    (λ c. search needs) returns)
+    (λ c κs. search needs) (λ c. search needs) (λ c. search needs) (λ c. search needs) (λ c κs. search needs) (λ c. search needs)
+    (λ c. search needs) (λ c. search needs) (λ c. search needs) returns)

@@ -1,3 +1,4 @@
+-- `report_last::put_end` meets its contract. Assumes nothing.
 use Rattle.report_last.proofs.Laws.{whole-few, rest-few, last-by}
 use borrow.Author.Needs.{needs}
 use Rattle.report_last.proofs.put_end.Statement.{statement}

@@ -1,3 +1,4 @@
+-- `report_last::put_rest` meets its contract. Assumes nothing.
 use Rattle.report_last.proofs.Laws.{rest-put}
 use borrow.Author.Needs.{needs}
 use Rattle.report_last.proofs.put_rest.Statement.{statement}

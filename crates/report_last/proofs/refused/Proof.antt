@@ -1,3 +1,4 @@
+-- `report_last::refused` meets its contract. Assumes nothing.
 use Rattle.report_last.proofs.Laws.{of-whole, of-rest}
 use borrow.Author.Needs.{needs}
 use Rattle.report_last.proofs.refused.Statement.{statement}

@@ -1,4 +1,5 @@
 use Rattle.report_general.proofs.Laws.{turned-to}
+use Rattle.report_turn.proofs.Laws.{not-long}
 use borrow.Author.Needs.{needs}
 use Rattle.report_turn.proofs.put_here.Statement.{statement}
 use Rattle.report_turn.proofs.put_here.Tie as tie
@@ -7,7 +8,7 @@ returns : tie.Need-returns
 returns c = λ L K. c .before .before .put-group .ensures L K (c .before .before .before .before .before .group-size .ensures .1 L (c .before .before .before .before .if1 .taken) .0)
 
 returns-2 : tie.Need-returns-2
-returns-2 c = λ L K Φ. c .before .before .put-accepted .ensures L K (c .before .before .before .before .before .accepted .ensures .1 (Φ .few) L K (c .before .before .before .before .if2 .taken)) Φ
+returns-2 c = λ L K Φ. c .before .before .put-accepted .ensures L K (c .before .before .before .before .before .accepted .ensures .1 (not-long Φ) L K (c .before .before .before .before .if2 .taken)) Φ
 
 returns-3 : tie.Need-returns-3
 returns-3 c = λ L K. search turned-to

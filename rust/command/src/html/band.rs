@@ -7,12 +7,13 @@ mod row;
 
 use crate::inner::{end_of, position};
 use crate::input::Input;
+use crate::judged::Judged;
 use crate::markup::escaped;
 use crate::memory::Gathered;
 use crate::outcome::code_and_name;
 use crate::readable;
 use crate::words::{counted, measured};
-use cesr::{Form, Head, Item, Report, Step, Verdict, Walk};
+use cesr::{Form, Head, ItemForm, MixedItem, Step, Verdict, Walk};
 use row::{Kind, Piece, Row, WHOLE};
 use std::io::{self, Write};
 use std::ops::Range;
@@ -43,7 +44,7 @@ struct Band<'s> {
     deeper: usize,
 }
 
-pub fn drawn(input: &Input, report: &Report, columns: usize) -> io::Result<Vec<u8>> {
+pub fn drawn(input: &Input, report: &Judged, columns: usize) -> io::Result<Vec<u8>> {
     let mut band = Band {
         input,
         rows: vec![Row::new(TOP, HIGH, columns)],
@@ -52,8 +53,11 @@ pub fn drawn(input: &Input, report: &Report, columns: usize) -> io::Result<Vec<u
     };
     for item in report.items() {
         band.item(&item);
-        if item.size > input.form.unit() && is_group(input.form, item.of(&input.bytes)) {
-            band.contents(&item);
+        let Some(form) = item.form.cesr() else {
+            continue;
+        };
+        if item.size > form.unit() && is_group(form, item.of(&input.bytes)) {
+            band.contents(form, &item);
         }
     }
     if let Some(rest) = report.remainder() {
@@ -109,29 +113,31 @@ impl Band<'_> {
             .unwrap_or(0)
     }
 
-    fn item(&mut self, item: &Item) {
+    fn item(&mut self, item: &MixedItem) {
         let (input, index, range) = (self.input, item.index, item.range());
-        let kind = match item.verdict {
-            Verdict::Accepted => Kind::Accepted,
-            Verdict::Refused(_) => Kind::Refused,
+        let kind = match (item.verdict, item.form) {
+            (Verdict::Refused(_), _) => Kind::Refused,
+            (Verdict::Accepted, ItemForm::Json) => Kind::Unjudged,
+            (Verdict::Accepted, ItemForm::Cesr(_)) => Kind::Accepted,
         };
         self.piece(0, kind, item.range(), || {
-            let (code, name) = code_and_name(input.form, item.of(&input.bytes));
+            let (code, name) = code_and_name(item, &input.bytes);
+            let form = readable::formed(input, item.form);
             let verdict = match item.verdict {
                 Verdict::Accepted => "accepted".to_string(),
                 Verdict::Refused(number) => format!("refused {number}"),
             };
             let size = measured(input.form, item.size);
             let from = range.start;
-            let said = format!("item {index}: {code} {name}, {size} from {from}, {verdict}");
+            let said = format!("item {index}: {form}{code} {name}, {size} from {from}, {verdict}");
             (code, said)
         });
     }
 
     /// What stands in a group, up to the first refusal: from there to the end
     /// of the innermost group.
-    fn contents(&mut self, group: &Item) {
-        let (form, base) = (self.input.form, group.offset);
+    fn contents(&mut self, form: Form, group: &MixedItem) {
+        let base = group.offset;
         let part = group.of(&self.input.bytes);
         let mut walk = Walk::new(form, part);
         let mut open: Vec<Step> = Vec::new();
@@ -169,7 +175,7 @@ impl Band<'_> {
         self.piece(step.depth, Kind::Accepted, part, said);
     }
 
-    fn whole(mut self, report: &Report) -> io::Result<Vec<u8>> {
+    fn whole(mut self, report: &Judged) -> io::Result<Vec<u8>> {
         let (form, length) = (self.input.form, self.input.bytes.len());
         let said = format!("The stream in proportion: {}", readable::sums(report));
         let below = self.rows.len().saturating_mul(LOW);
@@ -195,6 +201,7 @@ impl Band<'_> {
         let is_there = |kind| self.rows.iter().any(|row| row.has(kind));
         let mut said = vec![key("accepted", "accepted")];
         for (kind, class, words) in [
+            (Kind::Unjudged, "unjudged", "JSON, its body not judged"),
             (Kind::Refused, "refused", "refused, with \u{25BC} above"),
             (Kind::Remainder, "remainder", "remainder, not judged"),
         ] {

@@ -2,7 +2,6 @@
 //! broken, the item underlined, the place in a box.
 
 use crate::excerpt;
-use crate::input::Input;
 use cesr::Form;
 use std::io::{self, Write};
 use std::ops::Range;
@@ -14,18 +13,18 @@ const UNITS: usize = 20;
 /// the stream.
 pub fn written(
     out: &mut dyn Write,
-    input: &Input,
+    form: Form,
+    stream: &[u8],
     item: Range<usize>,
     place: usize,
     what: &str,
 ) -> io::Result<()> {
-    let (form, unit) = (input.form, input.form.unit());
-    let width = unit.saturating_mul(UNITS);
-    if input.bytes.get(place).is_none() {
+    let (unit, width) = (form.unit(), form.unit().saturating_mul(UNITS));
+    if stream.get(place).is_none() {
         return Ok(());
     }
     let from = excerpt::window(form, item.start.min(place), place, width);
-    let shown = input.bytes.get(from..).unwrap_or_default();
+    let shown = stream.get(from..).unwrap_or_default();
     let (before, after) = (from > 0, shown.len() > width);
     let part = match form {
         Form::Text => "Characters",

@@ -5,11 +5,12 @@ use super::bytes;
 use crate::hint;
 use crate::inner::Inner;
 use crate::input::Input;
+use crate::judged::Judged;
 use crate::markup::escaped;
 use crate::outcome::code_and_name;
 use crate::readable;
 use crate::words::measured;
-use cesr::{Form, Refusal, RefusalRow, Remainder, Report, Step};
+use cesr::{Form, ItemForm, Number, Refusal, RefusalRow, Remainder, Step};
 use std::io::{self, Write};
 use std::ops::Range;
 
@@ -19,7 +20,7 @@ const NAMED: usize = 6;
 pub fn refused(
     out: &mut dyn Write,
     input: &Input,
-    report: &Report,
+    report: &Judged,
     row: &RefusalRow,
 ) -> io::Result<()> {
     let Refusal { number, place } = row.refusal;
@@ -28,26 +29,43 @@ pub fn refused(
         return Ok(());
     };
     opened(out, "refused", "\u{2715}", &title, row.refusal)?;
-    let (code, name) = code_and_name(input.form, item.of(&input.bytes));
-    let size = measured(input.form, item.size);
+    let (code, name) = code_and_name(&item, &input.bytes);
+    let (form, size) = (
+        readable::formed(input, item.form),
+        measured(input.form, item.size),
+    );
     said(
         out,
         "The item",
-        &format!("{}, {size} from {}", coded(&code, name), item.offset),
+        &format!("{form}{}, {size} from {}", coded(&code, &name), item.offset),
     )?;
-    closed(out, input, item.range(), row.refusal, "the item")
+    closed(
+        out,
+        input,
+        (item.form, item.range()),
+        row.refusal,
+        "the item",
+        None,
+    )
 }
 
-pub fn remainder(out: &mut dyn Write, input: &Input, rest: Remainder) -> io::Result<()> {
+pub fn remainder(
+    out: &mut dyn Write,
+    input: &Input,
+    report: &Judged,
+    rest: Remainder,
+) -> io::Result<()> {
     let Remainder { offset, number } = rest;
-    let refusal = rest.refusal(input.form, &input.bytes);
+    let refusal = report.refusal_of(rest, &input.bytes);
     let left = measured(input.form, input.bytes.len().saturating_sub(offset));
     let title = format!("Remainder {number} from {offset}");
     opened(out, "remainder", "?", &title, refusal)?;
     let why = "nobody knows where the next item starts";
     said(out, "Not judged", &format!("{left}: {why}"))?;
     let part = offset..input.bytes.len();
-    closed(out, input, part, refusal, "the remainder")
+    let form = report.form_of(input.bytes.get(offset..).unwrap_or_default());
+    let note = readable::mixed_note(input, rest);
+    closed(out, input, (form, part), refusal, "the remainder", note)
 }
 
 fn opened(
@@ -72,12 +90,36 @@ fn opened(
 fn closed(
     out: &mut dyn Write,
     input: &Input,
-    part: Range<usize>,
+    (form, part): (ItemForm, Range<usize>),
     refusal: Refusal,
     what: &str,
+    note: Option<String>,
 ) -> io::Result<()> {
-    let (form, start) = (input.form, part.start);
-    let bytes = input.bytes.get(part.clone()).unwrap_or_default();
+    // What starts no item of a mixed stream is none to look into.
+    if let Some(form) = form.cesr().filter(|_| refusal.number != Number::MixedStart) {
+        inside(out, input, form, part.clone(), refusal)?;
+    }
+    let seen = readable::note(readable::shown_in(form), &input.bytes, refusal);
+    for note in seen.into_iter().chain(note) {
+        said(out, "Seen there", &escaped(&note))?;
+    }
+    said(out, "Usually", &escaped(hint::usually(refusal.number)))?;
+    writeln!(out, "</dl>")?;
+    let form = readable::shown_in(form);
+    bytes::written(out, form, &input.bytes, part, refusal.place, what)?;
+    writeln!(out, "</article>")
+}
+
+/// Which item is refused in it, and in which groups.
+fn inside(
+    out: &mut dyn Write,
+    input: &Input,
+    form: Form,
+    part: Range<usize>,
+    refusal: Refusal,
+) -> io::Result<()> {
+    let start = part.start;
+    let bytes = input.bytes.get(part).unwrap_or_default();
     let inner = Inner::of(form, bytes, start);
     if inner.at > start {
         let head = inner
@@ -92,16 +134,10 @@ fn closed(
     if !inner.groups.is_empty() {
         said(out, "Stands in", &groups(form, &inner.groups))?;
     }
-    if let Some(asked) = inner.asked(refusal) {
-        said(out, "Size", &asked)?;
+    match inner.asked(refusal) {
+        Some(asked) => said(out, "Size", &asked),
+        None => Ok(()),
     }
-    if let Some(note) = readable::note(input, refusal.number, refusal.place) {
-        said(out, "Seen there", &escaped(&note))?;
-    }
-    said(out, "Usually", &escaped(hint::usually(refusal.number)))?;
-    writeln!(out, "</dl>")?;
-    bytes::written(out, input, part, refusal.place, what)?;
-    writeln!(out, "</article>")
 }
 
 fn said(out: &mut dyn Write, name: &str, value: &str) -> io::Result<()> {

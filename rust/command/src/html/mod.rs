@@ -43,8 +43,9 @@ const NUMBERS: &str = "<h2>Refused by number</h2>
 ";
 
 const FOOT: &str = "<footer>
-<p>Items are counted from 0, and so are offsets and places, in characters for text and in bytes for binary. An item that is \
-accepted is well formed; signatures and digests are not verified. Every verdict, size and place is the proved library's.</p>
+<p>Items are counted from 0, and so are offsets and places, in characters for text and in bytes for binary and for mixed \
+streams. An item that is accepted is well formed; signatures and digests are not verified, and the body of a JSON item, which only a mixed \
+stream has, is not judged. Every verdict, size and place is the proved library's.</p>
 <p>cesr ";
 
 /// A page as far as it is gathered.

@@ -4,13 +4,14 @@
 use super::{band, broken, eighths, fault, signed, Page};
 use crate::engine::Engine;
 use crate::input::Input;
+use crate::judged::Judged;
 use crate::markup::escaped;
 use crate::memory::Gathered;
 use crate::outcome::{Found, Outcome};
 use crate::readable;
 use crate::sha256;
 use crate::words::{counted, measured};
-use cesr::{Item, Report};
+use cesr::MixedItem;
 use std::io::{self, Write};
 
 pub fn add(page: &mut Page, outcome: &Outcome) -> io::Result<()> {
@@ -28,7 +29,9 @@ pub fn add(page: &mut Page, outcome: &Outcome) -> io::Result<()> {
     }
     match (&outcome.found, outcome.complaint()) {
         (Found::Judged(input, report), None) => {
-            page.sums = readable::sums(report);
+            let unjudged = readable::unjudged(report.unjudged().unwrap_or(0));
+            let sums = [Some(readable::sums(report)), unjudged];
+            page.sums = sums.into_iter().flatten().collect::<Vec<_>>().join("; ");
             judged(page, input, report, outcome.engine)?;
             more(page, report, outcome)?;
             remainder(page, input, report)?;
@@ -71,7 +74,7 @@ fn row(page: &mut Page, outcome: &Outcome) -> io::Result<()> {
     writeln!(out, "</tr>")
 }
 
-fn judged(page: &mut Page, input: &Input, report: &Report, engine: Engine) -> io::Result<()> {
+fn judged(page: &mut Page, input: &Input, report: &Judged, engine: Engine) -> io::Result<()> {
     facts(&mut page.streams, input, report, engine)?;
     let drawn = band::drawn(input, report, page.columns)?;
     page.streams.write_all(&drawn)?;
@@ -85,7 +88,7 @@ fn judged(page: &mut Page, input: &Input, report: &Report, engine: Engine) -> io
 }
 
 /// How many refused items are not listed.
-fn more(page: &mut Page, report: &Report, outcome: &Outcome) -> io::Result<()> {
+fn more(page: &mut Page, report: &Judged, outcome: &Outcome) -> io::Result<()> {
     let rows = report.refusals().len();
     let more = rows.saturating_sub(page.left.max(1));
     page.left = page.left.saturating_sub(rows);
@@ -104,16 +107,16 @@ fn more(page: &mut Page, report: &Report, outcome: &Outcome) -> io::Result<()> {
     writeln!(out, "<code>{call}</code> lists {them}.</p>")
 }
 
-fn remainder(page: &mut Page, input: &Input, report: &Report) -> io::Result<()> {
+fn remainder(page: &mut Page, input: &Input, report: &Judged) -> io::Result<()> {
     match report.remainder() {
-        Some(rest) => fault::remainder(&mut page.streams, input, rest),
+        Some(rest) => fault::remainder(&mut page.streams, input, report, rest),
         None => Ok(()),
     }
 }
 
-fn facts(out: &mut Gathered, input: &Input, report: &Report, engine: Engine) -> io::Result<()> {
+fn facts(out: &mut Gathered, input: &Input, report: &Judged, engine: Engine) -> io::Result<()> {
     let (form, bytes) = (input.form, &input.bytes);
-    let accepted = report.items().filter(Item::is_accepted);
+    let accepted = report.items().filter(MixedItem::is_accepted);
     let covered = accepted.fold(0_usize, |sum, item| sum.saturating_add(item.size));
     let rest = match report.remainder() {
         Some(rest) => format!("from {}", rest.offset),
@@ -130,6 +133,9 @@ fn facts(out: &mut Gathered, input: &Input, report: &Report, engine: Engine) -> 
         ("Form", input.form_in_words()),
     ] {
         writeln!(out, "<div><dt>{name}</dt><dd>{value}</dd></div>")?;
+    }
+    if let Some(said) = readable::bodies(report.unjudged().unwrap_or(0)) {
+        writeln!(out, "<div><dt>Not judged</dt><dd>{said}</dd></div>")?;
     }
     if let Some(word) = engine.word() {
         writeln!(out, "<div><dt>Engine</dt><dd>{word}</dd></div>")?;

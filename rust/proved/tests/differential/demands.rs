@@ -29,7 +29,7 @@ pub fn rows(stream: &[u8], form: Form) -> Rows {
     found
 }
 
-fn section<const N: usize>(rest: &mut &[u8], widths: [usize; N]) -> Vec<[usize; N]> {
+pub fn section<const N: usize>(rest: &mut &[u8], widths: [usize; N]) -> Vec<[usize; N]> {
     let count = number(rest, 4);
     let row = |_| widths.map(|width| number(rest, width));
     (0..count).map(row).collect()
@@ -117,7 +117,7 @@ pub fn masked(text: &[u8]) -> Check {
 }
 
 /// The header's length: two units for `7` `8` `9`, `--` and `-_`.
-fn header(stream: &[u8], form: Form, offset: usize) -> usize {
+pub fn header(stream: &[u8], form: Form, offset: usize) -> usize {
     let bits = form.bits(stream, offset);
     let two = match bits >> 18 {
         59..=61 => true,

@@ -81,7 +81,7 @@ const BLOCK: u64 = 1000;
 
 /// Calls `one` for each number below CASES, on THREADS threads, and says how
 /// many it were, and now and then how far it is.
-fn each(what: &str, one: impl Fn(u64) + Sync) {
+pub fn each(what: &str, one: impl Fn(u64) + Sync) {
     let cases = setting("CASES", 20_000);
     let next = AtomicU64::new(0);
     let take_blocks = || loop {

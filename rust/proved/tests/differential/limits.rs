@@ -10,7 +10,7 @@ fn lengths_around_the_limits() {
     let makers = [
         decks::digests,
         decks::nests,
-        decks::mixed,
+        decks::all_codes,
         decks::labels,
         units,
     ];

@@ -5,7 +5,7 @@
 //! Seeded and repeatable. `CASES=1000000 cargo test --release --test
 //! differential generated -- --nocapture` judges so many generated streams,
 //! writes so many primitives and indexed items, puts a group around so many
-//! bodies and compares so many expectations; `SEED=7` others; `THREADS=2` on two
+//! bodies, judges so many mixed streams and compares so many expectations; `SEED=7` others; `THREADS=2` on two
 //! cores.
 
 mod compares;
@@ -16,6 +16,7 @@ mod groups;
 mod judges;
 mod limits;
 mod lookup;
+mod mixed;
 mod papers;
 mod seconds;
 mod walks;

@@ -21,6 +21,8 @@ const GAP: usize = 120;
 #[derive(Clone, Copy, Debug, PartialEq, Eq, PartialOrd, Ord)]
 pub enum Kind {
     Accepted,
+    /// Accepted by its header, its body not judged.
+    Unjudged,
     Remainder,
     Refused,
 }
@@ -29,6 +31,7 @@ impl Kind {
     fn class(self) -> &'static str {
         match self {
             Kind::Accepted => "accepted",
+            Kind::Unjudged => "unjudged",
             Kind::Remainder => "remainder",
             Kind::Refused => "refused",
         }
@@ -138,7 +141,7 @@ impl Row {
             escaped(said)
         );
         match kind {
-            Kind::Accepted => self.under.push_str(&rect),
+            Kind::Accepted | Kind::Unjudged => self.under.push_str(&rect),
             Kind::Refused | Kind::Remainder => self.over.push_str(&rect),
         }
         if kind == Kind::Refused {

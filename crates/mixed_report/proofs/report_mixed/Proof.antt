@@ -1,0 +1,17 @@
+-- `mixed_report::report_mixed` meets its contract. Assumes nothing.
+use Rattle.mixed.specs.Mixed.{mixedLeft}
+use Rattle.mixed_report.proofs.Laws.{too-long}
+use borrow.Author.Needs.{needs}
+use Rattle.mixed_report.proofs.report_mixed.Statement.{statement}
+use Rattle.mixed_report.proofs.report_mixed.Tie as tie
+
+returns : tie.Need-returns
+unfolding mixedLeft
+returns c = search too-long
+
+pub report-mixed-spec : {M : Type 1} → statement M
+report-mixed-spec =
+    tie.close
+    (tie.spec
+    returns (λ c κs. search needs) (λ c κs. search needs) (λ c κs. search needs) (λ c κs. search needs) (λ c. search needs)
+    (λ c. search needs))
