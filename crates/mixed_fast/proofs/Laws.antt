@@ -1,7 +1,7 @@
 -- What the reports' fast way says of a part's start, said of the item at a byte. Assumes nothing.
 use Prim.Native.Nat.{ℕ, zero, suc, _+_, _-_, _*_, _/_, _^_, _≤_, _<_}
 use mathlib.Core.Path.{_≡_, sym, ap, _∙_}
-use mathlib.Core.Bool.{Bool, true}
+use mathlib.Core.Bool.{Bool, true, not}
 use mathlib.Core.List.{List}
 use native.Mathlib.Omega.{arith}
 use native.Mathlib.Nat.{mul-comm, le-div-iff-mul-le}
@@ -9,21 +9,24 @@ use mir.Syntax.{w64}
 use mir.Val as val
 use lib.ListN.{length, getD, take, drop, length-drop}
 use lib.Seq.{getD-take, getD-drop}
+use borrow.Author.Tests.{not-true}
 use Rattle.format.specs.declared.Form.{Form}
 use Rattle.format.specs.declared.Framed.the-variants.{Item}
 use Rattle.format.specs.declared.Verdict.the-variants.{Accepted}
 use Rattle.format.specs.Units.{domain}
+use Rattle.format.specs.Registry.{isIndexed}
 use Rattle.format.specs.Framing.{frameRuled, scale}
 use Rattle.format.specs.Judging.{shift}
 use Rattle.format.specs.Report.{frameIn, judgeIn}
 use Rattle.damage.specs.Damage.{shift-zero}
 use Rattle.laws.specs.Domains.{reader}
-use Rattle.runs.specs.Plain.{groupAt}
+use Rattle.runs.specs.Plain.{smallAt, groupAt, letterAt}
 use Rattle.runs.specs.Levels.{Clear}
 use Rattle.judging.proofs.Laws.{to-end}
 use Rattle.report_found.specs.Limits.{longest}
 use Rattle.report_first.specs.First.{Lent}
 use Rattle.report_fast_laws.specs.Fast.{Good, Accepts}
+use Rattle.report_fast_laws.specs.Laws.{master-size}
 use Rattle.report_sizes.specs.Sizes.{Grouped}
 use Rattle.mixed.specs.declared.Start.the-variants.{Cesr}
 use Rattle.mixed.specs.Mixed.{startOf, startAt, judgeMixed}
@@ -34,11 +37,15 @@ use Rattle.mixed_fast.specs.Found.{Found, Units, Fast}
 -- ---- a part's start
 
 module _ (f : Form) (values classes rows part : List ℕ) (clean g : ℕ) where
-  pub by-group : (g ≤ length part / domain f .unit - 0) × (Lent values classes rows → Grouped (domain f) part clean 0 g) → 0 < g → (b : Bool)
+  pub by-group : (g ≤ length part / domain f .unit - 0) × (Lent values classes rows → Grouped (domain f) part clean 0 g) → 0 < g → (t b : Bool)
+      → (Lent values classes rows → 0 < smallAt (domain f .sextets part) 0 → t ≡ isIndexed (letterAt (domain f .sextets part) 0)) → not t ≡ true
       → (length part ≤ longest → Lent values classes rows → Clear (domain f .sextets part) 0 clean → groupAt (domain f .sextets part) 0 ≡ g → b ≡ true
       → Good (domain f) part 0 g)
       → b ≡ true → Units f values classes rows part clean g
-  by-group s p b v t = record { few = omega (arith, s .0); right = λ l L K _. v l L K (s .1 L p .0) t }
+  by-group s p t b o is v y = record {
+    few = omega (arith, s .0);
+    right = λ l L K _. v l L K (master-size _ _ _ _ (s .1 L p .0) p (o L) (not-true _ is)) y;
+  }
 
   pub by-first : (g ≤ length part / domain f .unit - 0)
       × (length part ≤ longest → Lent values classes rows → Clear (domain f .sextets part) 0 clean → Accepts (domain f) part 0 g)

@@ -16,10 +16,12 @@ fn units_accepted(
 {
     let g = report_sizes::group_size(form, values, classes, rows, part, clean, 0);
     if 0 < g {
-        if report_group::group_accepted(form, values, classes, rows, part, clean, 0, g) {
-            return g;
+        if !report_first::signed(form, values, classes, rows, part, 0) {
+            if report_group::group_accepted(form, values, classes, rows, part, clean, 0, g) {
+                return g;
+            }
+            return 0;
         }
-        return 0;
     }
     report_fast::accepted(form, values, classes, rows, part, clean, 0)
 }

@@ -20,11 +20,11 @@ use Rattle.laws.specs.Domains.{reader}
 use Rattle.laws.specs.Frames.{frames}
 use Rattle.laws.specs.Items.{rowsAt, rows-item, rows-refused, rows-nil}
 use Rattle.runs.specs.Levels.{Clear, clear-less}
-use Rattle.runs.specs.Runs.{Run}
+use Rattle.runs.specs.Runs.{Run, run-none}
 use Rattle.report_first.specs.First.{Lent}
-use Rattle.runs.specs.Plain.{groupAt}
+use Rattle.runs.specs.Plain.{smallAt}
 use Rattle.report_sizes.specs.Sizes.{Grouped, sizeOf, sizeAt}
-use Rattle.report_sizes.proofs.Laws.{tells-group, size-told}
+use Rattle.report_sizes.proofs.Laws.{tells-small, size-told}
 use Rattle.report_count.specs.Counts.{Sized, Stepped, Within, Together, Small, Next, Total}
 
 pub units-few : (f : Form) (s : List ℕ) → length s / domain f .unit ≤ length s
@@ -97,11 +97,11 @@ module _ (f : Form) (s : List ℕ) where
 
 -- a small group, and those with its header
 by-header : (f : Form) (s : List ℕ) (clean at size r : ℕ) → 0 < size → Grouped (domain f) s clean at size
-    → (Clear (domain f .sextets s) at clean → groupAt (domain f .sextets s) at ≡ size → 0 < size → Run (sizeAt (domain f) s) size (length s / domain f .unit) (at + size) r)
+    → (Clear (domain f .sextets s) at clean → smallAt (domain f .sextets s) at ≡ size → 0 < size → Run (sizeAt (domain f) s) size (length s / domain f .unit) (at + size) r)
     → Clear (domain f .sextets s) at clean → Sized f s at size r
 by-header f s clean at size r p G R K =
     let g = G p in
-    let t = tells-group (domain f .sextets s) at clean size (g .1) K (g .0) in
+    let t = tells-small (domain f .sextets s) at clean size (g .1) K (g .0) in
     record {
       first = size-told f s at size (length s / domain f .unit) refl (omega (arith, g .2)) (omega (arith, g .2)) p t;
       behind = R K (g .0);
@@ -138,7 +138,7 @@ module _ (f : Form) (values classes rows s : List ℕ) (clean at size r : ℕ) (
 
   -- groups with one header, and items with one letter
   pub by-headers : (n j : ℕ) → Together size r n j → 0 < size → (Lent values classes rows → Grouped (domain f) s clean at size)
-      → (Clear (domain f .sextets s) at clean → groupAt (domain f .sextets s) at ≡ size → 0 < size → Run (sizeAt (domain f) s) size (length s / domain f .unit) (at + size) r)
+      → (Clear (domain f .sextets s) at clean → smallAt (domain f .sextets s) at ≡ size → 0 < size → Run (sizeAt (domain f) s) size (length s / domain f .unit) (at + size) r)
       → Next f values classes rows s clean at n j
   by-headers n j T p G R = record {
     within = step-within f s at size r n j p h g T;
@@ -153,6 +153,15 @@ module _ (f : Form) (values classes rows s : List ℕ) (clean at size r : ℕ) (
     within = step-within f s at size r n j (pos-of-ne-zero p) h g T;
     right = λ L K. stepped f s at size r n j (pos-of-ne-zero p) T (record { first = E L K; behind = R L K });
   }
+
+-- a group by itself
+module _ (f : Form) (values classes rows s : List ℕ) (clean at size : ℕ) (h : size ≤ length s / domain f .unit - at) where
+  pub alone-small : length s * 1 < 2 ^ 63 → 0 < size → Small size 0
+  alone-small l p = step-small f values classes rows s clean at size 0 h (omega arith) l p
+
+  pub by-alone : (n j : ℕ) → Together size 0 n j → 0 < size → (Lent values classes rows → Grouped (domain f) s clean at size)
+      → Next f values classes rows s clean at n j
+  by-alone n j T p G = by-headers f values classes rows s clean at size 0 h (omega arith) n j T p G (λ K e q. run-none _ _ _ _ q)
 
 pub no-step : (f : Form) (values classes rows s : List ℕ) (clean at m : ℕ)
     → (Lent values classes rows → Clear (domain f .sextets s) at clean → m ≡ sizeAt (domain f) s at) → m ≡ 0

@@ -35,6 +35,10 @@ fn next(
 {
     let g = report_sizes::group_size(form, values, classes, rows, s, clean, at);
     if 0 < g {
+        // Those of signatures differ in size: to ask the next one costs more than it spares.
+        if report_first::signed(form, values, classes, rows, s, at) {
+            return stepped(g, 0);
+        }
         return stepped(g, report_sizes::of_header(form, s, clean, at, g));
     }
     let m = report_sizes::size(form, values, classes, rows, s, clean, at);

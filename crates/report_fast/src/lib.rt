@@ -14,7 +14,7 @@ ghost use Rattle.runs.specs.Levels.{Clear};
 ghost use Rattle.report_next.specs.Next.{isRuled, holdsIndexed};
 ghost use Rattle.report_first.specs.First.{Lent};
 ghost use Rattle.report_found.specs.Limits.{longest};
-ghost use Rattle.report_fast_laws.specs.Fast.{Reach, Accepts, Take, Passes};
+ghost use Rattle.report_fast_laws.specs.Fast.{Reach, Accepts, Signed, Take, Passes};
 
 // ---- items accepted whole, where all is known
 
@@ -39,6 +39,44 @@ fn valued(
     k
 }
 
+// A small signature group of so many units at a unit, if it is accepted: its size, else 0. First units tell most; the others are looked at
+// item by item.
+fn taken_signed(
+    form: Form,
+    values: &[u8; 256],
+    classes: &[u8; 256],
+    rows: &[u16; 192],
+    s: &[u8],
+    levels: usize,
+    at: usize,
+    stop: usize,
+    size: usize,
+) -> usize
+    requires { ⌜ Reach form (now s) at stop × (at < stop) × (size ≤ stop - at) × (0 < size) × (0 < levels) ⌝ }
+    ensures { λ r. ⌜ ((first : Bool) → Signed form (now (values .entry)) (now (classes .entry)) (now (rows .entry)) (now (s .entry)) at size → Take form (now (values .entry)) (now (classes .entry)) (now (rows .entry)) (now (s .entry)) false levels first at stop r) ⌝ }
+{
+    let told = report_fast_indexed::signatures(form, values, classes, rows, s, at, stop);
+    if 0 < told {
+        return told;
+    }
+    let to = at + size;
+    let left = levels - 1;
+    if report_fast_indexed::accepts_indexed(
+        form,
+        values,
+        classes,
+        rows,
+        s,
+        left,
+        false,
+        at + 1,
+        to,
+    ) {
+        return size;
+    }
+    0
+}
+
 // The next item from a unit on, which is no plain primitive and no small value, if it ends in front of another unit and is accepted: its
 // size, else 0.
 fn taken(
@@ -55,13 +93,16 @@ fn taken(
     requires { ⌜ Reach form (now s) at stop × (at < stop) ⌝ }
     ensures { λ r. ⌜ Take form (now (values .entry)) (now (classes .entry)) (now (rows .entry)) (now (s .entry)) false levels first at stop r ⌝ }
 {
-    let g = report_first::group(form, values, classes, rows, s, at);
+    let g = report_first::small(form, values, classes, rows, s, at);
     if 0 < g {
         if stop - at < g {
             return 0;
         }
         if levels == 0 {
             return 0;
+        }
+        if report_first::signed(form, values, classes, rows, s, at) {
+            return taken_signed(form, values, classes, rows, s, levels, at, stop, g);
         }
         let marks = report_first::marks(form, values, classes, rows, s, at);
         let left = levels - 1;

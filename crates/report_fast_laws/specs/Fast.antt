@@ -9,10 +9,12 @@ use Rattle.format.specs.declared.Kind.{Kind}
 use Rattle.format.specs.declared.Framed.the-variants.{Item}
 use Rattle.format.specs.declared.Verdict.the-variants.{Accepted}
 use Rattle.format.specs.Units.{Domain, domain}
+use Rattle.format.specs.Registry.{isIndexed}
 use Rattle.format.specs.Framing.{frameRuled}
 use Rattle.format.specs.Judging.{shift}
 use Rattle.format.specs.Report.{judgeIn}
 use Rattle.laws.specs.Levels.{level}
+use Rattle.runs.specs.Plain.{smallAt, letterAt}
 use Rattle.runs.specs.Levels.{Clear}
 use Rattle.report_found.specs.Limits.{longest}
 use Rattle.report_item.specs.Items.{Takes}
@@ -39,6 +41,11 @@ pub record Good (d : Domain) (xs : List ℕ) (at r : ℕ) : Type 0 where
 -- one-sided: 0 says nothing
 abbrev pub Accepts : Domain → List ℕ → ℕ → ℕ → Type 0
 Accepts d xs at r = 0 < r → Good d xs at r
+
+-- a small group of so many units stands at a unit, and the indexed table frames its items
+pub record Signed (f : Form) (values classes rows s : List ℕ) (at n : ℕ) : Type 0 where
+  pub sized : Lent values classes rows → smallAt (domain f .sextets s) at ≡ n
+  pub lettered : Lent values classes rows → true ≡ isIndexed (letterAt (domain f .sextets s) at)
 
 -- the next item from a unit on by the table that is asked, if it ends in front of another and is accepted; 0 says nothing
 pub record Take (f : Form) (values classes rows s : List ℕ) (t : Bool) (l : ℕ) (first : Bool) (at stop r : ℕ) : Type 0 where

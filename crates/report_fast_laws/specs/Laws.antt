@@ -5,22 +5,25 @@ use mathlib.Core.Bool.{Bool, true, false}
 use mathlib.Core.List.{List}
 use native.Mathlib.Omega.{arith}
 use native.Mathlib.Nat.{mul-comm, mul-le-mul-left, le-trans, le-div-iff-mul-le, min-le-left, min-le-right}
+use lib.Dec.{ltb, eqb}
 use lib.ListN.{length, take, drop, length-drop}
 use lib.Seq.{getD-drop, getD-take}
+use borrow.Author.Tests.{le-ltb, eqb-true}
+use Rattle.base.specs.Pick.{pick}
 use Rattle.format.specs.declared.Form.{Form}
 use Rattle.format.specs.declared.Verdict.the-variants.{Accepted}
 use Rattle.format.specs.declared.Kind.{Kind}
 use Rattle.format.specs.declared.Framed.{Framed}
 use Rattle.format.specs.declared.Framed.the-variants.{Item}
 use Rattle.format.specs.Units.{Domain, domain}
-use Rattle.format.specs.Registry.{opening, isOverrideable}
+use Rattle.format.specs.Registry.{opening, isIndexed, isOverrideable}
 use Rattle.format.specs.Framing.{frame, frameRuled, frameNext, sextet}
 use Rattle.format.specs.Judging.{maxDepth}
 use Rattle.laws.specs.Framing.{Same, Lawful, Good, ruledWith, frameRuled-good}
 use Rattle.laws.specs.Domains.{reader}
 use Rattle.laws.specs.Levels.{part, any-item, item-sizes, level, Taken, taken-sizes}
-use Rattle.runs.specs.Plain.{plainTable, plainAt, groupAt, letterAt}
-use Rattle.runs.specs.Levels.{Clear, clear-less, plain-taken, group-taken}
+use Rattle.runs.specs.Plain.{plainTable, plainAt, smallAt, groupAt, letterAt}
+use Rattle.runs.specs.Levels.{Clear, clear-less, plain-taken, small-taken, small-is-group}
 use Rattle.runs_value.specs.Values.{valuedAt}
 use Rattle.runs_value.specs.Taken.{valued-taken}
 use Rattle.runs_indexed.specs.Indexed.{indexedAt}
@@ -33,7 +36,7 @@ use native.Mathlib.Nat.{pos-of-ne-zero}
 use Rattle.report_found.proofs.Laws.{wide, inner-levels}
 use Rattle.report_item.proofs.Laws.{judged-good, Left, left-start, left-end, left-more, taken-found, taken-entered}
 use Rattle.report_first.specs.First.{Lent}
-use Rattle.report_fast_laws.specs.Fast.{Reach, Ready, Accepts, Take, Passes}
+use Rattle.report_fast_laws.specs.Fast.{Reach, Ready, Accepts, Signed, Take, Passes}
 use Rattle.report_fast_laws.specs.Fast as Fast
 
 -- ---- the next item, as first units tell it
@@ -46,9 +49,10 @@ module _ (f : Form) (values classes rows s : List ℕ) (l at stop : ℕ) (I : In
   long : 4 * stop ≤ length own
   long = wide f s false l false at stop I
 
-  pub by-group : (first : Bool) (n : ℕ) → groupAt own at ≡ n → 0 < n → n ≤ stop - at → 0 < l → (m : Bool) → m ≡ isOverrideable (letterAt own at)
-      → level own false (l - 1) m (at + 1) (at + n) ≡ Accepted → Takes own false l first at stop n
-  by-group first n e p h q m z v _ = group-taken own l stop long first at n stop e p (omega arith) q (R .clear) lt (rw z at v)
+  pub by-small : (first : Bool) (n : ℕ) (t : Bool) → t ≡ isIndexed (letterAt own at) → smallAt own at ≡ n → 0 < n → n ≤ stop - at → 0 < l
+      → (m : Bool) → m ≡ isOverrideable (letterAt own at)
+      → level own t (l - 1) m (at + 1) (at + n) ≡ Accepted → Takes own false l first at stop n
+  by-small first n t o e p h q m z v _ = small-taken own l stop long first at n stop t o e p (omega arith) q (R .clear) lt (rw z at v)
 
   by-plain : (first : Bool) (k : ℕ) → plainAt plainTable own at ≡ k → k ≤ stop - at → Takes own false l first at stop k
   by-plain first k e h p = plain-taken own l stop long first at k stop e p (omega arith) (R .clear) (omega arith)
@@ -260,6 +264,27 @@ module _ (f : Form) (values classes rows s : List ℕ) (t : Bool) (l : ℕ) (fir
             taken-found (domain f .sextets s) t l first at stop (wide f s t l first at stop I) lt g (F .right I lt) k h n e (sym is ∙ y);
       }
 
+-- as a test says
+pub signs : {f : Form} {values classes rows s : List ℕ} {at : ℕ} (n : ℕ) (t : Bool) → 0 < n
+    → (Lent values classes rows → smallAt (domain f .sextets s) at ≡ n)
+    → (Lent values classes rows → 0 < smallAt (domain f .sextets s) at → t ≡ isIndexed (letterAt (domain f .sextets s) at)) → t ≡ true
+    → Signed f values classes rows s at n
+signs n t p e o is = record { sized = e; lettered = λ L. sym is ∙ o L (rw (e L) p) }
+
+-- or that the master table frames its items
+pub master-size : (S : List ℕ) (a g : ℕ) (t : Bool) → smallAt S a ≡ g → 0 < g → (0 < smallAt S a → t ≡ isIndexed (letterAt S a)) → t ≡ false
+    → groupAt S a ≡ g
+master-size S a g t e p o is = rw (← (small-is-group S a (sym (o (rw e p)) ∙ is))) e
+
+-- 7 is never asked of indexed items
+unmarked : (b : ℕ) → isIndexed b ≡ true → isOverrideable b ≡ false
+unfolding isIndexed isOverrideable
+unmarked b e = go (eqb b 10) refl e
+  where
+    go : (x : Bool) → eqb b 10 ≡ x → pick x true (eqb b 11) ≡ true → ltb b 3 ≡ false
+    go true f q = le-ltb b 3 (omega (arith, eqb-true b 10 f))
+    go false f q = le-ltb b 3 (omega (arith, eqb-true b 11 q))
+
 -- a group's items, by the table that is asked, and by the one that its kind says
 module _ {f : Form} {values classes rows s : List ℕ} {l at stop : ℕ} where
   pub by-table : (b t : Bool) → b ≡ t → (m r : Bool) → Passes f values classes rows s t l m at stop r → Passes f values classes rows s b l m at stop r
@@ -272,19 +297,46 @@ module _ {f : Form} {values classes rows s : List ℕ} {l at stop : ℕ} where
 
 -- as first units tell it, by the master table
 module _ (f : Form) (values classes rows s : List ℕ) (l : ℕ) (first : Bool) (at stop : ℕ) (W : Reach f s at stop) (lt : at < stop) where
-  -- a small group
-  pub by-inner : (n : ℕ) (m v : Bool) → Passes f values classes rows s false (l - 1) m (at + 1) (at + n) v → v ≡ true → 0 < n → n ≤ stop - at
-      → (Lent values classes rows → groupAt (domain f .sextets s) at ≡ n)
-      → (l ≡ 0 → ⊥)
-      → (Lent values classes rows → 0 < groupAt (domain f .sextets s) at → m ≡ isOverrideable (letterAt (domain f .sextets s) at))
+  -- a small group, by the table that its letter says
+  by-letter : (n : ℕ) (t m v : Bool) → Passes f values classes rows s t (l - 1) m (at + 1) (at + n) v → v ≡ true → 0 < n → n ≤ stop - at → 0 < l
+      → (Lent values classes rows → smallAt (domain f .sextets s) at ≡ n)
+      → (Lent values classes rows → t ≡ isIndexed (letterAt (domain f .sextets s) at))
+      → (Lent values classes rows → m ≡ isOverrideable (letterAt (domain f .sextets s) at))
       → Take f values classes rows s false l first at stop n
-  by-inner n m v c y p h e q z = record {
+  by-letter n t m v c y p h q e o z = record {
     few = h;
     right = λ R.
-        let g = e (R .lent) in
-        by-group f values classes rows s l at stop (inside W R) lt R first n g p h (pos-of-ne-zero q) m (z (R .lent) (rw g p))
+        by-small f values classes rows s l at stop (inside W R) lt R first n t (o (R .lent)) (e (R .lent)) p h q m (z (R .lent))
         (c .right (ready-part f values classes rows s at stop (at + 1) (at + n) R (omega arith) (omega arith)) y);
   }
+
+  -- one that a test says to be read by the master table
+  pub by-inner : (n : ℕ) (t m v : Bool) → Passes f values classes rows s false (l - 1) m (at + 1) (at + n) v → v ≡ true → 0 < n → n ≤ stop - at
+      → (Lent values classes rows → smallAt (domain f .sextets s) at ≡ n)
+      → (l ≡ 0 → ⊥)
+      → (Lent values classes rows → 0 < smallAt (domain f .sextets s) at → t ≡ isIndexed (letterAt (domain f .sextets s) at)) → t ≡ false
+      → (Lent values classes rows → 0 < groupAt (domain f .sextets s) at → m ≡ isOverrideable (letterAt (domain f .sextets s) at))
+      → Take f values classes rows s false l first at stop n
+  by-inner n t m v c y p h e q o is z =
+      by-letter n false m v c y p h (pos-of-ne-zero q) e unsigned (λ L. z L (rw (← (small-is-group (domain f .sextets s) at (sym (unsigned L))), e L) p))
+    where
+      unsigned : Lent values classes rows → false ≡ isIndexed (letterAt (domain f .sextets s) at)
+      unsigned L = sym is ∙ o L (rw (e L) p)
+
+  -- and by the indexed one
+  pub by-signed : (n : ℕ) (v : Bool) → Passes f values classes rows s true (l - 1) false (at + 1) (at + n) v → v ≡ true → 0 < n → n ≤ stop - at → 0 < l
+      → Signed f values classes rows s at n
+      → Take f values classes rows s false l first at stop n
+  by-signed n v c y p h q G = by-letter n true false v c y p h q (G .sized) (G .lettered) (λ L. sym (unmarked _ (sym (G .lettered L))))
+
+  -- or nothing is said, where its items are told whatever the level
+  pub by-told : (n : ℕ) (t v : Bool) → (Reach f s (at + 1) (at + n) → (m : ℕ) → Passes f values classes rows s true m false (at + 1) (at + n) v)
+      → v ≡ true → n ≤ stop - at → 0 < l
+      → (Lent values classes rows → smallAt (domain f .sextets s) at ≡ n)
+      → (Lent values classes rows → 0 < smallAt (domain f .sextets s) at → t ≡ isIndexed (letterAt (domain f .sextets s) at)) → t ≡ true
+      → Take f values classes rows s false l first at stop n
+  by-told n t v c y h q e o is =
+      record { few = h; right = λ R p. by-signed n v (c (group-inner f s at stop n W lt h p) (l - 1)) y p h q (signs n t p e o is) .right R p }
 
   -- a small variable value
   pub by-value : (k : ℕ) → k ≤ stop - at → (Lent values classes rows → valuedAt (domain f .sextets s) at ≡ k)

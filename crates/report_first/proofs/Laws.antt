@@ -14,13 +14,13 @@ use Rattle.base.specs.Pick.{pick, pick-by}
 use Rattle.format.specs.declared.Form.{Form}
 use Rattle.format.specs.declared.Form.the-variants.{Text, Binary}
 use Rattle.format.specs.Units.{domain, textSextets, binarySextets}
-use Rattle.format.specs.Registry.{isOverrideable}
+use Rattle.format.specs.Registry.{isIndexed, isOverrideable}
 use Rattle.format.specs.Conversion.{firstStranger}
 use Rattle.laws.specs.Conversion.{binary-below}
-use Rattle.runs.specs.Plain.{plainTable, unitBy, sizedAt, plainAt, groupAt, letterAt, marksAt, nested, nestedAt, sextetsBy, groupBy, marksBy}
+use Rattle.runs.specs.Plain.{plainTable, unitBy, sizedAt, plainAt, smallAt, groupAt, letterAt, signedAt, marksAt, nested, nestedAt, sextetsBy, groupBy, classBy}
 use Rattle.runs.specs.Tables.{by-table}
 use Rattle.runs.specs.Levels.{Clear, clear-below}
-use Rattle.runs.specs.Runs.{clear-from, group-by, nested-by, marks-by, marks-at, nested-is}
+use Rattle.runs.specs.Runs.{clear-from, small-by, nested-by, signed-by, marks-by, signed-at, marks-at, nested-is}
 use Rattle.runs_value.specs.Values.{valuedAt}
 use Rattle.runs_indexed.specs.Indexed.{indexedAt}
 use Rattle.report_first.specs.First.{Lent}
@@ -40,16 +40,19 @@ module _ (values classes rows s : List ℕ) (L : Lent values classes rows) (b : 
   pub text-indexed : (k : ℕ) → k ≡ indexedAt (sextetsBy values s) at → indexedAt (textSextets s) at ≡ k
   text-indexed k q = sym (q ∙ rw (L .characters, by-table s b))
 
-  pub text-group : (g : ℕ) → g ≡ groupBy values classes s at → groupAt (textSextets s) at ≡ g
-  text-group g q = sym (q ∙ rw (L .letters, L .characters) (group-by s b at))
+  pub text-small : (g : ℕ) → g ≡ groupBy values classes 2 s at → smallAt (textSextets s) at ≡ g
+  text-small g q = sym (q ∙ rw (L .letters, L .characters) (small-by s b at))
 
-  pub text-marks : (m : Bool) → 0 < groupAt (textSextets s) at → m ≡ marksBy classes s at → m ≡ isOverrideable (letterAt (textSextets s) at)
+  pub text-signed : (m : Bool) → 0 < smallAt (textSextets s) at → m ≡ classBy classes 2 s at → m ≡ isIndexed (letterAt (textSextets s) at)
+  text-signed m p q = q ∙ rw (L .letters) (signed-by s b at _ refl p)
+
+  pub text-marks : (m : Bool) → 0 < groupAt (textSextets s) at → m ≡ classBy classes 1 s at → m ≡ isOverrideable (letterAt (textSextets s) at)
   text-marks m p q = q ∙ rw (L .letters) (marks-by s b at _ refl p)
 
-  pub text-nested : (stop n d : ℕ) → stop ≤ length s / 4 → d ≡ nestedAt (groupBy values classes s) (length s / 4) stop n at
+  pub text-nested : (stop n d : ℕ) → stop ≤ length s / 4 → d ≡ nestedAt (groupBy values classes 1 s) (length s / 4) stop n at
       → nested (groupAt (textSextets s)) stop n at ≡ d
   text-nested stop n d h q =
-      let w : d ≡ nested (groupBy values classes s) stop n at = q ∙ nested-is (groupBy values classes s) (length s / 4) stop n at h in
+      let w : d ≡ nested (groupBy values classes 1 s) stop n at = q ∙ nested-is (groupBy values classes 1 s) (length s / 4) stop n at h in
       sym (w ∙ rw (L .letters, L .characters) (nested-by s b stop n at))
 
 -- ---- a binary
@@ -62,13 +65,17 @@ pub binary-sizes : (values classes rows s : List ℕ) → Lent values classes ro
     → sizedAt plainTable (binarySextets s) at ≡ k
 binary-sizes values classes rows s L at k q = sym (q ∙ rw (L .codes))
 
-group-within : (s : List ℕ) (at : ℕ) → 0 < groupAt s at → at < length s / 4
+unit-within : (f : ℕ → ℕ → ℕ → ℕ → ℕ) (s : List ℕ) (at : ℕ) → 0 < unitBy f s at → at < length s / 4
 unfolding unitBy
-group-within s at p = ⊎-elim (λ l. l) (λ h. absurd (omega (arith, rw (le-ltb at (length s / 4) h) at p))) (lt-or-ge at (length s / 4))
+unit-within f s at p = ⊎-elim (λ l. l) (λ h. absurd (omega (arith, rw (le-ltb at (length s / 4) h) at p))) (lt-or-ge at (length s / 4))
+
+pub binary-signed : (s : List ℕ) (at : ℕ) (m : Bool) → 0 < smallAt (binarySextets s) at → m ≡ signedAt (binarySextets s) at
+    → m ≡ isIndexed (letterAt (binarySextets s) at)
+binary-signed s at m p q = q ∙ signed-at (binarySextets s) at (unit-within _ (binarySextets s) at p)
 
 pub binary-marks : (s : List ℕ) (at : ℕ) (m : Bool) → 0 < groupAt (binarySextets s) at → m ≡ marksAt (binarySextets s) at
     → m ≡ isOverrideable (letterAt (binarySextets s) at)
-binary-marks s at m p q = q ∙ marks-at (binarySextets s) at (group-within (binarySextets s) at p)
+binary-marks s at m p q = q ∙ marks-at (binarySextets s) at (unit-within _ (binarySextets s) at p)
 
 pub binary-nested : (s : List ℕ) (at stop n d : ℕ) → stop ≤ length s / 3 → d ≡ nestedAt (groupAt (binarySextets s)) (length s / 3) stop n at
     → nested (groupAt (binarySextets s)) stop n at ≡ d

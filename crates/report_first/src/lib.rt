@@ -1,13 +1,13 @@
 // What a first unit tells, of either form, by tables that are lent: the size of an item whose header it is, whether it is a plain
-// primitive, which small groups are entered, and where indexed items stand, whether it is one; what it tells with the unit behind it: a
+// primitive, which small groups are entered and by which table, and where indexed items stand, whether it is one; what it tells with the unit behind it: a
 // small variable value; and how far characters are known. Each answer is right where the tables are.
 use format::Form;
 ghost use mathlib.Core.Path.{_≡_};
 ghost use Prim.Native.Nat.{_-_, _/_, _≤_, _<_, min};
 ghost use lib.ListN.{length};
 ghost use Rattle.format.specs.Units.{domain};
-ghost use Rattle.format.specs.Registry.{isOverrideable};
-ghost use Rattle.runs.specs.Plain.{plainTable, plainAt, sizedAt, groupAt, letterAt, nested};
+ghost use Rattle.format.specs.Registry.{isIndexed, isOverrideable};
+ghost use Rattle.runs.specs.Plain.{plainTable, plainAt, sizedAt, smallAt, groupAt, letterAt, nested};
 ghost use Rattle.runs.specs.Levels.{Clear};
 ghost use Rattle.runs_value.specs.Values.{valuedAt};
 ghost use Rattle.runs_indexed.specs.Indexed.{indexedAt};
@@ -79,8 +79,8 @@ pub fn indexed(
     }
 }
 
-// A small group whose items the master table frames.
-pub fn group(
+// A small group, whichever table frames its items.
+pub fn small(
     form: Form,
     values: &[u8; 256],
     classes: &[u8; 256],
@@ -88,15 +88,32 @@ pub fn group(
     s: &[u8],
     at: usize,
 ) -> usize
-    ensures { λ r. ⌜ (Lent (now (values .entry)) (now (classes .entry)) (now (rows .entry)) → groupAt (domain form .sextets (now (s .entry))) at ≡ r) ⌝ }
+    ensures { λ r. ⌜ (Lent (now (values .entry)) (now (classes .entry)) (now (rows .entry)) → smallAt (domain form .sextets (now (s .entry))) at ≡ r) ⌝ }
 {
     match form {
-        Form::Text => runs_text::group_text(values, classes, s, at),
-        Form::Binary => runs_binary::group_binary(s, at),
+        Form::Text => runs_text::small_text(values, classes, s, at),
+        Form::Binary => runs_binary::small_binary(s, at),
     }
 }
 
-// Whether 7 is asked of its first item.
+// Whether the indexed table frames its items.
+pub fn signed(
+    form: Form,
+    values: &[u8; 256],
+    classes: &[u8; 256],
+    rows: &[u16; 192],
+    s: &[u8],
+    at: usize,
+) -> bool
+    ensures { λ r. ⌜ (Lent (now (values .entry)) (now (classes .entry)) (now (rows .entry)) → 0 < smallAt (domain form .sextets (now (s .entry))) at → r ≡ isIndexed (letterAt (domain form .sextets (now (s .entry))) at)) ⌝ }
+{
+    match form {
+        Form::Text => runs_text::signed_text(classes, s, at),
+        Form::Binary => runs_binary::signed_binary(s, at),
+    }
+}
+
+// Whether 7 is asked of its first item, where the master table frames them.
 pub fn marks(
     form: Form,
     values: &[u8; 256],
@@ -113,7 +130,8 @@ pub fn marks(
     }
 }
 
-// How many small groups, of so many at most, stand one in the other from a unit on, each all that is left up to another unit.
+// How many small groups whose items the master table frames, of so many at most, stand one in the other from a unit on, each all that is
+// left up to another unit.
 pub fn nested(
     form: Form,
     values: &[u8; 256],

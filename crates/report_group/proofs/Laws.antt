@@ -1,6 +1,6 @@
 -- Small groups, one in the other, over either form: what their innermost one says. Assumes nothing.
 use Prim.Native.Nat.{ℕ, zero, suc, _+_, _-_, _*_, _/_, _≤_, _<_, min}
-use mathlib.Core.Path.{_≡_, refl, _∙_}
+use mathlib.Core.Path.{_≡_, refl, sym, _∙_}
 use mathlib.Core.Bool.{Bool, true, false}
 use mathlib.Core.List.{List}
 use native.Mathlib.Omega.{arith}
@@ -17,13 +17,13 @@ use Rattle.format.specs.Registry.{isOverrideable}
 use Rattle.laws.specs.Domains.{reader}
 use Rattle.laws.specs.Levels.{level, level-end}
 use Rattle.runs.specs.Plain.{plainTable, plainAt, groupAt, letterAt, nested}
-use Rattle.runs.specs.Levels.{Clear, clear-less, plain-level, Nested, nested-level}
+use Rattle.runs.specs.Levels.{Clear, clear-less, plain-level, group-is-small, Nested, nested-level}
 use Rattle.report_found.specs.Limits.{longest}
 use Rattle.report_found.specs.Finds.{Inside}
 use Rattle.report_found.proofs.Laws.{wide, in-units}
 use Rattle.report_first.specs.First.{Lent}
 use Rattle.report_fast_laws.specs.Fast.{Reach, Ready, Good}
-use Rattle.report_fast_laws.specs.Laws.{inside, by-group, taken-good}
+use Rattle.report_fast_laws.specs.Laws.{inside, by-small, taken-good}
 
 -- ---- groups one in the other
 
@@ -127,5 +127,7 @@ module _ (f : Form) (values classes rows s : List ℕ) (at size clean units stop
       } in
       let I = inside (group-reach .0) R in
       let z : size ≡ at + size - at = omega arith in
+      let w = group-is-small (domain f .sextets s) at size q p in
       taken-good f s at (at + size) size I
-      (by-group f values classes rows s maxDepth at (at + size) I (omega arith) R true size q p (omega arith) (omega arith) _ refl (v R (q ∙ z) t) p)
+      (by-small f values classes rows s maxDepth at (at + size) I (omega arith) R true size false (sym (w .1)) (w .0) p (omega arith) (omega arith) _ refl
+      (v R (q ∙ z) t) p)

@@ -15,7 +15,7 @@ use Rattle.format.specs.Units.{domain, textSextets, binarySextets}
 use Rattle.format.specs.Framing.{sextet}
 use Rattle.laws.specs.Domains.{reader}
 use Rattle.laws.specs.Local.{binary-sextet}
-use Rattle.runs.specs.Plain.{plainTable, rowOf, unitBy, groupAt}
+use Rattle.runs.specs.Plain.{plainTable, rowOf, unitBy, smallAt}
 use Rattle.runs.specs.Tables.{value}
 use Rattle.runs.specs.Levels.{Clear, clear-less}
 use Rattle.runs.specs.Runs.{Run, run-none, sized-by-letter, text-sextet}
@@ -23,7 +23,7 @@ use Rattle.report_first.specs.First.{Lent}
 use Rattle.report_followers.specs.Followers.{same, sameTwo, sameUnit, isLike, likeIn}
 use Rattle.report_followers.proofs.Laws.{picked}
 use Rattle.report_sizes.specs.Sizes.{Tells, sizeAt, letterBy}
-use Rattle.report_sizes.proofs.Laws.{tells-group, tells-sized, size-told}
+use Rattle.report_sizes.proofs.Laws.{tells-small, tells-sized, size-told}
 
 both : (a b : Bool) → pick a b false ≡ true → (a ≡ true) × (b ≡ true)
 both true b e = (refl, e)
@@ -142,12 +142,12 @@ module _ (f : Form) (s : List ℕ) (clean at size r : ℕ) (K : Clear (domain f 
       let w : sextet S (4 * i) ≡ a = letter-is f s i b (n .1) ∙ ap (letterBy f) (sym x) ∙ sym e in
       tells-sized S i clean size (n .0) C (sized-by-letter S i a (rw (reader f .units s) (n .1)) w (omega arith) size q))
 
-  pub header-sizes : at < all → groupAt S at ≡ size → Run (likeIn f s true at size) size stop (at + size) r → Run (sizeAt (domain f) s) size all (at + size) r
+  pub header-sizes : at < all → smallAt S at ≡ size → Run (likeIn f s true at size) size stop (at + size) r → Run (sizeAt (domain f) s) size all (at + size) r
   header-sizes h e R =
       sizes true R
       (λ i t g C.
       let n = behind i g in
-      tells-group S i clean size (n .0) C (sym (unit-same _ f s at i t h (n .1)) ∙ e))
+      tells-small S i clean size (n .0) C (sym (unit-same _ f s at i t h (n .1)) ∙ e))
 
 -- ---- a unit in elements
 
@@ -172,7 +172,7 @@ pub none-sized : (f : Form) (s : List ℕ) (at size : ℕ) → 0 < size → Run 
 none-sized f s at size p = run-none _ _ _ _ p
 
 -- the first unit is within the stream, or nothing follows
-pub header-follows : (f : Form) (s : List ℕ) (clean at size r : ℕ) → Clear (domain f .sextets s) at clean → groupAt (domain f .sextets s) at ≡ size → 0 < size
+pub header-follows : (f : Form) (s : List ℕ) (clean at size r : ℕ) → Clear (domain f .sextets s) at clean → smallAt (domain f .sextets s) at ≡ size → 0 < size
     → Run (likeIn f s true at size) size (min clean (length s / domain f .unit)) (at + size) r → Run (sizeAt (domain f) s) size (length s / domain f .unit) (at + size) r
 header-follows f s clean at size zero K e p R = none-sized f s at size p
 header-follows f s clean at size (suc r) K e p R =

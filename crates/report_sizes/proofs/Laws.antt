@@ -16,8 +16,8 @@ use Rattle.format.specs.Framing.{frameRuled, frameNext, scale}
 use Rattle.format.specs.Report.{frameIn}
 use Rattle.laws.specs.Domains.{reader}
 use Rattle.laws.specs.Frames.{frames}
-use Rattle.runs.specs.Plain.{plainTable, sizedAt, groupAt}
-use Rattle.runs.specs.Levels.{Clear, group-drop, sized-drop}
+use Rattle.runs.specs.Plain.{plainTable, sizedAt, smallAt}
+use Rattle.runs.specs.Levels.{Clear, small-drop, sized-drop}
 use Rattle.runs.specs.Runs.{Run}
 use Rattle.report_sizes.specs.Sizes.{Tells, sizeOf, sizeAt}
 
@@ -31,8 +31,8 @@ told-item : (f : Framed) (k : Kind) (h r : ℕ) → f ≡ Item k h r → sizeOf 
 unfolding sizeOf
 told-item f k h r e = rw e
 
-pub tells-group : (s : List ℕ) (at clean r : ℕ) → at < clean → Clear s at clean → groupAt s at ≡ r → Tells s at r
-tells-group s at clean r l K e p h = told-item _ _ _ _ (group-drop s at clean K l r e p h)
+pub tells-small : (s : List ℕ) (at clean r : ℕ) → at < clean → Clear s at clean → smallAt s at ≡ r → Tells s at r
+tells-small s at clean r l K e p h = told-item _ _ _ _ (small-drop s at clean K l r e p h)
 
 pub tells-sized : (s : List ℕ) (at clean r : ℕ) → at < clean → Clear s at clean → sizedAt plainTable s at ≡ r → Tells s at r
 unfolding frameRuled frameNext

@@ -10,7 +10,7 @@ use Rattle.format.specs.declared.Framed.the-variants.{Item, Unframed}
 use Rattle.format.specs.Alphabet.{sextetOf}
 use Rattle.format.specs.Units.{Domain}
 use Rattle.format.specs.Framing.{frameRuled}
-use Rattle.runs.specs.Plain.{groupAt}
+use Rattle.runs.specs.Plain.{smallAt}
 
 -- the size of a framed item, 0 where it is not framed
 unfoldable pub sizeOf : Framed → ℕ
@@ -23,7 +23,7 @@ Tells s at r = 0 < r → at + r ≤ length s / 4 → sizeOf (frameRuled (drop (4
 
 -- a small group with a known header that ends within the stream; 0 says nothing
 abbrev pub Grouped : Domain → List ℕ → ℕ → ℕ → ℕ → Type 0
-Grouped d xs clean at r = 0 < r → (groupAt (d .sextets xs) at ≡ r) × (at < clean) × (at + r ≤ length xs / d .unit)
+Grouped d xs clean at r = 0 < r → (smallAt (d .sextets xs) at ≡ r) × (at < clean) × (at + r ≤ length xs / d .unit)
 
 -- the size of the item at a unit of a stream
 abbrev pub sizeAt : Domain → List ℕ → ℕ → ℕ

@@ -7,7 +7,7 @@ ghost use Prim.Native.Nat.{_+_, _-_, _*_, _/_, _≤_, _<_};
 ghost use lib.ListN.{length, getD};
 ghost use Rattle.format.specs.Alphabet.{sextetTable};
 ghost use Rattle.format.specs.Units.{domain};
-ghost use Rattle.runs.specs.Plain.{groupAt};
+ghost use Rattle.runs.specs.Plain.{smallAt};
 ghost use Rattle.runs.specs.Levels.{Clear};
 ghost use Rattle.runs.specs.Runs.{Run};
 ghost use Rattle.report_first.specs.First.{Lent};
@@ -30,14 +30,14 @@ fn told(
     if clean <= at {
         return 0;
     }
-    let g = report_first::group(form, values, classes, rows, s, at);
+    let g = report_first::small(form, values, classes, rows, s, at);
     if 0 < g {
         return g;
     }
     report_first::sized(form, values, classes, rows, s, at)
 }
 
-// The size of the small group at a unit whose contents are items, if its header is known and it ends within the stream; else 0.
+// The size of the small group at a unit, if its header is known and it ends within the stream; else 0.
 pub fn group_size(
     form: Form,
     values: &[u8; 256],
@@ -56,7 +56,7 @@ pub fn group_size(
     if all <= at {
         return 0;
     }
-    let g = report_first::group(form, values, classes, rows, s, at);
+    let g = report_first::small(form, values, classes, rows, s, at);
     if all - at < g {
         return 0;
     }
@@ -150,7 +150,7 @@ pub fn of_letter(
 
 // How many groups with the header of the one at a unit follow it.
 pub fn of_header(form: Form, s: &[u8], clean: usize, at: usize, size: usize) -> usize
-    ensures { λ r. ⌜ (r * size ≤ length (now (s .entry)) / domain form .unit - (at + size)) × (Clear (domain form .sextets (now (s .entry))) at clean → groupAt (domain form .sextets (now (s .entry))) at ≡ size → 0 < size → Run (sizeAt (domain form) (now (s .entry))) size (length (now (s .entry)) / domain form .unit) (at + size) r) ⌝ }
+    ensures { λ r. ⌜ (r * size ≤ length (now (s .entry)) / domain form .unit - (at + size)) × (Clear (domain form .sextets (now (s .entry))) at clean → smallAt (domain form .sextets (now (s .entry))) at ≡ size → 0 < size → Run (sizeAt (domain form) (now (s .entry))) size (length (now (s .entry)) / domain form .unit) (at + size) r) ⌝ }
 {
     report_followers::followers(form, s, true, clean, at, size)
 }

@@ -25,8 +25,8 @@ use Rattle.format.specs.Framing.{sextet, fit, headed, frameWith, ruled, frameRu
 use Rattle.format.specs.Judging.{shift, andThen, unless, isShortest, judgeKind, ownCheck, group, judgeWith}
 use Rattle.laws.specs.Framing.{Known, known-next, by-with}
 use Rattle.laws.specs.Levels.{shift-accepted, then-accepts, part, part-length, part-drop, shift-shift, level, level-end, level-item, Taken, taken-level}
-use Rattle.runs.specs.Plain.{plainTable, sizedOf, plainOf, groupOf, unitBy, sizedAt, plainAt, groupAt, letterAt, nested}
-use Rattle.runs.specs.Opened.{Opens, Plain, plain-opens, sized-opens, group-opens}
+use Rattle.runs.specs.Plain.{plainTable, sizedOf, plainOf, smallOf, groupOf, unitBy, sizedAt, plainAt, smallAt, groupAt, letterAt, nested}
+use Rattle.runs.specs.Opened.{Opens, Plain, plain-opens, sized-opens, small-opens, group-small, small-group}
 
 -- ---- known units
 
@@ -130,19 +130,28 @@ plain-frames x n h e p room =
     let q = plain-opens (sextet x 0) (sextet x 1) (sextet x 2) (sextet x 3) n p (h 0 (omega arith)) (h 1 (omega arith)) (h 3 (omega arith)) e in
     record { plain = q; framed = λ first. next-short false first x (q .told .kind) n (q .told .ruleless) (frame-short false x (q .told .kind) n h (q .told .opens) p room) }
 
--- a small group whose items the master table frames
-pub record Small (x : List ℕ) (n : ℕ) : Type 0 where
-  pub clear : isIndexed (sextet x 1) ≡ false
-  pub framed : (first : Bool) → frameNext false first x ≡ Item (Group (sextet x 1)) 1 n
-
-group-frames : (x : List ℕ) (n : ℕ) → Head x → groupOf (sextet x 0) (sextet x 1) (sextet x 2) (sextet x 3) ≡ n → 0 < n → n ≤ length x / 4 → Small x n
+-- a small group, whichever table frames its items
+small-frames : (x : List ℕ) (n : ℕ) → Head x → smallOf (sextet x 0) (sextet x 1) (sextet x 2) (sextet x 3) ≡ n → 0 < n → n ≤ length x / 4
+    → (first : Bool) → frameNext false first x ≡ Item (Group (sextet x 1)) 1 n
 unfolding ruled
-group-frames x n h e p room =
-    let q = group-opens (sextet x 0) (sextet x 1) (sextet x 2) (sextet x 3) n p e in
-    record {
-      clear = q .1;
-      framed = λ first. next-short false first x (Group (sextet x 1)) n (λ at i m. refl) (frame-short false x (Group (sextet x 1)) n h (q .0) p room);
-    }
+small-frames x n h e p room first =
+    let q = small-opens (sextet x 0) (sextet x 1) (sextet x 2) (sextet x 3) n p e in
+    next-short false first x (Group (sextet x 1)) n (λ at i m. refl) (frame-short false x (Group (sextet x 1)) n h q p room)
+
+-- and one whose items the master table frames
+pub group-is-small : (s : List ℕ) (at n : ℕ) → groupAt s at ≡ n → 0 < n → (smallAt s at ≡ n) × (isIndexed (letterAt s at) ≡ false)
+unfolding unitBy
+group-is-small s at n e p = go (ltb at (length s / 4)) refl e
+  where
+    go : (b : Bool) → ltb at (length s / 4) ≡ b
+        → pick b (groupOf (sextet s (4 * at)) (sextet s (4 * at + 1)) (sextet s (4 * at + 2)) (sextet s (4 * at + 3))) 0 ≡ n
+        → (smallAt s at ≡ n) × (isIndexed (letterAt s at) ≡ false)
+    go true f q = let w = group-small _ _ _ _ n p q in (rw f (w .0), w .1)
+    go false f q = absurd (omega arith)
+
+pub small-is-group : (s : List ℕ) (at : ℕ) → isIndexed (letterAt s at) ≡ false → smallAt s at ≡ groupAt s at
+unfolding unitBy
+small-is-group s at e = rw (small-group (sextet s (4 * at)) (sextet s (4 * at + 1)) (sextet s (4 * at + 2)) (sextet s (4 * at + 3)) e)
 
 -- ---- the same, told at a unit of a stream
 
@@ -155,20 +164,20 @@ module _ (s : List ℕ) (at to : ℕ) (k : Clear s at to) (l : at < to) where
   sized-drop n e p h =
       sized-frames (drop (4 * at) s) n (drop-head s at to k l) (told-drop (sizedOf plainTable) s at n e p) p (omega (arith, length-drop (4 * at) s))
 
-  pub group-drop : (n : ℕ) → groupAt s at ≡ n → 0 < n → at + n ≤ length s / 4 → frameRuled (drop (4 * at) s) ≡ Item (Group (letterAt s at)) 1 n
+  pub small-drop : (n : ℕ) → smallAt s at ≡ n → 0 < n → at + n ≤ length s / 4 → frameRuled (drop (4 * at) s) ≡ Item (Group (letterAt s at)) 1 n
   unfolding frameRuled frameNext
-  group-drop n e p h =
+  small-drop n e p h =
       let y : sextet (drop (4 * at) s) 1 ≡ letterAt s at = getD-drop (4 * at) s 1 0 in
-      group-frames (drop (4 * at) s) n (drop-head s at to k l) (told-drop groupOf s at n e p) p (omega (arith, length-drop (4 * at) s)) .framed true ∙ rw y
+      small-frames (drop (4 * at) s) n (drop-head s at to k l) (told-drop smallOf s at n e p) p (omega (arith, length-drop (4 * at) s)) true ∙ rw y
 
 -- ---- what they leave of a verdict
 
--- what is inside such a group
-inside-group : (s : List ℕ) (at n m letter : ℕ) → 0 < m → isIndexed letter ≡ false
-    → shift (4 * at) (judgeKind (Group letter) 1 (part s at (at + n)) (group m)) ≡ level s false (m - 1) (isOverrideable letter) (at + 1) (at + n)
+-- what is inside such a group, by the table that its letter says
+inside-group : (s : List ℕ) (at n m letter : ℕ) (t : Bool) → t ≡ isIndexed letter → 0 < m
+    → shift (4 * at) (judgeKind (Group letter) 1 (part s at (at + n)) (group m)) ≡ level s t (m - 1) (isOverrideable letter) (at + 1) (at + n)
 unfolding judgeKind group ownCheck isShortest unless andThen judgeWith level
-inside-group s at n zero letter p o = absurd (omega arith)
-inside-group s at n (suc m) letter p o =
+inside-group s at n zero letter t o p = absurd (omega arith)
+inside-group s at n (suc m) letter t o p =
     let z : suc m - 1 ≡ m = omega arith in
     let y : 4 * at + 4 * 1 ≡ 4 * (at + 1) = omega arith in
     rw (o, z, shift-shift, y, part-drop s at 1 (at + n))
@@ -196,29 +205,31 @@ module _ (s : List ℕ) (l : ℕ) (stop : ℕ) (long : 4 * stop ≤ length s) wh
       → level s false l first at stop ≡ level s false l false (at + k) stop
   plain-level first at k to e p h b r = taken-level s false l first at stop k long (omega arith) (plain-taken first at k to e p h b r)
 
-  -- a small group is accepted whole where its contents are, one level further in
-  pub group-taken : (first : Bool) (at n to : ℕ) → groupAt s at ≡ n → 0 < n → at + n ≤ stop → 0 < l → Clear s at to → at < to
-      → level s false (l - 1) (isOverrideable (letterAt s at)) (at + 1) (at + n) ≡ Accepted → Taken s false l first at stop n
-  group-taken first at n to e p h d b r v =
+  small-framed : (first : Bool) (at n to : ℕ) → smallAt s at ≡ n → 0 < n → at + n ≤ stop → Clear s at to → at < to
+      → frameNext false first (part s at stop) ≡ Item (Group (letterAt s at)) 1 n
+  small-framed first at n to e p h b r =
       let x : List ℕ = part s at stop in
-      let q = group-frames x n (part-head s at stop to b (omega arith) r) (told-part groupOf s at stop n e p (omega arith)) p (in-part at n h) in
       let y : sextet x 1 ≡ letterAt s at = part-at s at stop 1 (omega arith) in
-      record {
-        kind = Group (sextet x 1);
-        head = 1;
-        framed = q .framed first;
-        judged = shift-accepted (4 * at) _ (inside-group s at n l (sextet x 1) d (q .clear) ∙ rw y v);
-      }
+      small-frames x n (part-head s at stop to b (omega arith) r) (told-part smallOf s at stop n e p (omega arith)) p (in-part at n h) first ∙ rw y
+
+  -- a small group is accepted whole where its contents are, by the table that its letter says and one level further in
+  pub small-taken : (first : Bool) (at n to : ℕ) (t : Bool) → t ≡ isIndexed (letterAt s at) → smallAt s at ≡ n → 0 < n → at + n ≤ stop → 0 < l
+      → Clear s at to → at < to
+      → level s t (l - 1) (isOverrideable (letterAt s at)) (at + 1) (at + n) ≡ Accepted → Taken s false l first at stop n
+  small-taken first at n to t o e p h d b r v = record {
+    kind = Group (letterAt s at);
+    head = 1;
+    framed = small-framed first at n to e p h b r;
+    judged = shift-accepted (4 * at) _ (inside-group s at n l (letterAt s at) t o d ∙ v);
+  }
 
   -- a small group's contents come first, one level further in
   pub group-level : (first : Bool) (at n to : ℕ) → groupAt s at ≡ n → 0 < n → at + n ≤ stop → 0 < l → Clear s at to → at < to
       → level s false l first at stop ≡ andThen (level s false (l - 1) (isOverrideable (letterAt s at)) (at + 1) (at + n)) (level s false l false (at + n) stop)
   group-level first at n to e p h d b r =
-      let x : List ℕ = part s at stop in
-      let q = group-frames x n (part-head s at stop to b (omega arith) r) (told-part groupOf s at stop n e p (omega arith)) p (in-part at n h) in
-      let y : sextet x 1 ≡ letterAt s at = part-at s at stop 1 (omega arith) in
-      level-item s false l first at stop (Group (sextet x 1)) 1 n long (omega arith) (q .framed first)
-      ∙ ap (λ (v : Verdict). andThen v (level s false l false (at + n) stop)) (inside-group s at n l (sextet x 1) d (q .clear) ∙ rw y)
+      let q = group-is-small s at n e p in
+      level-item s false l first at stop (Group (letterAt s at)) 1 n long (omega arith) (small-framed first at n to (q .0) p h b r)
+      ∙ ap (λ (v : Verdict). andThen v (level s false l false (at + n) stop)) (inside-group s at n l (letterAt s at) false (sym (q .1)) d)
 
   -- and is all there is, where the group ends with what is around it
   pub tail-level : (first : Bool) (at to : ℕ) → groupAt s at ≡ stop - at → at < stop → 0 < l → Clear s at to → at < to

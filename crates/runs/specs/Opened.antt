@@ -26,7 +26,7 @@ use Rattle.format.specs.Texts.{valueRight}
 use Rattle.format.specs.Judging.{shift, andThen, unless, isShortest, behind, hasLead, zeroBits, prepadRight, judgeKind}
 use Rattle.laws.specs.Scan.{scan-below}
 use Rattle.laws.specs.Registry.{Finds, fixed-finds}
-use Rattle.runs.specs.Plain.{limitOf, plainRow, rowsOf, plainTable, rowOf, rowAA, typed, notText, lettered, limited, sizedOf, plainOf, groupOf}
+use Rattle.runs.specs.Plain.{limitOf, plainRow, rowsOf, plainTable, rowOf, rowAA, typed, notText, lettered, limited, sizedOf, plainOf, smallOf, groupOf}
 
 -- ---- choices that are not 0
 
@@ -293,11 +293,23 @@ module _ (a b c d n : ℕ) (p : 0 < n) (la : a < 64) (lb : b < 64) (ld : d < 64)
 
 -- ---- a small group
 
-pub group-opens : (a b c d n : ℕ) → 0 < n → groupOf a b c d ≡ n → (opening a b c d ≡ Short (Group b) n) × (isIndexed b ≡ false)
-unfolding groupOf opening
-group-opens a b c d n p e =
+pub small-opens : (a b c d n : ℕ) → 0 < n → smallOf a b c d ≡ n → opening a b c d ≡ Short (Group b) n
+unfolding smallOf lettered opening
+small-opens a b c d n p e =
+    let x = some-then (eqb a 62) _ n e p in
+    let y = some-then (isGroup b) _ n (x .1) p in
+    let a-is : a ≡ 62 = eqb-true _ _ (x .0) in
+    rw (a-is, y .0, y .1)
+
+-- whose items the master table frames
+pub group-small : (a b c d n : ℕ) → 0 < n → groupOf a b c d ≡ n → (smallOf a b c d ≡ n) × (isIndexed b ≡ false)
+unfolding groupOf smallOf lettered
+group-small a b c d n p e =
     let x = some-then (eqb a 62) _ n e p in
     let y = some-then (isGroup b) _ n (x .1) p in
     let z = some-else (isIndexed b) _ n (y .1) p in
-    let a-is : a ≡ 62 = eqb-true _ _ (x .0) in
-    (rw (a-is, y .0, z .1), z .0)
+    (rw (x .0, y .0) (z .1), z .0)
+
+pub small-group : (a b c d : ℕ) → isIndexed b ≡ false → smallOf a b c d ≡ groupOf a b c d
+unfolding groupOf smallOf lettered
+small-group a b c d e = rw e

@@ -1,5 +1,5 @@
 -- What a first unit alone can decide, if its characters are known: the size of an item whose header it is; whether a primitive is
--- accepted, if its other characters are known too; whether the master table frames a group's items. Groups one in the other. Assumes nothing.
+-- accepted, if its other characters are known too; which table frames a group's items. Groups one in the other. Assumes nothing.
 use Prim.Native.Nat.{ℕ, zero, suc, _+_, _-_, _*_, _/_, _%_, _^_}
 use mathlib.Core.List.{List, map, _++_}
 use mathlib.Core.Bool.{Bool, false, not}
@@ -91,7 +91,11 @@ plainOf rows a b c d =
     (pick (eqb a 53) (limited (rowAA rows b c d) 63)
     (pick (eqb a 56) (notText b c d) 0)))
 
--- the size in units of a small group whose items the master table frames, any but `-K` and `-L`; 0 for everything else
+-- the size in units of a small group, whichever table frames its items; 0 for everything else
+unfoldable pub smallOf : ℕ → ℕ → ℕ → ℕ → ℕ
+smallOf a b c d = pick (eqb a 62) (lettered b c d) 0
+
+-- and of one whose items the master table frames, any but `-K` and `-L`
 unfoldable pub groupOf : ℕ → ℕ → ℕ → ℕ → ℕ
 groupOf a b c d = pick (eqb a 62) (pick (isGroup b) (pick (isIndexed b) 0 (counted c d)) 0) 0
 
@@ -107,6 +111,9 @@ sizedAt rows s at = unitBy (sizedOf rows) s at
 abbrev pub plainAt : List ℕ → List ℕ → ℕ → ℕ
 plainAt rows s at = unitBy (plainOf rows) s at
 
+abbrev pub smallAt : List ℕ → ℕ → ℕ
+smallAt s at = unitBy smallOf s at
+
 abbrev pub groupAt : List ℕ → ℕ → ℕ
 groupAt s at = unitBy groupOf s at
 
@@ -118,6 +125,10 @@ letterAt s at = sextet s (4 * at + 1)
 unfoldable pub marksAt : List ℕ → ℕ → Bool
 marksAt s at = pick (ltb at (length s / 4)) (isOverrideable (letterAt s at)) false
 
+-- whether its items are indexed ones
+unfoldable pub signedAt : List ℕ → ℕ → Bool
+signedAt s at = pick (ltb at (length s / 4)) (isIndexed (letterAt s at)) false
+
 -- ---- groups that end with what is around them
 
 -- how many small groups stand one in the other from a unit on, each of them all that is left up to the unit stop, of n at most
@@ -128,8 +139,12 @@ nested g stop (suc n) at = pick (ltb at stop) (pick (eqb (g at) (stop - at)) (su
 unfoldable pub nestedAt : (ℕ → ℕ) → ℕ → ℕ → ℕ → ℕ → ℕ
 nestedAt g units stop n at = pick (ltb units stop) 0 (nested g stop n at)
 
--- ---- the master table frames a group's items
+-- ---- a small group by its first two sextets
 
+unfoldable pub smallBy : ℕ → ℕ → Bool
+smallBy a b = pick (eqb a 62) (isGroup b) false
+
+-- whose items the master table frames
 unfoldable pub opensBy : ℕ → ℕ → Bool
 opensBy a b = pick (eqb a 62) (pick (isGroup b) (not (isIndexed b)) false) false
 
@@ -138,20 +153,21 @@ opensBy a b = pick (eqb a 62) (pick (isGroup b) (not (isIndexed b)) false) false
 unfoldable pub sextetsBy : List ℕ → List ℕ → List ℕ
 sextetsBy values s = map (λ c. getD values c 0) s
 
--- a character as a group's letter: 0 where the master table frames the items, 1 where 7 is asked of the first of them, 2 for everything
--- else
+-- a character as a group's letter: 0 where the master table frames the items, 1 where 7 is asked of the first of them, 2 where the indexed
+-- table frames them, 3 for everything else
 unfoldable pub classOf : ℕ → ℕ
-classOf c = pick (isGroup (sextetOf c)) (pick (isIndexed (sextetOf c)) 2 (pick (isOverrideable (sextetOf c)) 1 0)) 2
+classOf c = pick (isGroup (sextetOf c)) (pick (isIndexed (sextetOf c)) 2 (pick (isOverrideable (sextetOf c)) 1 0)) 3
 
 unfoldable pub classTable : List ℕ
 classTable = map classOf (upTo 256)
 
--- a small group by its characters; 45 is `-`
-unfoldable pub charGroup : List ℕ → List ℕ → ℕ → ℕ → ℕ → ℕ → ℕ
-charGroup values classes w x y z = pick (eqb w 45) (pick (ltb 1 (getD classes x 0)) 0 (counted (getD values y 0) (getD values z 0))) 0
+-- a small group by its characters, of a letter up to a class; 45 is `-`
+unfoldable pub charGroup : List ℕ → List ℕ → ℕ → ℕ → ℕ → ℕ → ℕ → ℕ
+charGroup values classes last w x y z = pick (eqb w 45) (pick (ltb last (getD classes x 0)) 0 (counted (getD values y 0) (getD values z 0))) 0
 
-abbrev pub groupBy : List ℕ → List ℕ → List ℕ → ℕ → ℕ
-groupBy values classes s at = unitBy (charGroup values classes) s at
+abbrev pub groupBy : List ℕ → List ℕ → ℕ → List ℕ → ℕ → ℕ
+groupBy values classes last s at = unitBy (charGroup values classes last) s at
 
-unfoldable pub marksBy : List ℕ → List ℕ → ℕ → Bool
-marksBy classes s at = pick (ltb at (length s / 4)) (eqb (getD classes (sextet s (4 * at + 1)) 0) 1) false
+-- whether the letter of the group at a unit is of a class
+unfoldable pub classBy : List ℕ → ℕ → List ℕ → ℕ → Bool
+classBy classes class s at = pick (ltb at (length s / 4)) (eqb (getD classes (sextet s (4 * at + 1)) 0) class) false

@@ -18,7 +18,7 @@ use Rattle.format.specs.Units.{textSextets}
 use Rattle.format.specs.Framing.{sextet}
 use Rattle.format.specs.Registry.{isGroup, isIndexed, isOverrideable}
 use Rattle.format.specs.Conversion.{firstStranger}
-use Rattle.runs.specs.Plain.{plainTable, rowOf, limited, sizedOf, plainOf, groupOf, unitBy, sizedAt, plainAt, groupAt, letterAt, marksAt, nested, nestedAt, classOf, classTable, charGroup, groupBy, marksBy, counted}
+use Rattle.runs.specs.Plain.{plainTable, rowOf, limited, sizedOf, plainOf, groupOf, unitBy, sizedAt, plainAt, groupAt, letterAt, marksAt, nested, nestedAt, classOf, classTable, charGroup, groupBy, classBy, counted, lettered, smallOf, smallAt, signedAt}
 use Rattle.runs.specs.Tables.{value, dash, class-value}
 use Rattle.runs.specs.Levels.{Clear}
 
@@ -99,26 +99,48 @@ clear-from s at i p q = ⊎-elim inside past (lt-or-ge i (length s))
 
 -- ---- a text's small groups, by its characters
 
-open-class : (g o v : Bool) (n : ℕ) → pick (ltb 1 (pick g (pick o 2 (pick v 1 0)) 2)) 0 n ≡ pick g (pick o 0 n) 0
+open-class : (g o v : Bool) (n : ℕ) → pick (ltb 1 (pick g (pick o 2 (pick v 1 0)) 3)) 0 n ≡ pick g (pick o 0 n) 0
 open-class true true v n = refl
 open-class true false true n = refl
 open-class true false false n = refl
 open-class false o v n = refl
 
-char-group : (w x y z : ℕ) → w < 256 → x < 256 → y < 256 → z < 256
-    → charGroup sextetTable classTable w x y z ≡ groupOf (sextetOf w) (sextetOf x) (sextetOf y) (sextetOf z)
+small-class : (g o v : Bool) (n : ℕ) → pick (ltb 2 (pick g (pick o 2 (pick v 1 0)) 3)) 0 n ≡ pick g n 0
+small-class true true v n = refl
+small-class true false true n = refl
+small-class true false false n = refl
+small-class false o v n = refl
+
+-- what the letters up to a class are, for a rule of sextets
+record Reads (last : ℕ) (rule : ℕ → ℕ → ℕ → ℕ → ℕ) : Type 0 where
+  each : (w x y z : ℕ) → w < 256 → x < 256 → y < 256 → z < 256
+      → charGroup sextetTable classTable last w x y z ≡ rule (sextetOf w) (sextetOf x) (sextetOf y) (sextetOf z)
+
+reads-group : Reads 1 groupOf
 unfolding charGroup groupOf classOf
-char-group w x y z hw hx hy hz =
-    rw (dash w hw, class-value x hx, value y hy, value z hz)
-    (ap (λ (n : ℕ). pick (eqb (sextetOf w) 62) n 0)
-    (open-class (isGroup (sextetOf x)) (isIndexed (sextetOf x)) (isOverrideable (sextetOf x)) (counted (sextetOf y) (sextetOf z))))
+reads-group = record {
+  each = λ w x y z hw hx hy hz.
+      rw (dash w hw, class-value x hx, value y hy, value z hz)
+      (ap (λ (n : ℕ). pick (eqb (sextetOf w) 62) n 0)
+      (open-class (isGroup (sextetOf x)) (isIndexed (sextetOf x)) (isOverrideable (sextetOf x)) (counted (sextetOf y) (sextetOf z))));
+}
+
+reads-small : Reads 2 smallOf
+unfolding charGroup smallOf lettered classOf
+reads-small = record {
+  each = λ w x y z hw hx hy hz.
+      rw (dash w hw, class-value x hx, value y hy, value z hz)
+      (ap (λ (n : ℕ). pick (eqb (sextetOf w) 62) n 0)
+      (small-class (isGroup (sextetOf x)) (isIndexed (sextetOf x)) (isOverrideable (sextetOf x)) (counted (sextetOf y) (sextetOf z))));
+}
 
 module _ (s : List ℕ) (b : (i : ℕ) → getD s i 0 < 256) where
-  pub group-by : (at : ℕ) → groupBy sextetTable classTable s at ≡ groupAt (textSextets s) at
+  by-class : (last : ℕ) (rule : ℕ → ℕ → ℕ → ℕ → ℕ) → Reads last rule → (at : ℕ)
+      → groupBy sextetTable classTable last s at ≡ unitBy rule (textSextets s) at
   unfolding unitBy
-  group-by at = ⊎-elim inside past (lt-or-ge at (length s / 4))
+  by-class last rule R at = ⊎-elim inside past (lt-or-ge at (length s / 4))
     where
-      inside : at < length s / 4 → groupBy sextetTable classTable s at ≡ groupAt (textSextets s) at
+      inside : at < length s / 4 → groupBy sextetTable classTable last s at ≡ unitBy rule (textSextets s) at
       inside h =
           rw (
             text-long s,
@@ -127,39 +149,67 @@ module _ (s : List ℕ) (b : (i : ℕ) → getD s i 0 < 256) where
             text-sextet s (4 * at + 1) (omega arith),
             text-sextet s (4 * at + 2) (omega arith),
             text-sextet s (4 * at + 3) (omega arith),
-          ) (char-group _ _ _ _ (b _) (b _) (b _) (b _))
+          ) (R .each _ _ _ _ (b _) (b _) (b _) (b _))
 
-      past : length s / 4 ≤ at → groupBy sextetTable classTable s at ≡ groupAt (textSextets s) at
+      past : length s / 4 ≤ at → groupBy sextetTable classTable last s at ≡ unitBy rule (textSextets s) at
       past h = rw (text-long s, le-ltb at (length s / 4) h)
+
+  group-by : (at : ℕ) → groupBy sextetTable classTable 1 s at ≡ groupAt (textSextets s) at
+  group-by at = by-class 1 groupOf reads-group at
+
+  pub small-by : (at : ℕ) → groupBy sextetTable classTable 2 s at ≡ smallAt (textSextets s) at
+  small-by at = by-class 2 smallOf reads-small at
 
   nested-alike : (g f : ℕ → ℕ) → ((i : ℕ) → g i ≡ f i) → (stop n at : ℕ) → nested g stop n at ≡ nested f stop n at
   unfolding nested
   nested-alike g f e stop zero at = refl
   nested-alike g f e stop (suc n) at = rw (e at, nested-alike g f e stop n (at + 1))
 
-  pub nested-by : (stop n at : ℕ) → nested (groupBy sextetTable classTable s) stop n at ≡ nested (groupAt (textSextets s)) stop n at
-  nested-by stop n at = nested-alike (groupBy sextetTable classTable s) (groupAt (textSextets s)) group-by stop n at
+  pub nested-by : (stop n at : ℕ) → nested (groupBy sextetTable classTable 1 s) stop n at ≡ nested (groupAt (textSextets s)) stop n at
+  nested-by stop n at = nested-alike (groupBy sextetTable classTable 1 s) (groupAt (textSextets s)) group-by stop n at
 
   -- 7 is asked as the letter says
-  pub marks-by : (at n : ℕ) → groupAt (textSextets s) at ≡ n → 0 < n → marksBy classTable s at ≡ isOverrideable (letterAt (textSextets s) at)
-  unfolding marksBy unitBy groupOf classOf
+  pub marks-by : (at n : ℕ) → groupAt (textSextets s) at ≡ n → 0 < n → classBy classTable 1 s at ≡ isOverrideable (letterAt (textSextets s) at)
+  unfolding classBy unitBy groupOf classOf
   marks-by at n e p = ⊎-elim inside past (lt-or-ge at (length s / 4))
     where
-      asked : (a g o v : Bool) (m : ℕ) → pick a (pick g (pick o 0 m) 0) 0 ≡ n → eqb (pick g (pick o 2 (pick v 1 0)) 2) 1 ≡ v
+      asked : (a g o v : Bool) (m : ℕ) → pick a (pick g (pick o 0 m) 0) 0 ≡ n → eqb (pick g (pick o 2 (pick v 1 0)) 3) 1 ≡ v
       asked true true false true m q = refl
       asked true true false false m q = refl
       asked true true true v m q = absurd (omega arith)
       asked true false o v m q = absurd (omega arith)
       asked false g o v m q = absurd (omega arith)
 
-      inside : at < length s / 4 → marksBy classTable s at ≡ isOverrideable (letterAt (textSextets s) at)
+      inside : at < length s / 4 → classBy classTable 1 s at ≡ isOverrideable (letterAt (textSextets s) at)
       inside h =
           let t = text-sextet s (4 * at + 1) (omega arith) in
           rw (lt-ltb at (length s / 4) h, t, class-value _ (b (4 * at + 1)))
           (asked (eqb (sextet (textSextets s) (4 * at)) 62) (isGroup (sextetOf (getD s (4 * at + 1) 0))) (isIndexed (sextetOf (getD s (4 * at + 1) 0)))
           (isOverrideable (sextetOf (getD s (4 * at + 1) 0))) _ (rw (text-long s, lt-ltb at (length s / 4) h, t) at e))
 
-      past : length s / 4 ≤ at → marksBy classTable s at ≡ isOverrideable (letterAt (textSextets s) at)
+      past : length s / 4 ≤ at → classBy classTable 1 s at ≡ isOverrideable (letterAt (textSextets s) at)
+      past h = absurd (omega (arith, rw (text-long s, le-ltb at (length s / 4) h) at e))
+
+  -- and the indexed table frames its items as the letter says
+  pub signed-by : (at n : ℕ) → smallAt (textSextets s) at ≡ n → 0 < n → classBy classTable 2 s at ≡ isIndexed (letterAt (textSextets s) at)
+  unfolding classBy unitBy smallOf lettered classOf
+  signed-by at n e p = ⊎-elim inside past (lt-or-ge at (length s / 4))
+    where
+      asked : (a g o v : Bool) (m : ℕ) → pick a (pick g m 0) 0 ≡ n → eqb (pick g (pick o 2 (pick v 1 0)) 3) 2 ≡ o
+      asked true true true v m q = refl
+      asked true true false true m q = refl
+      asked true true false false m q = refl
+      asked true false o v m q = absurd (omega arith)
+      asked false g o v m q = absurd (omega arith)
+
+      inside : at < length s / 4 → classBy classTable 2 s at ≡ isIndexed (letterAt (textSextets s) at)
+      inside h =
+          let t = text-sextet s (4 * at + 1) (omega arith) in
+          rw (lt-ltb at (length s / 4) h, t, class-value _ (b (4 * at + 1)))
+          (asked (eqb (sextet (textSextets s) (4 * at)) 62) (isGroup (sextetOf (getD s (4 * at + 1) 0))) (isIndexed (sextetOf (getD s (4 * at + 1) 0)))
+          (isOverrideable (sextetOf (getD s (4 * at + 1) 0))) _ (rw (text-long s, lt-ltb at (length s / 4) h, t) at e))
+
+      past : length s / 4 ≤ at → classBy classTable 2 s at ≡ isIndexed (letterAt (textSextets s) at)
       past h = absurd (omega (arith, rw (text-long s, le-ltb at (length s / 4) h) at e))
 
 -- ---- either form
@@ -167,6 +217,10 @@ module _ (s : List ℕ) (b : (i : ℕ) → getD s i 0 < 256) where
 pub marks-at : (s : List ℕ) (at : ℕ) → at < length s / 4 → marksAt s at ≡ isOverrideable (letterAt s at)
 unfolding marksAt
 marks-at s at h = rw (lt-ltb at (length s / 4) h)
+
+pub signed-at : (s : List ℕ) (at : ℕ) → at < length s / 4 → signedAt s at ≡ isIndexed (letterAt s at)
+unfolding signedAt
+signed-at s at h = rw (lt-ltb at (length s / 4) h)
 
 pub nested-is : (g : ℕ → ℕ) (units stop n at : ℕ) → stop ≤ units → nestedAt g units stop n at ≡ nested g stop n at
 unfolding nestedAt

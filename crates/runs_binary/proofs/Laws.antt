@@ -13,7 +13,7 @@ use Rattle.format.specs.Framing.{sextet}
 use Rattle.format.specs.Registry.{isGroup, isIndexed, isOverrideable}
 use Rattle.laws.specs.Domains.{binary-reader}
 use Rattle.laws.specs.Local.{binary-sextet}
-use Rattle.runs.specs.Plain.{groupOf, opensBy, unitBy, groupAt, marksAt}
+use Rattle.runs.specs.Plain.{lettered, smallOf, smallBy, groupOf, opensBy, unitBy, smallAt, groupAt, letterAt, signedAt, marksAt}
 use Rattle.runs.specs.Units.{unit-at, unit-past}
 use Rattle.runs_binary.specs.Bytes.{UnitBytes}
 use Rattle.runs_value.specs.Values.{unitNumber, isSelector, valuedOf, other-valued, numberAt, valuedAt}
@@ -51,6 +51,17 @@ either true true false k = refl
 either true false o k = refl
 either false g o k = refl
 
+small-either : (a g : Bool) (k : ℕ) → pick a (pick g k 0) 0 ≡ pick (pick a g false) k 0
+small-either true g k = refl
+small-either false g k = refl
+
+small-bytes : (x y z : ℕ) → z < 256
+    → smallOf (x / 4) (x % 4 * 16 + y / 16) (y % 16 * 4 + z / 64) (z % 64) ≡ pick (smallBy (x / 4) (x % 4 * 16 + y / 16)) (1 + (y % 16 * 256 + z)) 0
+unfolding smallOf lettered smallBy
+small-bytes x y z h =
+    let n : (y % 16 * 4 + z / 64) * 64 + z % 64 ≡ y % 16 * 256 + z = omega arith in
+    rw n (small-either (eqb (x / 4) 62) (isGroup (x % 4 * 16 + y / 16)) (1 + (y % 16 * 256 + z)))
+
 group-bytes : (x y z : ℕ) → z < 256
     → groupOf (x / 4) (x % 4 * 16 + y / 16) (y % 16 * 4 + z / 64) (z % 64) ≡ pick (opensBy (x / 4) (x % 4 * 16 + y / 16)) (1 + (y % 16 * 256 + z)) 0
 unfolding groupOf opensBy
@@ -59,15 +70,29 @@ group-bytes x y z h =
     rw n (either (eqb (x / 4) 62) (isGroup (x % 4 * 16 + y / 16)) (isIndexed (x % 4 * 16 + y / 16)) (1 + (y % 16 * 256 + z)))
 
 module _ (s : List ℕ) (at : ℕ) where
+  pub small-unit : at < length s / 3 → {x y z : ℕ} → UnitBytes s at x y z → (o : Bool) → o ≡ smallBy (x / 4) (x % 4 * 16 + y / 16)
+      → pick o (1 + (y % 16 * 256 + z)) 0 ≡ smallAt (binarySextets s) at
+  small-unit h b o e = rw e (sym (small-bytes _ _ _ (b .third-byte)) ∙ binary-unit smallOf s at h b)
+
   pub open-unit : at < length s / 3 → {x y z : ℕ} → UnitBytes s at x y z → (o : Bool) → o ≡ opensBy (x / 4) (x % 4 * 16 + y / 16)
       → pick o (1 + (y % 16 * 256 + z)) 0 ≡ groupAt (binarySextets s) at
   open-unit h b o e = rw e (sym (group-bytes _ _ _ (b .third-byte)) ∙ binary-unit groupOf s at h b)
 
+  letter-unit : at < length s / 3 → {b : ℕ} → b ≡ unitBy (λ a b c d. b) (binarySextets s) at → b ≡ letterAt (binarySextets s) at
+  letter-unit h e = e ∙ sym (unit-at (λ a b c d. b) (binarySextets s) at (rw (binary-reader .units s) h) refl refl refl refl)
+
   pub marks-unit : at < length s / 3 → {b : ℕ} → b ≡ unitBy (λ a b c d. b) (binarySextets s) at → ltb b 3 ≡ marksAt (binarySextets s) at
   unfolding marksAt isOverrideable
-  marks-unit h e =
-      let l = e ∙ sym (unit-at (λ a b c d. b) (binarySextets s) at (rw (binary-reader .units s) h) refl refl refl refl) in
-      rw (binary-reader .units s, lt-ltb _ _ h) (ap (λ (m : ℕ). ltb m 3) l)
+  marks-unit h e = rw (binary-reader .units s, lt-ltb _ _ h) (ap (λ (m : ℕ). ltb m 3) (letter-unit h e))
+
+  pub signed-unit : at < length s / 3 → {b : ℕ} → b ≡ unitBy (λ a b c d. b) (binarySextets s) at → (w : ℕ) → w ≡ b → (r : Bool) → r ≡ isIndexed w
+      → r ≡ signedAt (binarySextets s) at
+  unfolding signedAt
+  signed-unit h e w q r f = f ∙ rw (binary-reader .units s, lt-ltb _ _ h) (ap isIndexed (q ∙ letter-unit h e))
+
+  pub signed-past : length s / 3 ≤ at → false ≡ signedAt (binarySextets s) at
+  unfolding signedAt
+  signed-past h = rw (binary-reader .units s, le-ltb _ _ h)
 
   pub marks-past : length s / 3 ≤ at → false ≡ marksAt (binarySextets s) at
   unfolding marksAt

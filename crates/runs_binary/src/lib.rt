@@ -1,11 +1,11 @@
-// What the first unit at a position of a binary decides, sextet by sextet or byte by byte: sizes, plain primitives, small groups,
-// and which of these stand one in the other; where indexed items stand, these; and what it decides with the unit behind it: small variable
+// What the first unit at a position of a binary decides, sextet by sextet or byte by byte: sizes, plain primitives, small groups and
+// which table frames their items, and which of them stand one in the other; where indexed items stand, these; and what it decides with the unit behind it: small variable
 // values.
 ghost use mathlib.Core.Path.{_≡_};
 ghost use Prim.Native.Nat.{ℕ, _+_, _*_, _/_, _%_, _<_};
 ghost use lib.ListN.{length, getD};
 ghost use Rattle.format.specs.Units.{binarySextets};
-ghost use Rattle.runs.specs.Plain.{sizedAt, plainAt, groupAt, marksAt, nestedAt, unitBy};
+ghost use Rattle.runs.specs.Plain.{sizedAt, plainAt, smallAt, groupAt, signedAt, marksAt, nestedAt, unitBy};
 ghost use Rattle.runs_value.specs.Values.{numberAt, valuedAt};
 ghost use Rattle.runs_indexed.specs.Indexed.{indexedAt};
 ghost use Rattle.runs_binary.specs.Bytes.{UnitBytes};
@@ -148,6 +148,19 @@ pub fn valued_binary(s: &[u8], at: usize) -> usize
 }
 
 // The count byte by byte, which saves steps.
+fn small_in_binary(s: &[u8], at: usize) -> usize
+    requires { ⌜ at < length (now s) / 3 ⌝ }
+    ensures { λ r. ⌜ r ≡ smallAt (binarySextets (now (s .entry))) at ⌝ }
+{
+    let b = bytes(s, at);
+    if runs_open::is_small(b.x / 4, b.x % 4 * 16 + b.y / 16) {
+        1 + (b.y % 16 * 256 + b.z)
+    } else {
+        0
+    }
+}
+
+// The same of a group whose items the master table frames.
 fn group_in_binary(s: &[u8], at: usize) -> usize
     requires { ⌜ at < length (now s) / 3 ⌝ }
     ensures { λ r. ⌜ r ≡ groupAt (binarySextets (now (s .entry))) at ⌝ }
@@ -160,17 +173,27 @@ fn group_in_binary(s: &[u8], at: usize) -> usize
     }
 }
 
-// The size in units of the small group at a unit whose items the master table frames, or 0.
-pub fn group_binary(s: &[u8], at: usize) -> usize
-    ensures { λ r. ⌜ r ≡ groupAt (binarySextets (now (s .entry))) at ⌝ }
+// The size in units of the small group at a unit, whichever table frames its items, or 0.
+pub fn small_binary(s: &[u8], at: usize) -> usize
+    ensures { λ r. ⌜ r ≡ smallAt (binarySextets (now (s .entry))) at ⌝ }
 {
     if s.len() / 3 <= at {
         return 0;
     }
-    group_in_binary(s, at)
+    small_in_binary(s, at)
 }
 
-// Whether 7 is asked of the first item of the small group at a unit.
+// Whether the indexed table frames the items of the small group at a unit.
+pub fn signed_binary(s: &[u8], at: usize) -> bool
+    ensures { λ r. ⌜ r ≡ signedAt (binarySextets (now (s .entry))) at ⌝ }
+{
+    if s.len() / 3 <= at {
+        return false;
+    }
+    runs_open::is_signed(wide(unit(s, at).b))
+}
+
+// Whether 7 is asked of its first item.
 pub fn marks_binary(s: &[u8], at: usize) -> bool
     ensures { λ r. ⌜ r ≡ marksAt (binarySextets (now (s .entry))) at ⌝ }
 {
@@ -180,7 +203,8 @@ pub fn marks_binary(s: &[u8], at: usize) -> bool
     unit(s, at).b < 3
 }
 
-// How many small groups, of so many at most, stand one in the other from a unit on, each all that is left up to another unit.
+// How many small groups whose items the master table frames, of so many at most, stand one in the other from a unit on, each all that is
+// left up to another unit.
 pub fn nested_binary(s: &[u8], at: usize, stop: usize, most: usize) -> usize
     ensures { λ r. ⌜ r ≡ nestedAt (groupAt (binarySextets (now (s .entry)))) (length (now (s .entry)) / 3) stop most at ⌝ }
 {

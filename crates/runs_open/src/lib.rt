@@ -1,6 +1,27 @@
-// Whether two sextets begin a small group whose items the master table frames. Every number is answered, also one that is no sextet.
+// Whether two sextets begin a small group, and which table frames its items. Every number is answered, also one that is no sextet.
 ghost use mathlib.Core.Path.{_≡_};
-ghost use Rattle.runs.specs.Plain.{opensBy};
+ghost use Rattle.format.specs.Registry.{isIndexed};
+ghost use Rattle.runs.specs.Plain.{smallBy, opensBy};
+
+// A small group, by its first two sextets.
+pub fn is_small(a: usize, b: usize) -> bool
+    ensures { λ r. ⌜ r ≡ smallBy a b ⌝ }
+{
+    if a != 62 {
+        return false;
+    }
+    b < 29
+}
+
+// Whether the indexed table frames the items of a group with this letter.
+pub fn is_signed(b: usize) -> bool
+    ensures { λ r. ⌜ r ≡ isIndexed b ⌝ }
+{
+    if b == 11 {
+        return true;
+    }
+    b == 10
+}
 
 // A group whose items the master table frames, by its first two sextets.
 pub fn is_open(a: usize, b: usize) -> bool

@@ -1,10 +1,10 @@
 // What the first unit at a position of a text decides, by its characters and the tables lent: sizes, plain primitives, small
-// groups, and which of these stand one in the other; where indexed items stand, these; and what it decides with the unit behind it: small
+// groups and which table frames their items, and which of them stand one in the other; where indexed items stand, these; and what it decides with the unit behind it: small
 // variable values. Whether a character is known is not asked.
 ghost use mathlib.Core.Path.{_≡_};
 ghost use Prim.Native.Nat.{ℕ, _/_, _<_};
 ghost use lib.ListN.{length, getD};
-ghost use Rattle.runs.specs.Plain.{sizedAt, plainAt, groupBy, marksBy, nestedAt, unitBy, sextetsBy};
+ghost use Rattle.runs.specs.Plain.{sizedAt, plainAt, groupBy, classBy, nestedAt, unitBy, sextetsBy};
 ghost use Rattle.runs_value.specs.Values.{numberAt, valuedAt};
 ghost use Rattle.runs_indexed.specs.Indexed.{indexedAt};
 
@@ -103,42 +103,57 @@ pub fn indexed_text(values: &[u8; 256], s: &[u8], at: usize) -> usize
     runs_indexed::indexed(u.a, u.b, u.c, u.d)
 }
 
-// By the characters themselves, which saves look-ups: 45 is `-`.
-fn group_in_text(values: &[u8; 256], classes: &[u8; 256], s: &[u8], at: usize) -> usize
+// A small group of a letter up to a class. By the characters themselves, which saves look-ups: 45 is `-`.
+fn group_in_text(values: &[u8; 256], classes: &[u8; 256], last: u8, s: &[u8], at: usize) -> usize
     requires { ⌜ at < length (now s) / 4 ⌝ }
-    ensures { λ r. ⌜ r ≡ groupBy (now (values .entry)) (now (classes .entry)) (now (s .entry)) at ⌝ }
+    ensures { λ r. ⌜ r ≡ groupBy (now (values .entry)) (now (classes .entry)) last (now (s .entry)) at ⌝ }
 {
     let i = 4 * at;
     if s[i] != 45 {
         return 0;
     }
-    if 1 < value(classes, s, i + 1) {
+    if last < value(classes, s, i + 1) {
         return 0;
     }
     runs::counted(value(values, s, i + 2), value(values, s, i + 3))
 }
 
-// The size in units of the small group at a unit whose items the master table frames, or 0.
-pub fn group_text(values: &[u8; 256], classes: &[u8; 256], s: &[u8], at: usize) -> usize
-    ensures { λ r. ⌜ r ≡ groupBy (now (values .entry)) (now (classes .entry)) (now (s .entry)) at ⌝ }
+// The size in units of the small group at a unit, whichever table frames its items, or 0.
+pub fn small_text(values: &[u8; 256], classes: &[u8; 256], s: &[u8], at: usize) -> usize
+    ensures { λ r. ⌜ r ≡ groupBy (now (values .entry)) (now (classes .entry)) 2 (now (s .entry)) at ⌝ }
 {
     if s.len() / 4 <= at {
         return 0;
     }
-    group_in_text(values, classes, s, at)
+    group_in_text(values, classes, 2, s, at)
 }
 
-// Whether 7 is asked of the first item of the small group at a unit.
-pub fn marks_text(classes: &[u8; 256], s: &[u8], at: usize) -> bool
-    ensures { λ r. ⌜ r ≡ marksBy (now (classes .entry)) (now (s .entry)) at ⌝ }
+// Whether the letter of the small group at a unit is of a class.
+fn is_class(classes: &[u8; 256], class: u8, s: &[u8], at: usize) -> bool
+    ensures { λ r. ⌜ r ≡ classBy (now (classes .entry)) class (now (s .entry)) at ⌝ }
 {
     if s.len() / 4 <= at {
         return false;
     }
-    value(classes, s, 4 * at + 1) == 1
+    value(classes, s, 4 * at + 1) == class
 }
 
-// How many small groups, of so many at most, stand one in the other from a unit on, each all that is left up to another unit.
+// Whether the indexed table frames the items of the small group at a unit.
+pub fn signed_text(classes: &[u8; 256], s: &[u8], at: usize) -> bool
+    ensures { λ r. ⌜ r ≡ classBy (now (classes .entry)) 2 (now (s .entry)) at ⌝ }
+{
+    is_class(classes, 2, s, at)
+}
+
+// Whether 7 is asked of its first item.
+pub fn marks_text(classes: &[u8; 256], s: &[u8], at: usize) -> bool
+    ensures { λ r. ⌜ r ≡ classBy (now (classes .entry)) 1 (now (s .entry)) at ⌝ }
+{
+    is_class(classes, 1, s, at)
+}
+
+// How many small groups whose items the master table frames, of so many at most, stand one in the other from a unit on, each all that is
+// left up to another unit.
 pub fn nested_text(
     values: &[u8; 256],
     classes: &[u8; 256],
@@ -147,7 +162,7 @@ pub fn nested_text(
     stop: usize,
     most: usize,
 ) -> usize
-    ensures { λ r. ⌜ r ≡ nestedAt (groupBy (now (values .entry)) (now (classes .entry)) (now (s .entry))) (length (now (s .entry)) / 4) stop most at ⌝ }
+    ensures { λ r. ⌜ r ≡ nestedAt (groupBy (now (values .entry)) (now (classes .entry)) 1 (now (s .entry))) (length (now (s .entry)) / 4) stop most at ⌝ }
 {
     if s.len() / 4 < stop {
         return 0;
@@ -156,7 +171,7 @@ pub fn nested_text(
     let low = runs::beyond(all, most);
     let mut left = all;
     while low < left {
-        if group_in_text(values, classes, s, stop - left) != left {
+        if group_in_text(values, classes, 1, s, stop - left) != left {
             return all - left;
         }
         left = left - 1;

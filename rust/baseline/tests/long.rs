@@ -3,9 +3,19 @@
 mod common;
 
 use common::assert_alike;
-use streams::decks::{all_codes, digests, labels, nests, small_bytes};
+use streams::decks::{all_codes, attachments, digests, labels, nests, signatures, small_bytes};
 use streams::form::FORMS;
 use streams::{Form, Random};
+
+const DECKS: [fn(&mut Random, usize) -> Vec<u8>; 7] = [
+    digests,
+    nests,
+    signatures,
+    attachments,
+    all_codes,
+    labels,
+    small_bytes,
+];
 
 #[test]
 fn of_just_the_limit_and_one_more() {
@@ -22,7 +32,7 @@ fn of_just_the_limit_and_one_more() {
 #[test]
 fn the_timed_decks_are_accepted_and_alike() {
     let mut random = Random::new(0x71AED);
-    for make in [digests, nests, all_codes, labels, small_bytes] {
+    for make in DECKS {
         let deck = make(&mut random, 200_000);
         for form in FORMS {
             let stream = form.of_text(&deck);
@@ -37,7 +47,7 @@ fn the_timed_decks_are_accepted_and_alike() {
 #[test]
 fn strangers_far_in() {
     let mut random = Random::new(0x57A6);
-    for make in [digests, nests, all_codes, labels, small_bytes] {
+    for make in DECKS {
         for strangers in 1..12 {
             let mut deck = make(&mut random, 20_000);
             for _ in 0..strangers {

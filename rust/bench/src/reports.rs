@@ -3,7 +3,7 @@
 
 use crate::race::{Contender, Race, Rate, REFUSED};
 use crate::SIZES;
-use streams::decks::{all_codes, digests, labels, nests, signatures, small_bytes};
+use streams::decks::{all_codes, attachments, digests, labels, nests, signatures, small_bytes};
 use streams::{Form, Random};
 
 /// A further program is one more line in each of the two lists.
@@ -37,10 +37,11 @@ pub fn binary_report(stream: &[u8], out: &mut [u8]) -> usize {
 pub type Deck = fn(&mut Random, usize) -> Vec<u8>;
 
 /// The last two have the same sizes and selectors, from the same seed.
-pub const DECKS: [(&str, Deck); 6] = [
+pub const DECKS: [(&str, Deck); 7] = [
     ("digests", digests),
     ("groups nested ten deep", nests),
     ("groups of one to four indexed signatures", signatures),
+    ("attachments of a key event log", attachments),
     ("all codes, groups three deep", all_codes),
     ("labels and locations of type A", labels),
     ("the same as bytes of type B", small_bytes),

@@ -45,24 +45,69 @@ pub fn small_bytes(random: &mut Random, size: usize) -> Vec<u8> {
 /// Groups `-K` of one to four indexed signatures of Ed25519, 88 characters each,
 /// their indexes in turn.
 pub fn signatures(random: &mut Random, size: usize) -> Vec<u8> {
+    fill(size, || signed(random, b'K'))
+}
+
+/// What stands behind a key event log's messages: a genus/version, then groups
+/// `-C` of controllers' and witnesses' signatures, receipt couples, replay
+/// couples and seal source couples, as 003 has these groups.
+pub fn attachments(random: &mut Random, size: usize) -> Vec<u8> {
+    let mut front = Some(Item::Genus(*b"AAACAA"));
+    fill(size, || front.take().unwrap_or_else(|| attached(random)))
+}
+
+/// Signatures of controllers and a first seen replay couple always, the rest
+/// as often as not.
+fn attached(random: &mut Random) -> Item {
+    let mut body = vec![signed(random, b'K')];
+    if random.once_in(2) {
+        body.push(signed(random, b'L'));
+    }
+    if random.once_in(2) {
+        body.push(couples(random, b'M', ["B", "0B"]));
+    }
+    body.push(couples(random, b'O', ["0A", "1AAG"]));
+    if random.once_in(2) {
+        body.push(couples(random, b'S', ["0A", "E"]));
+    }
+    group(b'C', body)
+}
+
+/// One to four indexed signatures of Ed25519, their indexes in turn.
+fn signed(random: &mut Random, letter: u8) -> Item {
     let row = INDEXED[0];
     assert_eq!((row.code, row.full), ("A", 88));
-    fill(size, || {
-        let signed = |place: u8| match indexed(random, row) {
-            Item::Primitive(mut text) => {
-                text[1] = b'A' + place;
-                Item::Primitive(text)
-            }
-            other => other,
-        };
-        let mut body: Vec<Item> = (0..4).map(signed).collect();
-        body.truncate(1 + random.below(4));
-        Item::Group {
-            letter: b'K',
-            large: false,
-            body,
+    let signature = |place: u8| match indexed(random, row) {
+        Item::Primitive(mut text) => {
+            text[1] = b'A' + place;
+            Item::Primitive(text)
         }
-    })
+        other => other,
+    };
+    let mut body: Vec<Item> = (0..4).map(signature).collect();
+    body.truncate(1 + random.below(4));
+    group(letter, body)
+}
+
+/// One or two couples of fixed codes.
+fn couples(random: &mut Random, letter: u8, codes: [&str; 2]) -> Item {
+    let couple = codes.map(|code| {
+        *FIXED
+            .iter()
+            .find(|row| row.0 == code)
+            .expect("a fixed code")
+    });
+    let many = 1 + random.below(2);
+    let body = (0..many).flat_map(|_| couple);
+    group(letter, body.map(|row| fixed(random, row)).collect())
+}
+
+fn group(letter: u8, body: Vec<Item>) -> Item {
+    Item::Group {
+        letter,
+        large: false,
+        body,
+    }
 }
 
 fn label(random: &mut Random, letter: u8) -> Item {
@@ -119,6 +164,30 @@ mod tests {
         sizes.sort();
         sizes.dedup();
         assert_eq!(sizes, [22, 44, 66, 88]);
+    }
+
+    #[test]
+    fn attachments_hold_each_kind_of_group() {
+        let deck = attachments(&mut Random::new(3), 20_000);
+        assert!(deck.starts_with(b"-_AAACAA-C"));
+        let units = |at: usize| {
+            let digit = |c: &u8| ALPHABET.iter().position(|known| known == c).unwrap();
+            64 * digit(&deck[at + 2]) + digit(&deck[at + 3])
+        };
+        let (mut at, mut letters) = (8, Vec::new());
+        while at < deck.len() {
+            assert_eq!(&deck[at..at + 2], b"-C");
+            let end = at + 4 + 4 * units(at);
+            at += 4;
+            while at < end {
+                letters.push(deck[at + 1]);
+                at += 4 + 4 * units(at);
+            }
+            assert_eq!(at, end);
+        }
+        letters.sort();
+        letters.dedup();
+        assert_eq!(letters, b"KLMOS");
     }
 
     #[test]

@@ -15,4 +15,4 @@ returns-3 c = search by-first
 
 pub units-accepted-spec : {M : Type 1} → statement M
 units-accepted-spec =
-    tie.close (tie.spec (λ c κs. search needs) (λ c κs. search needs) returns returns-2 (λ c κs. search needs) returns-3)
+    tie.close (tie.spec (λ c κs. search needs) (λ c κs. search needs) (λ c κs. search needs) returns returns-2 (λ c κs. search needs) returns-3)

@@ -5,7 +5,7 @@ use mathlib.Core.Bool.{true, false}
 use native.Mathlib.Omega.{arith}
 use native.Mathlib.Nat.{pos-of-ne-zero}
 use borrow.Author.Needs.{needs}
-use Rattle.report_fast_laws.specs.Laws.{Going, going-start, going-reach, going-plain, going-taken, going-valued, going-less, going-end, no-pass, inner-reach, inner-falls, by-contents, by-own, by-kind, group-inner, group-falls, by-inner, nothing}
+use Rattle.report_fast_laws.specs.Laws.{Going, going-start, going-reach, going-plain, going-taken, going-valued, going-less, going-end, no-pass, inner-reach, inner-falls, by-contents, by-own, by-kind, group-inner, group-falls, by-inner, signs, nothing}
 use Rattle.report_found.proofs.Laws.{inner-levels, head-fits, size-fits}
 use borrow.Fn.Kinds.{In}
 use borrow.Fn.PlainCycle.{Measures, is, falls, and}
@@ -23,7 +23,9 @@ use Rattle.report_fast.proofs.taken.Kinds as taken-kinds
 use Rattle.report_fast.proofs.+accepts+entered+other+taken.Lts-taken as taken-lts
 use Rattle.report_fast_indexed.proofs.accepts_indexed.Reads as accepts-indexed-reads
 use Rattle.report_fast.proofs.valued.Reads as valued-reads
-use Rattle.report_first.proofs.group.Reads as group-reads
+use Rattle.report_first.proofs.small.Reads as small-reads
+use Rattle.report_first.proofs.signed.Reads as signed-reads
+use Rattle.report_fast.proofs.taken_signed.Reads as taken-signed-reads
 use Rattle.report_first.proofs.marks.Reads as marks-reads
 use Rattle.report_first.proofs.plain.Reads as plain-reads
 use Rattle.report_found.proofs.found.Reads as found-reads
@@ -148,8 +150,12 @@ pub +accepts+entered+other+taken-spec : {M : Type 1} → statement M
     (λ c. search nothing)
     (λ c. search by-own))
     λ t. taken-lts.spec (
-      group-reads.Asked,
-      group-reads.Learnt,
+      small-reads.Asked,
+      small-reads.Learnt,
+      signed-reads.Asked,
+      signed-reads.Learnt,
+      taken-signed-reads.Asked,
+      taken-signed-reads.Learnt,
       marks-reads.Asked,
       marks-reads.Learnt,
       accepts-below t,
@@ -164,9 +170,18 @@ pub +accepts+entered+other+taken-spec : {M : Type 1} → statement M
     (λ c. search nothing)
     (λ c. search nothing)
     (λ c κs. search needs)
+    (λ c κs.
+    let sized = c .before .before .before .before in
+    let W = sized .before .before .before .pre .1 in
+    (W .0, W .1, c .before .before .before .if2 .left, sized .if1 .taken, pos-of-ne-zero (c .before .before .if3 .left)))
+    (λ c.
+    let signed = c .before .before in
+    let sized = signed .before .before .before in
+    c .taken-signed .ensures _ (signs _ _ (sized .if1 .taken) (sized .before .small .ensures) (signed .signed .ensures) (c .before .if4 .taken)))
+    (λ c κs. search needs)
     (λ c. search needs)
     (λ c. search needs)
-    (λ c. omega (arith, pos-of-ne-zero (c .before .if3 .left)))
+    (λ c. omega (arith, pos-of-ne-zero (c .before .before .before .if3 .left)))
     (λ c κs. (search group-falls, search group-inner))
     (λ c. search by-inner)
     (λ c. search nothing)

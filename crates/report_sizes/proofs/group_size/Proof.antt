@@ -13,7 +13,7 @@ returns-3 : tie.Need-returns-3
 returns-3 c = (omega arith, λ l p. absurd (omega arith))
 
 returns-4 : tie.Need-returns-4
-returns-4 c = (omega (arith, c .before .before .before .units .ensures, c .if3 .left), λ l p. (c .before .group .ensures l, c .before .before .before .before .if1 .left, omega (arith, c .before .before .before .units .ensures, c .before .before .if2 .left, c .if3 .left)))
+returns-4 c = (omega (arith, c .before .before .before .units .ensures, c .if3 .left), λ l p. (c .before .small .ensures l, c .before .before .before .before .if1 .left, omega (arith, c .before .before .before .units .ensures, c .before .before .if2 .left, c .if3 .left)))
 
 pub group-size-spec : {M : Type 1} → statement M
 group-size-spec =

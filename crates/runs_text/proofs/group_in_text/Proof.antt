@@ -12,11 +12,11 @@ returns c = rw (lt-ltb _ _ (c .before .before .before .pre), ne-eqb _ _ (c .if1 
 
 returns-2 : tie.Need-returns-2
 unfolding unitBy charGroup
-returns-2 c = rw (lt-ltb _ _ (c .before .before .before .before .before .pre), eq-eqb _ _ (c .before .before .if1 .left), ← (c .before .value .ensures), lt-ltb 1 (c .before .value .result) (omega (arith, c .if2 .taken)))
+returns-2 c = rw (lt-ltb _ _ (c .before .before .before .before .before .pre), eq-eqb _ _ (c .before .before .if1 .left), ← (c .before .value .ensures), lt-ltb (c .before .before .before .before .before .args .last) (c .before .value .result) (omega (arith, c .if2 .taken)))
 
 returns-3 : tie.Need-returns-3
 unfolding unitBy charGroup
-returns-3 c = rw (lt-ltb _ _ (c .before .before .before .before .before .before .before .before .pre), eq-eqb _ _ (c .before .before .before .before .before .if1 .left), ← (c .before .before .before .before .value .ensures), le-ltb 1 (c .before .before .before .before .value .result) (omega (arith, c .before .before .before .if2 .left)), ← (c .before .before .value2 .ensures), ← (c .before .value3 .ensures)) (c .counted .ensures)
+returns-3 c = rw (lt-ltb _ _ (c .before .before .before .before .before .before .before .before .pre), eq-eqb _ _ (c .before .before .before .before .before .if1 .left), ← (c .before .before .before .before .value .ensures), le-ltb (c .before .before .before .before .before .before .before .before .args .last) (c .before .before .before .before .value .result) (omega (arith, c .before .before .before .if2 .left)), ← (c .before .before .value2 .ensures), ← (c .before .value3 .ensures)) (c .counted .ensures)
 
 pub group-in-text-spec : {M : Type 1} → statement M
 group-in-text-spec =

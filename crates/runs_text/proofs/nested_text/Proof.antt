@@ -10,7 +10,7 @@ use Rattle.runs_text.proofs.nested_text.Statement.{statement}
 use Rattle.runs_text.proofs.nested_text.Tie as tie
 
 abbrev Inv-loop : tie.InvT-loop
-Inv-loop values classes s at stop most all low left₀ left = Left (groupBy values classes s) stop most at all low left
+Inv-loop values classes s at stop most all low left₀ left = Left (groupBy values classes 1 s) stop most at all low left
 
 abbrev μ-loop : tie.MeasureT-loop
 μ-loop values classes s at stop most all low left₀ left = left

@@ -12,6 +12,8 @@ fn lengths_around_the_limits() {
         decks::nests,
         decks::all_codes,
         decks::labels,
+        decks::signatures,
+        decks::attachments,
         units,
     ];
     for (index, maker) in makers.into_iter().enumerate() {
