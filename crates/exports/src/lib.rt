@@ -102,7 +102,7 @@ pub extern "C" fn cesr_second_text(stream: &[u8], out: &mut [u8], answer: &mut u
     ensures { λ r. ⌜ now (answer .exit) ≡ reportValue (reportAnswer text (now (stream .entry)) (length (now (out .entry)))) ⌝ }
     ensures { λ r. ⌜ now (out .exit) ≡ reportLeft (reportAnswer text (now (stream .entry)) (length (now (out .entry)))) text (now (stream .entry)) (now (out .entry)) ⌝ }
 {
-    let outcome = second::report_text(stream, out);
+    let outcome = second_report::report_text(stream, out);
     exports_answers::reported(outcome, answer)
 }
 
@@ -119,7 +119,7 @@ pub extern "C" fn cesr_second_binary(
     ensures { λ r. ⌜ now (work .exit) ≡ workLeft (now (stream .entry)) (now (work .entry)) ⌝ }
     ensures { λ r. ⌜ now (out .exit) ≡ reportLeft (secondBinary (now (stream .entry)) (length (now (work .entry))) (length (now (out .entry)))) binary (now (stream .entry)) (now (out .entry)) ⌝ }
 {
-    let outcome = second::report_binary(stream, work, out);
+    let outcome = second_report::report_binary(stream, work, out);
     exports_answers::reported(outcome, answer)
 }
 

@@ -2,14 +2,16 @@
 use mathlib.Core.Path.{_≡_, refl, sym, ap, _∙_, subst}
 use mathlib.Core.Bool.{Bool, true, false, not}
 use mathlib.Core.List.{List, [], _∷_, map}
-use Prim.Native.Nat.{ℕ, zero, suc, _+_, _-_, _*_, _/_, _%_, _<_, _≤_}
+use Prim.Native.Nat.{ℕ, zero, suc, _+_, _-_, _*_, _/_, _%_, _^_, _<_, _≤_}
 use native.Mathlib.Omega.{arith}
 use lib.Dec.{ltb}
 use mir.Syntax.{w64}
 use mir.Val as val
 use lib.ListN.{length, take, drop, length-map, length-drop}
 use lib.Seq.{slice, take-all, length-take-le}
-use borrow.Author.Tests.{lt-ltb}
+use borrow.Author.Tests.{lt-ltb, le-ltb}
+use mathlib.Core.Logic.{⊎-elim}
+use Rattle.base.specs.Cases.{lt-or-ge}
 use Rattle.base.specs.Pick.{pick, pick-by}
 use Rattle.base.specs.Lists.{map-take, map-drop}
 use Rattle.format.specs.declared.CodeRow.{CodeRow}
@@ -19,19 +21,21 @@ use Rattle.format.specs.declared.Kind.the-variants.{Fixed, Variable, Group, Gen
 use Rattle.format.specs.declared.Opening.{Opening}
 use Rattle.format.specs.declared.Opening.the-variants.{Unknown, Short, Long, LargeVariable, LargeGroup, Version}
 use Rattle.format.specs.declared.Framed.{Framed}
-use Rattle.format.specs.declared.Framed.the-variants.{Item, Unframed}
+use Rattle.format.specs.declared.Framed.the-variants as F
 use Rattle.format.specs.declared.Verdict.{Verdict}
 use Rattle.format.specs.declared.Verdict.the-variants.{Accepted, Refused}
 use Rattle.format.specs.Alphabet.{sextetOf}
 use Rattle.format.specs.Units.{textSextets}
 use Rattle.format.specs.Registry.{openingBy, isIndexed, isOverrideable}
 use Rattle.format.specs.Framing.{sextet, fit, known, second, headed, frameWith, isOurs, ruled, frameBy, frameNext}
-use Rattle.format.specs.Judging.{shift, andThen, unless, isShortest, scan, behind, judgeKind, ownCheck, group, judgeWith}
-use Rattle.laws.specs.Framing.{Shaped, Lawful, Good, by-with, by-good}
-use Rattle.laws.specs.Levels.{part, part-length, take-of-drop, any-item, item-sizes, level, level-end, level-refused, level-item}
-use Rattle.second_framing.proofs.Found.{text-length, text-units, text-rest}
-use Rattle.second.specs.Places.{Near, Told}
-use Rattle.second.specs.Kinds.{Own, fixedOf, variableOf, indexedOf}
+use Rattle.format.specs.Judging.{shift, andThen, unless, isShortest, scan, behind, judgeKind, ownCheck, group, judgeWith, maxDepth}
+use Rattle.laws.specs.Framing.{by-with}
+use Rattle.laws.specs.Levels.{part, part-length, part-take, any-item, item-sizes, level, level-end, level-refused, level-item}
+use Rattle.second_framing.proofs.Found.{text-length, text-rest}
+use Rattle.second_judging.specs.Kinds.{Behind, fixedOf, variableOf, indexedOf}
+use Rattle.second.specs.declared.Judged.{Judged}
+use Rattle.second.specs.declared.Judged.the-variants as J
+use Rattle.second.specs.Items.{Own, Near, Told, judgedOf, NearItem, Next}
 
 -- ---- where a place lies
 
@@ -86,8 +90,8 @@ near-indexed c h s l = near-then _ _ _ (near-behind h s l) (near-then _ _ _ (nea
 
 -- framing's lies in the header
 abbrev Head : Framed → Type 0
-Head (Item k h n) = 0 ≤ 7
-Head (Unframed m p) = p ≤ 7
+Head (F.Item k h n) = 0 ≤ 7
+Head (F.Unframed m p) = p ≤ 7
 
 fit-head : (k : Kind) (h n len : ℕ) → Head (fit k h n len)
 unfolding fit
@@ -125,50 +129,105 @@ by-head t s =
 
 ruled-head : (at : ℕ → ℕ) (f : Framed) → Head f → Head (ruled at f)
 unfolding ruled
-ruled-head at (Item (Fixed c) h n) q = q
-ruled-head at (Item (Variable t l c) h n) q = q
-ruled-head at (Item (Group l) h n) q = q
-ruled-head at (Item Genus h n) q = pick-by Head (isOurs at) _ _ (λ _. omega arith) (λ _. omega arith)
-ruled-head at (Item (Indexed c) h n) q = q
-ruled-head at (Unframed m p) q = q
+ruled-head at (F.Item (Fixed c) h n) q = q
+ruled-head at (F.Item (Variable t l c) h n) q = q
+ruled-head at (F.Item (Group l) h n) q = q
+ruled-head at (F.Item Genus h n) q = pick-by Head (isOurs at) _ _ (λ _. omega arith) (λ _. omega arith)
+ruled-head at (F.Item (Indexed c) h n) q = q
+ruled-head at (F.Unframed m p) q = q
 
 next-head : (t first : Bool) (s : List ℕ) → Head (frameNext t first s)
 unfolding frameNext
 next-head t true s = ruled-head (sextet s) (frameBy t s) (by-head t s)
 next-head t false s = by-head t s
 
-pub place-head : (t first : Bool) (s : List ℕ) (m p : ℕ) → frameNext t first s ≡ Unframed m p → p ≤ 7
+pub place-head : (t first : Bool) (s : List ℕ) (m p : ℕ) → frameNext t first s ≡ F.Unframed m p → p ≤ 7
 place-head t first s m p e = subst Head e (next-head t first s)
 
--- an item has the shape of its kind
-pub item-shape : (t : Bool) (s : List ℕ) (k : Kind) (h n : ℕ) → frameBy t s ≡ Item k h n → Shaped k h n
-item-shape t s k h n e =
-    let g : Lawful (frameWith (openingBy t)) (sextet s) (length s / 4) k h n = subst (Good (frameWith (openingBy t)) (sextet s) (length s / 4)) e (by-good t s) in
-    g .shape
+-- ---- what an answer says
+
+pub record Found (l : ℕ) (s : List ℕ) (f : Framed) (n : ℕ) (v : Verdict) : Type 0 where
+  pub kind : Kind
+  pub head : ℕ
+  pub framed : f ≡ F.Item kind head n
+  pub judged : v ≡ judgeKind kind head (take (4 * n) s) (group l)
+
+pub item-is : (l : ℕ) (s : List ℕ) (f : Framed) (n : ℕ) (v : Verdict) → judgedOf l s f ≡ J.Item n v → Found l s f n v
+unfolding judgedOf
+item-is l s (F.Item k h m) n v e =
+    let z : m ≡ n = cc in
+    record { kind = k; head = h; framed = ap (F.Item k h) z; judged = rw (← z) (cc) }
+item-is l s (F.Unframed m p) n v e = let z : _≡_ {A = ℕ} 0 1 = cc in absurd (omega arith)
+
+pub unframed-is : (l : ℕ) (s : List ℕ) (f : Framed) (m p : ℕ) → judgedOf l s f ≡ J.Unframed m p → f ≡ F.Unframed m p
+unfolding judgedOf
+unframed-is l s (F.Item k h n) m p e = let z : _≡_ {A = ℕ} 0 1 = cc in absurd (omega arith)
+unframed-is l s (F.Unframed m′ p′) m p e = cc
+
+pub near-own : (n : ℕ) (j : Judged) (i : ℕ) (v : Verdict) → j ≡ J.Item i v → NearItem n j → Near n v
+near-own n j i v e h = rw e at h
+
+pub near-none : (n : ℕ) (j : Judged) (m p : ℕ) → j ≡ J.Unframed m p → NearItem n j → p ≤ n
+near-none n j m p e h = rw e at h
+
+pub near-item : (n : ℕ) (j : Judged) (i : ℕ) (v : Verdict) (m p : ℕ) → j ≡ J.Item i v → v ≡ Refused m p → NearItem n j → p ≤ n
+near-item n j i v m p e q h = rw (e, q) at h
+
+-- ---- the item that a text begins with
+
+module _ (x first : Bool) (t : List ℕ) (l : ℕ) (f : Framed) (ef : f ≡ frameNext x first (textSextets t)) where
+  pub next-none : (m p : ℕ) → f ≡ F.Unframed m p → Next x first l t (J.Unframed m p)
+  unfolding judgedOf
+  next-none m p e =
+      record { is = rw (← ef, e); near = omega (arith, place-head x first (textSextets t) m p (sym ef ∙ e)) }
+
+  module _ (k : Kind) (h n : ℕ) (e : f ≡ F.Item k h n) where
+    sizes : (0 < h) × (h ≤ n) × (4 * n ≤ length t)
+    sizes =
+        let b = item-sizes x (textSextets t) k h n (any-item x first (textSextets t) k h n (sym ef ∙ e)) in
+        (b .0, b .1, omega (arith, b .2, text-length t))
+
+    pub size-fits : length t * 1 < 2 ^ 63 → val.Fits w64 (4 * n)
+    size-fits q = omega (arith, sizes)
+
+    pub own-long : 4 * n ≡ length (take (4 * n) t)
+    own-long = sym (length-take-le (4 * n) t (sizes .2))
+
+    pub next-asks : Own h (take (4 * n) t)
+    next-asks = record { inside = omega (arith, own-long, sizes); whole = omega (arith, own-long) }
+
+    pub next-some : (v : Verdict) → Told (judgeKind k h (textSextets (take (4 * n) t)) (group l)) (length (take (4 * n) t) + 8) v → Next x first l t (J.Item n v)
+    unfolding judgedOf textSextets
+    next-some v T =
+        let o : textSextets (take (4 * n) t) ≡ take (4 * n) (textSextets t) = map-take sextetOf (4 * n) t in
+        record {
+          is = rw (← ef, e) (ap (J.Item n) (T .is ∙ rw o));
+          near = near-wider (length (take (4 * n) t) + 8) (length t + 8) v (omega (arith, own-long, sizes)) (T .near);
+        }
 
 -- ---- an item by its kind
 
-module _ (k : Kind) (h : ℕ) (t : List ℕ) (l : ℕ) (own : Own k h t) where
+module _ (k : Kind) (h : ℕ) (t : List ℕ) (l : ℕ) (own : Own h t) where
   long′ : 4 * h ≤ length (textSextets t)
   long′ = rw (text-length t) (own .inside)
 
-  pub judged-fixed : (c : CodeRow) → k ≡ Fixed c → (r : Verdict) → r ≡ fixedOf c h (textSextets t)
+  value : Behind h (4 * h) t
+  value = record { units = refl; inside = own .inside }
+
+  pub judged-fixed : (c : CodeRow) → k ≡ Fixed c → (r : Verdict) → ((h′ : ℕ) → Behind h′ (4 * h) t → r ≡ fixedOf c h′ (textSextets t))
       → Told (judgeKind k h (textSextets t) (group l)) (length t + 8) r
   unfolding fixedOf judgeKind
-  judged-fixed c e r q = record { is = rw e q; near = rw (q, ← text-length t) (near-fixed c h (textSextets t) long′) }
+  judged-fixed c e r q = record { is = rw e (q h value); near = rw (q h value, ← text-length t) (near-fixed c h (textSextets t) long′) }
 
-  pub judged-variable : (a b n : ℕ) → k ≡ Variable a b n → (r : Verdict) → r ≡ variableOf a b (length t / 4 - h) h (textSextets t)
+  pub judged-variable : (a b n : ℕ) → k ≡ Variable a b n → (r : Verdict) → ((h′ : ℕ) → Behind h′ (4 * h) t → r ≡ variableOf a b n h′ (textSextets t))
       → Told (judgeKind k h (textSextets t) (group l)) (length t + 8) r
   unfolding variableOf judgeKind
-  judged-variable a b n e r q =
-      let m : length t / 4 - h ≡ n = omega (arith, subst (λ (j : Kind). Shaped j h (length t / 4)) e (own .shape) .1) in
-      let q′ : r ≡ variableOf a b n h (textSextets t) = rw m at q in
-      record { is = rw e q′; near = rw (q′, ← text-length t) (near-variable a b n h (textSextets t) long′) }
+  judged-variable a b n e r q = record { is = rw e (q h value); near = rw (q h value, ← text-length t) (near-variable a b n h (textSextets t) long′) }
 
-  pub judged-indexed : (c : IndexRow) → k ≡ Indexed c → (r : Verdict) → r ≡ indexedOf c h (textSextets t)
+  pub judged-indexed : (c : IndexRow) → k ≡ Indexed c → (r : Verdict) → ((h′ : ℕ) → Behind h′ (4 * h) t → r ≡ indexedOf c h′ (textSextets t))
       → Told (judgeKind k h (textSextets t) (group l)) (length t + 8) r
   unfolding indexedOf judgeKind
-  judged-indexed c e r q = record { is = rw e q; near = rw (q, ← text-length t) (near-indexed c h (textSextets t) long′) }
+  judged-indexed c e r q = record { is = rw e (q h value); near = rw (q h value, ← text-length t) (near-indexed c h (textSextets t) long′) }
 
   pub judged-genus : k ≡ Genus → Told (judgeKind k h (textSextets t) (group l)) (length t + 8) Accepted
   unfolding judgeKind
@@ -181,164 +240,144 @@ module _ (k : Kind) (h : ℕ) (t : List ℕ) (l : ℕ) (own : Own k h t) where
 
 -- ---- a group's own checks
 
+-- within d groups, where 64 - d more may be entered
+within : (d : ℕ) → ltb d maxDepth ≡ ltb 0 (maxDepth - d)
+within d =
+    ⊎-elim (λ lt. rw (lt-ltb d maxDepth lt, lt-ltb 0 (maxDepth - d) (omega arith)))
+    (λ ge. rw (le-ltb d maxDepth ge, le-ltb 0 (maxDepth - d) (omega arith))) (lt-or-ge d maxDepth)
+
 behind-units : (h : ℕ) (t : List ℕ) → length (drop (4 * h) (textSextets t)) / 4 ≡ length t / 4 - h
 behind-units h t = omega (arith, length-drop (4 * h) (textSextets t), text-length t)
 
-module _ (letter h : ℕ) (t : List ℕ) (l : ℕ) (inside : 4 * h ≤ length t) (x : Bool) (ex : x ≡ isShortest h (length t / 4 - h)) (u v : Verdict)
-    (eu : u ≡ andThen Accepted (unless 11 (ltb 0 l))) (ev : v ≡ andThen u (unless 18 x)) where
+module _ (letter h : ℕ) (t : List ℕ) (d : ℕ) (v : Verdict) (ev : v ≡ andThen (unless 11 (ltb d maxDepth)) (unless 18 (isShortest h (length t / 4 - h)))) where
   own-near : Near (length t + 8) v
-  own-near =
-      rw (ev, eu)
-      (near-then (length t + 8) (andThen Accepted (unless 11 (ltb 0 l))) (unless 18 x)
-      (near-then (length t + 8) Accepted (unless 11 (ltb 0 l)) (omega arith) (near-unless (length t + 8) 11 (ltb 0 l)))
-      (near-unless (length t + 8) 18 x))
+  own-near = rw ev (near-then _ _ _ (near-unless _ _ _) (near-unless _ _ _))
 
-  pub group-refused : (m p : ℕ) → v ≡ Refused m p → Told (group l letter h (drop (4 * h) (textSextets t))) (length t + 8) v
+  pub group-refused : (m p : ℕ) → v ≡ Refused m p → Told (group (maxDepth - d) letter h (drop (4 * h) (textSextets t))) (length t + 8) v
   unfolding group ownCheck andThen unless
-  group-refused m p e = record {
-    is = by l x eu ex ev;
-    near = own-near;
-  }
+  group-refused m p e = record { is = by (maxDepth - d) (ev ∙ rw (within d)); near = own-near }
     where
-      by : (l : ℕ) (x : Bool) → u ≡ andThen Accepted (unless 11 (ltb 0 l)) → x ≡ isShortest h (length t / 4 - h) → v ≡ andThen u (unless 18 x)
-          → v ≡ group l letter h (drop (4 * h) (textSextets t))
-      by zero x a b c = c ∙ rw a
-      by (suc l) false a b c = c ∙ rw (a, lt-ltb 0 (suc l) (omega arith), behind-units h t, ← b)
-      by (suc l) true a b c =
-          let o : v ≡ Accepted = c ∙ rw (a, lt-ltb 0 (suc l) (omega arith)) in
-          let z : _≡_ {A = ℕ} 0 1 = cc in
-          absurd (omega arith)
+      by : (l : ℕ) → v ≡ andThen (unless 11 (ltb 0 l)) (unless 18 (isShortest h (length t / 4 - h))) → v ≡ group l letter h (drop (4 * h) (textSextets t))
+      by zero a = a
+      by (suc l) a =
+          let a′ : v ≡ unless 18 (isShortest h (length t / 4 - h)) = a ∙ rw (lt-ltb 0 (suc l) (omega arith)) in
+          rw (behind-units h t, ← a′, e)
 
-  pub group-entered : v ≡ Accepted → (0 < l) × (x ≡ true)
+  group-entered : v ≡ Accepted → (d < maxDepth) × (isShortest h (length t / 4 - h) ≡ true)
   unfolding andThen unless
-  group-entered e = by l x eu ev
+  group-entered e =
+      let b = by (maxDepth - d) (isShortest h (length t / 4 - h)) (ev ∙ rw (within d)) in
+      (omega (arith, b .0), b .1)
     where
-      by : (l : ℕ) (x : Bool) → u ≡ andThen Accepted (unless 11 (ltb 0 l)) → v ≡ andThen u (unless 18 x) → (0 < l) × (x ≡ true)
-      by (suc l) true a c = (omega arith, refl)
-      by (suc l) false a c =
-          let o : v ≡ Refused 18 0 = c ∙ rw (a, lt-ltb 0 (suc l) (omega arith)) in
+      by : (l : ℕ) (x : Bool) → v ≡ andThen (unless 11 (ltb 0 l)) (unless 18 x) → (0 < l) × (x ≡ true)
+      by (suc l) true a = (omega arith, refl)
+      by (suc l) false a =
+          let o : v ≡ Refused 18 0 = a ∙ rw (lt-ltb 0 (suc l) (omega arith)) in
           let z : _≡_ {A = ℕ} 0 1 = cc in
           absurd (omega arith)
-      by zero x a c =
-          let o : v ≡ Refused 11 0 = c ∙ rw a in
+      by zero x a =
+          let o : v ≡ Refused 11 0 = a in
           let z : _≡_ {A = ℕ} 0 1 = cc in
           absurd (omega arith)
 
 -- ---- its items one by one
 
-pub record Left (letter h : ℕ) (t : List ℕ) (l : ℕ) (x : Bool) (marked : Bool) (start : ℕ) : Type 0 where
-  pub some : 0 < l
+pub record Left (letter h : ℕ) (t : List ℕ) (d : ℕ) (x : Bool) (marked : Bool) (start : ℕ) : Type 0 where
+  pub some : d < maxDepth
   pub whole : length t % 4 ≡ 0
-  pub long : length t ≤ 4194304
   pub inside : 4 * start ≤ length t
-  pub leaves : group l letter h (drop (4 * h) (textSextets t)) ≡ level (textSextets t) x (l - 1) marked start (length t / 4)
+  pub leaves : group (maxDepth - d) letter h (drop (4 * h) (textSextets t)) ≡ level (textSextets t) x (maxDepth - (d + 1)) marked start (length t / 4)
 
 whole-part : (t : List ℕ) (at : ℕ) → length t % 4 ≡ 0 → part (textSextets t) at (length t / 4) ≡ drop (4 * at) (textSextets t)
 whole-part t at e = ap (drop (4 * at)) (take-all (4 * (length t / 4)) (textSextets t) (omega (arith, text-length t)))
 
-pub left-start : (letter h : ℕ) (t : List ℕ) (l : ℕ) (inside : 4 * h ≤ length t) → length t % 4 ≡ 0 → length t ≤ 4194304 → (x : Bool) (ex : x ≡ isShortest h (length t / 4 - h)) (u v : Verdict)
-    (eu : u ≡ andThen Accepted (unless 11 (ltb 0 l))) (ev : v ≡ andThen u (unless 18 x)) → v ≡ Accepted → (y z : Bool) → y ≡ isIndexed letter → z ≡ isOverrideable letter
-    → Left letter h t l y z h
+pub left-start : (letter h : ℕ) (t : List ℕ) (d : ℕ) → Own h t → (v : Verdict) → v ≡ andThen (unless 11 (ltb d maxDepth)) (unless 18 (isShortest h (length t / 4 - h))) → v ≡ Accepted
+    → (y z : Bool) → y ≡ isIndexed letter → z ≡ isOverrideable letter → Left letter h t d y z h
 unfolding group ownCheck level judgeWith andThen unless
-left-start letter h t l inside whole long x ex u v eu ev e y z ey ez =
-    let g = group-entered letter h t l inside x ex u v eu ev e in
-    record { some = g .0; whole = whole; long = long; inside = inside; leaves = by l (g .0) (sym ex ∙ g .1) }
+left-start letter h t d own v ev e y z ey ez =
+    let g = group-entered letter h t d v ev e in
+    let deeper : maxDepth - d - 1 ≡ maxDepth - (d + 1) = omega arith in
+    record { some = g .0; whole = own .whole; inside = own .inside; leaves = rw (← deeper) (by (maxDepth - d) (omega (arith, g .0)) (g .1)) }
   where
     by : (l : ℕ) → 0 < l → isShortest h (length t / 4 - h) ≡ true
         → group l letter h (drop (4 * h) (textSextets t)) ≡ level (textSextets t) y (l - 1) z h (length t / 4)
     by zero lt o = absurd (omega arith)
     by (suc l) lt o =
         let m : suc l - 1 ≡ l = omega arith in
-        rw (behind-units h t, o, m, ey, ez, whole-part t h whole)
+        rw (behind-units h t, o, m, ey, ez, whole-part t h (own .whole))
 
-module _ (letter h : ℕ) (t : List ℕ) (l : ℕ) (x marked : Bool) (start : ℕ) (w : Left letter h t l x marked start) where
-  pub left-end : length t ≤ 4 * start → Told (group l letter h (drop (4 * h) (textSextets t))) (length t + 8) Accepted
+module _ (letter h : ℕ) (t : List ℕ) (d : ℕ) (x marked : Bool) (start : ℕ) (w : Left letter h t d x marked start) where
+  pub left-end : length t ≤ 4 * start → Told (group (maxDepth - d) letter h (drop (4 * h) (textSextets t))) (length t + 8) Accepted
   left-end q =
       let z : start ≡ length t / 4 = omega (arith, w .inside) in
-      record { is = sym (w .leaves ∙ rw z (level-end (textSextets t) x (l - 1) marked (length t / 4))); near = omega arith }
+      record { is = sym (w .leaves ∙ rw z (level-end (textSextets t) x (maxDepth - (d + 1)) marked (length t / 4))); near = omega arith }
 
-  module _ (lt : 4 * start < length t) (f : Framed)
-      (ef : f ≡ frameNext x marked (textSextets (take (length t - 4 * start) (drop (4 * start) t)))) where
+  module _ (lt : 4 * start < length t) (j : Judged) (N : Next x marked (maxDepth - (d + 1)) (take (length t - 4 * start) (drop (4 * start) t)) j) where
+    abbrev rest : List ℕ
+    rest = take (length t - 4 * start) (drop (4 * start) t)
+
+    rest-is : textSextets rest ≡ part (textSextets t) start (length t / 4)
+    rest-is = text-rest t (4 * start) ∙ sym (whole-part t start (w .whole))
+
+    rest-long : length rest ≡ length t - 4 * start
+    rest-long = length-take-le (length t - 4 * start) (drop (4 * start) t) (omega (arith, length-drop (4 * start) t))
+
     units : 4 * (length t / 4) ≡ length t
     units = omega (arith, w .whole)
 
     long : 4 * (length t / 4) ≤ length (textSextets t)
     long = rw (text-length t) (omega (arith, units))
 
-    next : f ≡ frameNext x marked (part (textSextets t) start (length t / 4))
-    next = ef ∙ ap (frameNext x marked) (text-rest t (4 * start) ∙ sym (whole-part t start (w .whole)))
-
-    pub left-unframed : (m p : ℕ) → f ≡ Unframed m p → (r : Verdict) → r ≡ Refused m (4 * start + p)
-        → Told (group l letter h (drop (4 * h) (textSextets t))) (length t + 8) r
+    pub left-unframed : (m p : ℕ) → j ≡ J.Unframed m p → (r : Verdict) → r ≡ Refused m (4 * start + p)
+        → Told (group (maxDepth - d) letter h (drop (4 * h) (textSextets t))) (length t + 8) r
     left-unframed m p e r er =
+        let u = unframed-is (maxDepth - (d + 1)) (textSextets rest) _ m p (sym (N .is) ∙ e) in
         rw er record {
-          is = sym (w .leaves ∙ level-refused (textSextets t) x (l - 1) marked start (length t / 4) m p long (omega (arith, units)) (sym next ∙ e));
-          near = omega (arith, place-head x marked _ m p (sym ef ∙ e));
+          is = sym (w .leaves ∙ level-refused (textSextets t) x (maxDepth - (d + 1)) marked start (length t / 4) m p long (omega (arith, units)) (ap (frameNext x marked) (sym rest-is) ∙ u));
+          near = omega (arith, near-none _ j m p e (N .near), rest-long, w .inside);
         }
 
-    pub place-fits : (m p : ℕ) → f ≡ Unframed m p → val.Fits w64 (4 * start + p)
-    place-fits m p e = omega (arith, w .long, place-head x marked _ m p (sym ef ∙ e))
+    pub place-fits : length t * 1 < 2 ^ 63 → (m p : ℕ) → j ≡ J.Unframed m p → val.Fits w64 (4 * start + p)
+    place-fits q m p e = omega (arith, near-none _ j m p e (N .near), rest-long, w .inside)
 
-    module _ (k : Kind) (head n : ℕ) (e : f ≡ Item k head n) where
-      item : frameBy x (part (textSextets t) start (length t / 4)) ≡ Item k head n
-      item = any-item x marked _ k head n (sym next ∙ e)
+    module _ (n : ℕ) (v : Verdict) (e : j ≡ J.Item n v) where
+      found : Found (maxDepth - (d + 1)) (textSextets rest) (frameNext x marked (textSextets rest)) n v
+      found = item-is (maxDepth - (d + 1)) (textSextets rest) _ n v (sym (N .is) ∙ e)
 
-      pub sizes : (0 < head) × (head ≤ n) × (4 * (start + n) ≤ length t)
-      sizes =
-          let b = item-sizes x (part (textSextets t) start (length t / 4)) k head n item in
-          (b .0, b .1, omega (arith, b .2, part-length (textSextets t) start (length t / 4) long, units))
+      framed : frameNext x marked (part (textSextets t) start (length t / 4)) ≡ F.Item (found .kind) (found .head) n
+      framed = ap (frameNext x marked) (sym rest-is) ∙ found .framed
 
-      pub end-fits : val.Fits w64 (start + n)
-      end-fits = omega (arith, sizes, w .long)
+      item-inside : (0 < n) × (4 * (start + n) ≤ length t)
+      item-inside =
+          let b = item-sizes x _ (found .kind) (found .head) n (any-item x marked _ (found .kind) (found .head) n framed) in
+          (omega (arith, b .0, b .1), omega (arith, b .2, part-length (textSextets t) start (length t / 4) long, units))
 
-      pub chars-fit : val.Fits w64 (4 * (start + n))
-      chars-fit = omega (arith, sizes, w .long)
-
-      pub end-inside : 4 * (start + n) ≤ length t
-      end-inside = sizes .2
+      pub end-fits : length t * 1 < 2 ^ 63 → val.Fits w64 (start + n)
+      end-fits q = omega (arith, item-inside)
 
       pub less : length t - 4 * (start + n) < length t - 4 * start
-      less = omega (arith, sizes)
+      less = omega (arith, item-inside)
 
-      abbrev own : List ℕ
-      own = take (4 * (start + n) - 4 * start) (drop (4 * start) t)
-
-      own-length : length own ≡ 4 * n
-      own-length = length-take-le (4 * (start + n) - 4 * start) (drop (4 * start) t) (omega (arith, length-drop (4 * start) t, sizes)) ∙ omega arith
-
-      own-part : textSextets own ≡ part (textSextets t) start (start + n)
-      unfolding textSextets
+      own-part : take (4 * n) (textSextets rest) ≡ part (textSextets t) start (start + n)
       own-part =
-          let d : ℕ = 4 * (start + n) - 4 * start in
-          let z : 4 * start + d ≡ 4 * (start + n) = omega arith in
-          ap (map sextetOf) (take-of-drop d (4 * start) t) ∙ map-drop sextetOf (4 * start) (take (4 * start + d) t)
-          ∙ ap (drop (4 * start)) (map-take sextetOf (4 * start + d) t) ∙ ap (λ (j : ℕ). drop (4 * start) (take j (map sextetOf t))) z
+          let c : 4 * n ≡ n * 4 = omega arith in
+          rw (c, rest-is) (part-take (textSextets t) start n (length t / 4) (omega (arith, item-inside)))
 
-      pub judge-asks : Own k head own
-      judge-asks =
-          let z : length own / 4 ≡ n = omega (arith, own-length) in
-          record {
-            inside = omega (arith, own-length, sizes);
-            whole = omega (arith, own-length);
-            long = omega (arith, own-length, sizes, w .long);
-            shape = rw z (item-shape x _ k head n item);
-          }
+      on : group (maxDepth - d) letter h (drop (4 * h) (textSextets t)) ≡ andThen (shift (4 * start) v) (level (textSextets t) x (maxDepth - (d + 1)) false (start + n) (length t / 4))
+      on =
+          w .leaves ∙ level-item (textSextets t) x (maxDepth - (d + 1)) marked start (length t / 4) (found .kind) (found .head) n long (omega (arith, units)) framed
+          ∙ ap (λ (u : Verdict). andThen (shift (4 * start) u) (level (textSextets t) x (maxDepth - (d + 1)) false (start + n) (length t / 4)))
+          (sym (found .judged ∙ ap (λ (ys : List ℕ). judgeKind (found .kind) (found .head) ys (group (maxDepth - (d + 1)))) own-part))
 
-      module _ (v : Verdict) (ev : Told (judgeKind k head (textSextets own) (group (l - 1))) (length own + 8) v) where
-        on : group l letter h (drop (4 * h) (textSextets t)) ≡ andThen (shift (4 * start) v) (level (textSextets t) x (l - 1) false (start + n) (length t / 4))
-        on =
-            w .leaves ∙ level-item (textSextets t) x (l - 1) marked start (length t / 4) k head n long (omega (arith, units)) (sym next ∙ e)
-            ∙ rw (ev .is, own-part)
+      pub left-refused : (m p : ℕ) → v ≡ Refused m p → (r : Verdict) → r ≡ Refused m (4 * start + p)
+          → Told (group (maxDepth - d) letter h (drop (4 * h) (textSextets t))) (length t + 8) r
+      unfolding andThen shift
+      left-refused m p q r er =
+          rw er record { is = sym (on ∙ rw q); near = omega (arith, near-item _ j n v m p e q (N .near), rest-long, w .inside) }
 
-        pub left-refused : (m p : ℕ) → v ≡ Refused m p → (r : Verdict) → r ≡ Refused m (4 * start + p)
-            → Told (group l letter h (drop (4 * h) (textSextets t))) (length t + 8) r
-        unfolding andThen shift
-        left-refused m p q r er =
-            rw er record { is = sym (on ∙ rw q); near = omega (arith, near-place _ v m p q (ev .near), own-length, sizes) }
+      pub left-place : length t * 1 < 2 ^ 63 → (m p : ℕ) → v ≡ Refused m p → val.Fits w64 (4 * start + p)
+      left-place o m p q = omega (arith, near-item _ j n v m p e q (N .near), rest-long, w .inside)
 
-        pub left-place : (m p : ℕ) → v ≡ Refused m p → val.Fits w64 (4 * start + p)
-        left-place m p q = omega (arith, w .long, near-place _ v m p q (ev .near), own-length, sizes)
-
-        pub left-on : v ≡ Accepted → Left letter h t l x false (start + n)
-        unfolding andThen shift
-        left-on q = record { some = w .some; whole = w .whole; long = w .long; inside = sizes .2; leaves = on ∙ rw q }
+      pub left-on : v ≡ Accepted → Left letter h t d x false (start + n)
+      unfolding andThen shift
+      left-on q = record { some = w .some; whole = w .whole; inside = item-inside .1; leaves = on ∙ rw q }

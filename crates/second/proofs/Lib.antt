@@ -1,5 +1,1 @@
-pub mod Judging
 pub mod Groups
-pub mod Counts
-pub mod Rows
-pub mod Answers
