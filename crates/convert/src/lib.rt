@@ -13,23 +13,12 @@ pub fn text_to_binary(src: &[u8], dst: &mut [u8]) -> ToBinary
     ensures { λ r. ⌜ r ≡ textToBinary (now (src .entry)) (length (now (dst .entry))) ⌝ }
     ensures { λ r. ⌜ now (dst .exit) ≡ binaryLeft r (now (src .entry)) (now (dst .entry)) ⌝ }
 {
-    let n = src.len();
-    if 4194304 < n {
-        return ToBinary::Refused(1, TextOffset(0));
-    }
-    if 0 < n % 4 {
-        return ToBinary::Refused(2, TextOffset(0));
+    let refused = convert_order::length_refusal(src.len());
+    if 0 < refused {
+        return ToBinary::Refused(refused, TextOffset(0));
     }
     let bad = convert_pack::to_binary(src, dst);
-    if bad < n {
-        let number = alphabet_numbers::number_at(src, bad);
-        return ToBinary::Refused(number, TextOffset(bad));
-    }
-    let size = offsets::in_binary(TextOffset(n));
-    if dst.len() < size.0 {
-        return ToBinary::Refused(3, TextOffset(0));
-    }
-    ToBinary::Written(size)
+    convert_order::told(src, bad, dst.len())
 }
 
 // Refusals in the order 1, 2, 3; a refused call writes nothing, and bytes behind the answer stay.

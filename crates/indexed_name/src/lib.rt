@@ -61,6 +61,6 @@ pub fn name_of(code: IndexCode) -> Named
 {
     let selector = selector_of(code.selector);
     let letter = alphabet::sextet(code.letter);
-    let op = registry_indexed::indexed(selector, letter);
+    let op = registry_indexed_table::indexed(selector, letter);
     row_in(op)
 }

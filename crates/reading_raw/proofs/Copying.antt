@@ -14,7 +14,7 @@ use Rattle.format.specs.Units.{tripletOf, textSextets}
 use Rattle.format.specs.Conversion.{toBinary, textToBinary, binaryLeft}
 use Rattle.laws.specs.Units.{triplet-size}
 use Rattle.laws.specs.Conversion.{binary-joins, length-to-binary, no-stranger}
-use Rattle.convert.proofs.Answers.{text-converted}
+use Rattle.convert_order.proofs.Answers.{length-whole, text-converted}
 use Rattle.judging.proofs.Laws.{to-end}
 use Rattle.reading_raw.specs.Raw.{Fit, unitsInto, rawInto}
 
@@ -34,7 +34,7 @@ pub fit-converts : (t d : List ℕ) (r : ToBinary) (d′ : List ℕ) → Fit t �
 unfolding binaryLeft
 fit-converts t d r d′ f h e p =
     let w = f .whole in
-    let c = text-converted t (length d) (f .short) (omega arith) (length t) (sym (no-stranger t (f .known))) (omega arith) h in
+    let c = text-converted t (length d) (length-whole _ (f .short) (omega arith)) (length t) (sym (no-stranger t (f .known))) (omega arith) h in
     p ∙ rw (e ∙ c)
 
 -- ---- from a byte on

@@ -1,7 +1,8 @@
--- The table by place is the indexed table by selector and letter: one test that antt computes for each selector, over all letters. Assumes
--- nothing.
+-- The table by place is the indexed table by selector and letter: one test that antt computes for each selector, over all letters. No code
+-- has another selector. Assumes nothing.
 use mathlib.Core.Path.{_≡_, refl, sym}
 use mathlib.Core.Bool.{Bool, true, false}
+use mathlib.Core.List.{List, [], _∷_}
 use Prim.Native.Nat.{ℕ, _+_, _/_, _<_}
 use native.Mathlib.Omega.{arith}
 use borrow.Author.Tests.{eq-eqb, ne-eqb}
@@ -140,3 +141,31 @@ two-letter = indexed-by 54 6 4 tt
 pub three-letter : (l : ℕ) → l < 256 → indexedFrom 10 2 l ≡ indexedBy 55 l
 unfolding rightAt isRow isKind isUnknown indexedCodes indexHead indexedRow indexedBy indexedAmong
 three-letter = indexed-by 55 10 2 tt
+
+-- ---- no code has another selector
+
+isSelector : ℕ → Bool
+isSelector n = pick (eqb n 0) true (pick (eqb n 52) true (pick (eqb n 54) true (eqb n 55)))
+
+selectorsRight : List IndexRow → Bool
+selectorsRight [] = true
+selectorsRight (c ∷ cs) = both (isSelector (c .selector)) (selectorsRight cs)
+
+-- two numbers that a test tells apart are different
+apart : (m n : ℕ) → T (isSelector m) → isSelector n ≡ false → m ≡ n → ⊥
+apart m n t f e = let q : T false = rw (e, f) at t in q
+
+among-none : (cs : List IndexRow) → T (selectorsRight cs) → (selector letter : ℕ) → isSelector selector ≡ false
+    → indexedAmong cs selector letter ≡ Unknown
+unfolding selectorsRight indexedAmong
+among-none [] t selector letter h = refl
+among-none (c ∷ cs) t selector letter h =
+    rw (ne-eqb (c .selector) selector (apart (c .selector) selector (both-left (isSelector (c .selector)) _ t) h))
+    (among-none cs (both-right (isSelector (c .selector)) _ t) selector letter h)
+
+pub no-code : (selector letter : ℕ) → (selector ≡ 0 → ⊥) → (selector ≡ 52 → ⊥) → (selector ≡ 54 → ⊥) → (selector ≡ 55 → ⊥)
+    → Unknown ≡ indexedBy selector letter
+unfolding indexedBy selectorsRight isSelector indexedCodes
+no-code selector letter a b c d =
+    sym (among-none indexedCodes tt selector letter
+    (simp (ne-eqb selector 0 a, ne-eqb selector 52 b, ne-eqb selector 54 c, ne-eqb selector 55 d)))

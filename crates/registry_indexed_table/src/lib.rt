@@ -1,4 +1,4 @@
-// The indexed code table of source document 003 as one fixed table, and what a letter opens behind each selector.
+// The indexed code table of source document 003 as one fixed table, and the look-up of a code in it.
 use format::IndexRow;
 use format::Kind;
 use format::Opening;
@@ -170,30 +170,21 @@ fn indexed_from(from: usize, count: u8, letter: u8) -> Opening
     }
 }
 
-// A code of one letter.
-pub fn one_letter(l: u8) -> Opening
-    ensures { λ r. ⌜ r ≡ indexedBy 0 l ⌝ }
+// A code by its selector's sextet, 0 where the letter stands alone, and its letter's; nothing known where there is none.
+pub fn indexed(selector: u8, letter: u8) -> Opening
+    ensures { λ r. ⌜ r ≡ indexedBy selector letter ⌝ }
 {
-    indexed_from(0, 4, l)
-}
-
-// `0` and a letter.
-pub fn zero_letter(l: u8) -> Opening
-    ensures { λ r. ⌜ r ≡ indexedBy 52 l ⌝ }
-{
-    indexed_from(4, 2, l)
-}
-
-// `2` and a letter.
-pub fn two_letter(l: u8) -> Opening
-    ensures { λ r. ⌜ r ≡ indexedBy 54 l ⌝ }
-{
-    indexed_from(6, 4, l)
-}
-
-// `3` and a letter.
-pub fn three_letter(l: u8) -> Opening
-    ensures { λ r. ⌜ r ≡ indexedBy 55 l ⌝ }
-{
-    indexed_from(10, 2, l)
+    if selector == 0 {
+        return indexed_from(0, 4, letter);
+    }
+    if selector == 52 {
+        return indexed_from(4, 2, letter);
+    }
+    if selector == 54 {
+        return indexed_from(6, 4, letter);
+    }
+    if selector == 55 {
+        return indexed_from(10, 2, letter);
+    }
+    Opening::Unknown
 }

@@ -11,7 +11,7 @@ fn pad0(b: u8, c: u8, d: u8) -> Opening
 {
     if b == 0 {
         if c == 0 {
-            return registry_table::one_aa(d);
+            return registry_table::fixed(4, d);
         }
     }
     Opening::Unknown
@@ -26,10 +26,10 @@ pub fn opening(u: [u8; 4]) -> Opening
     let c = u[2];
     let d = u[3];
     if a < 52 {
-        return registry_table::one_letter(a);
+        return registry_table::fixed(1, a);
     }
     if a == 52 {
-        return registry_table::zero_letter(b);
+        return registry_table::fixed(2, b);
     }
     if a == 53 {
         return pad0(b, c, d);

@@ -501,39 +501,18 @@ fn fixed_from(from: usize, count: u8, letter: u8) -> Opening
     }
 }
 
-// A code of one letter.
-pub fn one_letter(l: u8) -> Opening
-    ensures { λ r. ⌜ r ≡ fixed 1 l ⌝ }
-{
-    fixed_from(0, 27, l)
-}
-
-// `0` and a letter.
-pub fn zero_letter(l: u8) -> Opening
-    ensures { λ r. ⌜ r ≡ fixed 2 l ⌝ }
-{
-    fixed_from(27, 15, l)
-}
-
-// `1AA` and a letter.
-pub fn one_aa(l: u8) -> Opening
-    ensures { λ r. ⌜ r ≡ fixed 4 l ⌝ }
-{
-    fixed_from(42, 16, l)
-}
-
 // A fixed code by the number of its characters and its letter's sextet; nothing known where there is none.
 pub fn fixed(chars: u8, letter: u8) -> Opening
     ensures { λ r. ⌜ r ≡ fixed chars letter ⌝ }
 {
     if chars == 1 {
-        return one_letter(letter);
+        return fixed_from(0, 27, letter);
     }
     if chars == 2 {
-        return zero_letter(letter);
+        return fixed_from(27, 15, letter);
     }
     if chars == 4 {
-        return one_aa(letter);
+        return fixed_from(42, 16, letter);
     }
     Opening::Unknown
 }

@@ -12,7 +12,8 @@ use Rattle.format.specs.declared.ToBinary.{ToBinary}
 use Rattle.format.specs.Units.{textSextets}
 use Rattle.format.specs.Conversion.{toText, toBinary, binaryToText, textToBinary, textLeft, binaryLeft}
 use Rattle.laws.specs.Conversion.{text-joins, binary-joins, no-stranger, length-to-text}
-use Rattle.convert.proofs.Answers.{binary-converted, text-converted}
+use Rattle.convert_order.proofs.Answers.{length-whole, text-converted}
+use Rattle.convert.proofs.Answers.{binary-converted}
 
 -- a part that is lent to the end
 pub to-end : (s : List ℕ) (from : ℕ) → take (length s - from) (drop from s) ≡ drop from s
@@ -32,7 +33,7 @@ converted-text b d d′ r s w h e p = p ∙ rw (e ∙ binary-converted b (length
 pub converted-binary : (t d d′ : List ℕ) (r : ToBinary) → length t ≤ 4194304 → length t % 4 ≡ 0 → Below 64 (textSextets t)
     → length t / 4 * 3 ≤ length d → r ≡ textToBinary t (length d) → d′ ≡ binaryLeft r t d → d′ ≡ toBinary t ++ drop (length t / 4 * 3) d
 unfolding binaryLeft
-converted-binary t d d′ r s w k h e p = p ∙ rw (e ∙ text-converted t (length d) s (omega arith) _ refl (omega (arith, no-stranger t k)) h)
+converted-binary t d d′ r s w k h e p = p ∙ rw (e ∙ text-converted t (length d) (length-whole _ s (omega arith)) _ refl (omega (arith, no-stranger t k)) h)
 
 -- ---- two parts
 

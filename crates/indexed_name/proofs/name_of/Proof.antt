@@ -9,7 +9,7 @@ use Rattle.indexed_name.proofs.name_of.Lts as lts
 use Rattle.alphabet.proofs.sextet.Reads as sextet-reads
 use Rattle.indexed_name.proofs.row_in.Reads as row-in-reads
 use Rattle.indexed_name.proofs.selector_of.Reads as selector-of-reads
-use Rattle.registry_indexed.proofs.indexed.Reads as indexed-reads
+use Rattle.registry_indexed_table.proofs.indexed.Reads as indexed-reads
 
 returns : tie.Need-returns
 returns c =

@@ -6,10 +6,10 @@ use Rattle.registry_master.proofs.opening.Statement.{statement}
 use Rattle.registry_master.proofs.opening.Tie as tie
 
 returns : tie.Need-returns
-returns c = c .one-letter .ensures ∙ sym (opened-letter _ _ _ _ (search needs))
+returns c = c .fixed .ensures ∙ sym (opened-letter _ _ _ _ (search needs))
 
 returns-2 : tie.Need-returns-2
-returns-2 c = c .zero-letter .ensures ∙ sym (opened-zero _ _ _ _ (search needs))
+returns-2 c = c .fixed2 .ensures ∙ sym (opened-zero _ _ _ _ (search needs))
 
 returns-3 : tie.Need-returns-3
 returns-3 c = c .pad0 .ensures ∙ sym (opened-one _ _ _ _ (search needs))

@@ -7,7 +7,7 @@ use Rattle.registry_master.proofs.pad0.Tie as tie
 
 returns : tie.Need-returns
 unfolding pad0Opening
-returns c = simp (eq-eqb _ _ (c .before .before .if1 .taken), eq-eqb _ _ (c .before .if2 .taken), c .one-aa .ensures)
+returns c = simp (eq-eqb _ _ (c .before .before .if1 .taken), eq-eqb _ _ (c .before .if2 .taken), c .fixed .ensures)
 
 returns-2 : tie.Need-returns-2
 unfolding pad0Opening
