@@ -26,7 +26,7 @@ fn is_group(letter: u8) -> bool
 }
 
 // The elements of the header of a body of this length.
-fn head_size(form: Form, len: usize) -> usize
+pub fn head_size(form: Form, len: usize) -> usize
     ensures { λ r. ⌜ (r ≡ headUnits (len / domain form .unit) * domain form .unit) × (r ≤ 8) ⌝ }
 {
     let n = report_units::units(form, len);

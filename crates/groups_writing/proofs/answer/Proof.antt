@@ -1,11 +1,11 @@
--- `groups_answer::answer` meets its contract: by what is asked before the walk. Assumes nothing.
+-- `groups_writing::answer` meets its contract: by what is asked before the walk. Assumes nothing.
 use mathlib.Core.Path.{sym}
 use denote.Ref.{now}
 use lib.Seq.{length-take-le}
-use Rattle.groups_answer.proofs.Laws.{by-number, there, by-walk}
+use Rattle.groups_writing.proofs.Answers.{by-number, there, by-walk}
 use borrow.Author.Needs.{needs}
-use Rattle.groups_answer.proofs.answer.Statement.{statement}
-use Rattle.groups_answer.proofs.answer.Tie as tie
+use Rattle.groups_writing.proofs.answer.Statement.{statement}
+use Rattle.groups_writing.proofs.answer.Tie as tie
 
 slice-aggregate-walk-body : tie.Need-slice-aggregate-walk-body
 slice-aggregate-walk-body c =
