@@ -1,54 +1,60 @@
-// Writing a group: the answer first, and then, if it is not a refusal, the body moved on and the header put before it. What stands behind
-// the group stays, and a refused call leaves the buffer as it was.
+// Writing a group: the answer first, by its order and what a walk of the body as the group's contents gives, and then, if it is not a refusal,
+// the group put. What stands behind it stays, and a refused call leaves the buffer as it was.
 use format::BinaryOffset;
 use format::Form;
 use format::TextOffset;
 use groups::BinaryGrouped;
 use groups::Grouped;
 use groups::TextGrouped;
+use groups_order::Before;
+use instalments::Pause;
 ghost use mathlib.Core.Path.{_≡_};
-ghost use mathlib.Core.List.{_++_};
-ghost use Prim.Native.Nat.{_-_, _≤_};
-ghost use lib.ListN.{length, take, drop};
 ghost use Rattle.format.specs.Units.{domain};
 ghost use Rattle.format.specs.declared.Form.the-variants.{Text, Binary};
-ghost use Rattle.groups.specs.Grouping.{groupOf, groupSize, grouped, groupLeft, textGrouped, binaryGrouped};
+ghost use Rattle.groups.specs.Grouping.{bodyWalk, grouped, groupLeft, textGrouped, binaryGrouped};
 
-// The first size - h bytes moved on by h, and the header put before them: all turned round, and the body back again.
-fn put_front(buf: &mut [u8], head: [u8; 8], h: usize, size: usize)
-    requires { ⌜ (h ≤ 8) × (h ≤ size) × (size ≤ length (now buf)) ⌝ }
-    ensures { λ _. ⌜ now (buf .exit) ≡ (take h head ++ take (size - h) (now (buf .entry))) ++ drop size (now (buf .entry)) ⌝ }
+// ---- the answer: the buffer is only looked at
+
+// No walk yields more items than there are units, so that the budget is never used up.
+fn walk_body(form: Form, letter: u8, body: &[u8]) -> Pause
+    ensures { λ r. ⌜ r ≡ bodyWalk (domain form) letter (now (body .entry)) ⌝ }
 {
-    bytes::reverse(buf, 0, size);
-    bytes::reverse(buf, h, size);
-    bytes::copy(&head[..h], buf);
+    let n = report_units::units(form, body.len());
+    let w = groups_order::within(letter, n);
+    let walked = instalments_walk::walk_on(w, form, body, n + 1);
+    walked.pause
 }
 
-// A group of this size around a body of len elements; its letter is a sextet.
-fn put_group(form: Form, letter: u8, len: usize, size: usize, buf: &mut [u8])
-    requires { ⌜ (size ≡ groupSize (domain form) len) × (size ≤ length (now buf)) ⌝ }
-    ensures { λ _. ⌜ now (buf .exit) ≡ groupOf form letter (take len (now (buf .entry))) ++ drop size (now (buf .entry)) ⌝ }
+// letter: a character; len: the length of the body, which lies at the buffer's start.
+pub fn answer(form: Form, letter: u8, len: usize, buf: &[u8]) -> Grouped
+    ensures { λ r. ⌜ r ≡ grouped form letter len (now (buf .entry)) ⌝ }
 {
-    let n = report_units::units(form, len);
-    let head = groups_header::header(form, letter, n);
-    put_front(buf, head, size - len, size);
+    match groups_order::before_walk(form, letter, len, buf.len()) {
+        Before::Refused(number) => Grouped::Refused { number, place: 0 },
+        Before::Contents { letter: l, size } => {
+            let pause = walk_body(form, l, &buf[..len]);
+            groups_order::room_for(pause, size, buf.len())
+        }
+    }
 }
+
+// ---- the call
 
 // letter: a character; len: the length of the body, which lies at the buffer's start.
 pub fn group(form: Form, letter: u8, len: usize, buf: &mut [u8]) -> Grouped
     ensures { λ r. ⌜ r ≡ grouped form letter len (now (buf .entry)) ⌝ }
     ensures { λ _. ⌜ now (buf .exit) ≡ groupLeft (grouped form letter len (now (buf .entry))) form letter len (now (buf .entry)) ⌝ }
 {
-    let answer = groups_answer::answer(form, letter, len, buf);
-    match answer {
-        Grouped::Written(size) => {
-            put_group(form, alphabet::sextet(letter), len, size, buf);
-            answer
+    let told = answer(form, letter, len, buf);
+    match told {
+        Grouped::Written(_) => {
+            groups_put::put_group(form, alphabet::sextet(letter), len, buf);
+            told
         }
         Grouped::Refused {
             number: _,
             place: _,
-        } => answer,
+        } => told,
     }
 }
 

@@ -1,8 +1,8 @@
--- `groups_answer::is_group` meets its contract. Assumes nothing.
+-- `groups_order::is_group` meets its contract. Assumes nothing.
 use mathlib.Core.Path.{refl}
 use Rattle.format.specs.Registry.{isGroup}
-use Rattle.groups_answer.proofs.is_group.Statement.{statement}
-use Rattle.groups_answer.proofs.is_group.Tie as tie
+use Rattle.groups_order.proofs.is_group.Statement.{statement}
+use Rattle.groups_order.proofs.is_group.Tie as tie
 
 returns : tie.Need-returns
 unfolding isGroup

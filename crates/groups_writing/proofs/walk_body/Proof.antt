@@ -1,8 +1,8 @@
--- `groups_answer::walk_body` meets its contract. Assumes nothing.
-use Rattle.groups_answer.proofs.Laws.{budget-fits, walked}
+-- `groups_writing::walk_body` meets its contract. Assumes nothing.
+use Rattle.groups_writing.proofs.Answers.{budget-fits, walked}
 use borrow.Author.Needs.{needs}
-use Rattle.groups_answer.proofs.walk_body.Statement.{statement}
-use Rattle.groups_answer.proofs.walk_body.Tie as tie
+use Rattle.groups_writing.proofs.walk_body.Statement.{statement}
+use Rattle.groups_writing.proofs.walk_body.Tie as tie
 
 add-walk-on : tie.Need-add-walk-on
 add-walk-on c = budget-fits (c .before .before .before .args .form) _ _ (c .before .units .ensures) (search needs)

@@ -1,11 +1,11 @@
--- `groups_writing::put_front` meets its contract: what two turns and a copy leave. Assumes nothing.
+-- `groups_put::put_front` meets its contract: what two turns and a copy leave. Assumes nothing.
 use denote.Ref.{now}
-use Rattle.groups_writing.proofs.Laws.{fronted}
+use Rattle.groups_put.proofs.Laws.{fronted}
 use native.Mathlib.Omega.{arith}
 use lib.Seq.{length-take-le}
 use borrow.Author.Needs.{needs}
-use Rattle.groups_writing.proofs.put_front.Statement.{statement}
-use Rattle.groups_writing.proofs.put_front.Tie as tie
+use Rattle.groups_put.proofs.put_front.Statement.{statement}
+use Rattle.groups_put.proofs.put_front.Tie as tie
 
 slice-aggregate-copy : tie.Need-slice-aggregate-copy
 slice-aggregate-copy c =

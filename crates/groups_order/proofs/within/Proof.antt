@@ -1,8 +1,8 @@
--- `groups_answer::within` meets its contract. Assumes nothing.
-use Rattle.groups_answer.proofs.Laws.{into}
+-- `groups_order::within` meets its contract. Assumes nothing.
+use Rattle.groups_order.proofs.Laws.{into}
 use borrow.Author.Needs.{needs}
-use Rattle.groups_answer.proofs.within.Statement.{statement}
-use Rattle.groups_answer.proofs.within.Tie as tie
+use Rattle.groups_order.proofs.within.Statement.{statement}
+use Rattle.groups_order.proofs.within.Tie as tie
 
 returns : tie.Need-returns
 returns c =
