@@ -1,9 +1,10 @@
--- Items counted one by one. Assumes nothing.
-use Prim.Native.Nat.{ℕ, suc, _+_, _-_, _*_, _/_, _^_, _≤_, _<_}
+-- Items counted, a step at a time. Assumes nothing.
+use Prim.Native.Nat.{ℕ, zero, suc, _+_, _-_, _*_, _/_, _^_, _≤_, _<_, min}
 use mathlib.Core.Path.{_≡_, refl, sym, ap, _∙_}
+use mathlib.Core.Bool.{true}
 use mathlib.Core.List.{List}
 use native.Mathlib.Omega.{arith}
-use native.Mathlib.Nat.{pos-of-ne-zero, le-div-iff-mul-le}
+use native.Mathlib.Nat.{pos-of-ne-zero, add-mul, mul-assoc, suc-mul, mul-le-mul-left, le-div-iff-mul-le}
 use mir.Syntax.{w64}
 use mir.Val as val
 use lib.ListN.{length, take, drop, length-drop, drop-of-length-le}
@@ -13,22 +14,23 @@ use Rattle.format.specs.declared.Kind.{Kind}
 use Rattle.format.specs.declared.Framed.{Framed}
 use Rattle.format.specs.declared.Framed.the-variants.{Item, Unframed}
 use Rattle.format.specs.Units.{domain}
-use Rattle.format.specs.Framing.{frameRuled, scale}
-use Rattle.format.specs.Report.{ItemRow, rows, rowsOf, frameIn}
+use Rattle.format.specs.Report.{ItemRow, rows, rowsOf}
 use Rattle.damage.specs.Cuts as C
 use Rattle.damage.specs.Damage as D
 use Rattle.laws.specs.Domains.{reader}
 use Rattle.runs.specs.Levels.{Clear}
 use Rattle.judging.proofs.Laws.{to-end}
 use Rattle.report_first.specs.First.{Lent}
+use Rattle.report_followers.specs.Followers.{Followers}
 use Rattle.report_sizes.specs.Sizes as S
 use Rattle.mixed.specs.declared.Start.{Start}
 use Rattle.mixed.specs.declared.Start.the-variants.{Cesr}
 use Rattle.mixed.specs.Mixed.{startAt, frameMixed, judgeMixed, rowsMixed}
-use Rattle.mixed_laws.specs.Frames.{frames-mixed, cesr-frame}
-use Rattle.mixed_known.specs.Known.{Known, known-start, known-on}
+use Rattle.mixed_laws.specs.Frames.{frames-mixed}
+use Rattle.mixed_known.specs.Known.{Known, known-on}
 use Rattle.mixed_fast.proofs.Laws.{starts-here}
-use Rattle.mixed_count.specs.Sizes.{sizeOf, Sized, SizedBy, Total}
+use Rattle.mixed_count.specs.Sizes.{sizeOf, Alike, Begun, NextBy, Next, Total}
+use Rattle.mixed_count.proofs.Runs.{one, one-cesr, groups}
 
 -- ---- a size by the general way
 
@@ -46,45 +48,47 @@ unfolding sizeOf
 size-within s at (Item k h n) e l = let w = frames-mixed .within (drop at s) k h n e in omega (arith, w .2, length-drop at s)
 size-within s at (Unframed m p) e l = omega arith
 
-pub by-general : (values classes rows s : List ℕ) (at to r : ℕ) → r ≡ sizeOf (frameMixed (drop at s)) → at ≤ length s → Sized values classes rows s at to r
-by-general values classes rows s at to r e l =
-    record { within = rw e (size-within s at (frameMixed (drop at s)) refl l); right = λ L K. e }
+pub by-general : (values classes rows s : List ℕ) (at to r : ℕ) → r ≡ sizeOf (frameMixed (drop at s)) → at ≤ length s → Next values classes rows s at to r 0
+by-general values classes rows s at to r e l = record {
+  within = let z : r + 0 * r ≡ r = omega arith in rw (z, e) (size-within s at (frameMixed (drop at s)) refl l);
+  right = λ L K. one (drop at s) r e;
+}
 
--- ---- of a CESR item
+-- ---- CESR items
 
-scaled-size : (u : ℕ) (f : Framed) → sizeOf (scale u f) ≡ S.sizeOf f * u
-unfolding sizeOf S.sizeOf scale
-scaled-size u (Item k h n) = refl
-scaled-size u (Unframed m p) = omega arith
+module _ (f : Form) (values classes rows part : List ℕ) (clean n : ℕ) where
+  pub by-header : (n ≤ length part / domain f .unit - 0) × (Lent values classes rows → S.Grouped (domain f) part clean 0 n) → (m : ℕ)
+      → Followers f part true clean 0 n m → 0 < n → Begun f values classes rows part clean n m
+  by-header G m F p =
+      record { within = omega (arith, F .few, G .0); right = λ L K e. groups f part clean n m e K p (G .1 L) (F .run p) }
 
-in-bytes : (f : Form) (part : List ℕ) → startAt part 0 ≡ Cesr f → sizeOf (frameMixed part) ≡ S.sizeAt (domain f) part 0 * domain f .unit
-unfolding frameIn
-in-bytes f part e =
-    let z : domain f .unit * 0 ≡ 0 = omega arith in
-    rw (cesr-frame part f e, z) (scaled-size (domain f .unit) (frameRuled (domain f .sextets part)))
+  pub by-size : (n ≤ length part / domain f .unit - 0)
+      × (Lent values classes rows → Clear (domain f .sextets part) 0 clean → n ≡ S.sizeAt (domain f) part 0) → Begun f values classes rows part clean n 0
+  by-size v = record { within = omega (arith, v .0); right = λ L K e. one-cesr f part n e (v .1 L K) }
 
-module _ (f : Form) (values classes rows s : List ℕ) (at to clean n u : ℕ) (q : u ≡ domain f .unit)
-    (v : (n ≤ length (take (length s - at) (drop at s)) / domain f .unit - 0)
-    × (Lent values classes rows → Clear (domain f .sextets (take (length s - at) (drop at s))) 0 clean → n ≡ S.sizeAt (domain f) (take (length s - at) (drop at s)) 0)) where
-  few-bytes : n * u ≤ length (drop at s)
+-- in bytes
+module _ (f : Form) (values classes rows s : List ℕ) (at to clean n m u : ℕ) (q : u ≡ domain f .unit)
+    (B : Begun f values classes rows (take (length s - at) (drop at s)) clean n m) where
+  own : Begun f values classes rows (drop at s) clean n m
+  own = rw (to-end s at) at B
+
+  few-bytes : n * u + m * (n * u) ≤ length (drop at s)
   few-bytes =
-      let h : n ≤ length (drop at s) / domain f .unit - 0 = rw (to-end s at) at (v .0) in
-      rw q (le-div-iff-mul-le (reader f .pos) .0 (omega arith))
+      let z : (n + m * n) * u ≡ n * u + m * (n * u) = add-mul n (m * n) u ∙ ap (λ (j : ℕ). n * u + j) (mul-assoc m n u) in
+      rw (← z, q) (le-div-iff-mul-le (reader f .pos) .0 (own .within))
 
   pub bytes-fit : length s * 1 < 2 ^ 63 → val.Fits w64 (n * u)
   bytes-fit b = omega (arith, few-bytes, length-drop at s)
 
-  pub sized-cesr : (Known s at to → Clear (domain f .sextets (drop at s)) 0 clean) → at ≤ length s → SizedBy f values classes rows s at to (n * u)
-  sized-cesr k l = record {
+  pub in-bytes : (Known s at to → Clear (domain f .sextets (drop at s)) 0 clean) → at ≤ length s → NextBy f values classes rows s at to (n * u) m
+  in-bytes k l = record {
     within = omega (arith, few-bytes, length-drop at s);
-    right = λ L K e.
-        let w : Lent values classes rows → Clear (domain f .sextets (drop at s)) 0 clean → n ≡ S.sizeAt (domain f) (drop at s) 0 = rw (to-end s at) at (v .1) in
-        rw (q, w L (k K)) (sym (in-bytes f (drop at s) (starts-here s at ∙ e)));
+    right = λ L K e. rw q (own .right L (k K) (starts-here s at ∙ e));
   }
 
-pub by-form : (values classes rows s : List ℕ) (at to r : ℕ) (t : Start) → t ≡ startAt s at → (f : Form) → t ≡ Cesr f → SizedBy f values classes rows s at to r
-    → Sized values classes rows s at to r
-by-form values classes rows s at to r t e f q S = record { within = S .within; right = λ L K. S .right L K (sym e ∙ q) }
+pub by-form : (values classes rows s : List ℕ) (at to n m : ℕ) (t : Start) → t ≡ startAt s at → (f : Form) → t ≡ Cesr f → NextBy f values classes rows s at to n m
+    → Next values classes rows s at to n m
+by-form values classes rows s at to n m t e f q N = record { within = N .within; right = λ L K. N .right L K (sym e ∙ q) }
 
 -- ---- the count
 
@@ -93,21 +97,21 @@ abbrev rowsAt : List ℕ → ℕ → List ItemRow
 rowsAt s at = D.rowsFrom frameMixed judgeMixed at (drop at s)
 
 -- i items are counted, up to a byte
-pub record Counted (values classes rows s : List ℕ) (to at i : ℕ) : Type 0 where
+pub record Counted (values classes rows s : List ℕ) (known to at i : ℕ) : Type 0 where
   pub within : at ≤ length s
   pub few : i ≤ at
-  pub right : Lent values classes rows → Known s at to × (length (rowsMixed s) ≡ i + length (rowsAt s at))
+  pub right : Lent values classes rows → Known s 0 known → Known s at to × (length (rowsMixed s) ≡ i + length (rowsAt s at))
 
-pub counted-start : (values classes rows s : List ℕ) → Counted values classes rows s 0 0 0
+pub counted-start : (values classes rows s : List ℕ) (known : ℕ) → Counted values classes rows s known known 0 0
 unfolding rows
-counted-start values classes rows s = record { within = omega arith; few = omega arith; right = λ L. (known-start s, omega arith) }
+counted-start values classes rows s known = record { within = omega arith; few = omega arith; right = λ L K. (K, omega arith) }
 
 -- an item, or nothing
-next : (s : List ℕ) (at : ℕ) (f : Framed) → frameMixed (drop at s) ≡ f → (n : ℕ) → n ≡ sizeOf f → 0 < n
+next-row : (s : List ℕ) (at : ℕ) (f : Framed) → frameMixed (drop at s) ≡ f → (n : ℕ) → n ≡ sizeOf f → 0 < n
     → length (rowsAt s at) ≡ suc (length (rowsAt s (at + n)))
 unfolding sizeOf
-next s at (Unframed m p) e n q h = absurd (omega arith)
-next s at (Item k h m) e n q p =
+next-row s at (Unframed m p) e n q h = absurd (omega arith)
+next-row s at (Item k h m) e n q p =
     let z : length (rowsAt s at) ≡ suc (length (D.rowsFrom frameMixed judgeMixed (at + m) (drop m (drop at s)))) =
     ap length (D.rows-item frameMixed judgeMixed frames-mixed at (drop at s) e) in
     rw (q, ← (drop-drop m at s)) z
@@ -121,36 +125,65 @@ at-end : (s : List ℕ) (at : ℕ) → length s ≤ at → length (rowsAt s at) 
 unfolding rowsOf
 at-end s at h = rw (drop-of-length-le s {i = at} h, C.cut-nil frameMixed frames-mixed)
 
-module _ {values classes rows s : List ℕ} {to at i : ℕ} (K : Counted values classes rows s to at i) where
-  pub counted-end : length s ≤ at → Total values classes rows s i
-  counted-end h = record { few = omega (arith, K .few, K .within); right = λ L. omega (arith, K .right L .1, at-end s at h) }
+-- all items of a step
+module _ (s : List ℕ) (at n m : ℕ) (A : Alike (drop at s) n m) where
+  rows-past : 0 < n → (i : ℕ) → i ≤ m + 1 → length (rowsAt s at) ≡ i + length (rowsAt s (at + i * n))
+  rows-past p zero h = let z : at + 0 * n ≡ at = omega arith in rw z (omega arith)
+  rows-past p (suc i) h =
+      let here : ℕ = at + i * n in
+      let e : n ≡ sizeOf (frameMixed (drop here s)) = A .each i (omega arith) ∙ ap (λ (l : List ℕ). sizeOf (frameMixed l)) (drop-drop (i * n) at s) in
+      let z : at + suc i * n ≡ here + n = omega (arith, suc-mul i n) in
+      rw z (omega (arith, rows-past p i (omega arith), next-row s here _ refl n e p))
 
-  pub i-fits : length s * 1 < 2 ^ 63 → val.Fits w64 (i + 1)
-  i-fits l = omega (arith, K .few, K .within)
+  step-rows : 0 < n → length (rowsAt s at) ≡ 1 + m + length (rowsAt s (at + (n + m * n)))
+  step-rows p = let z : n + m * n ≡ (1 + m) * n = omega (arith, suc-mul m n) in rw z (rows-past p (1 + m) (omega arith))
 
-  -- a size, where characters are known up to another byte
-  module _ {to′ n : ℕ} (k : Known s at to → Known s at to′) (Z : Sized values classes rows s at to′ n) where
-    pub counted-stop : n ≡ 0 → at < length s → Total values classes rows s i
+  step-none : n ≡ 0 → sizeOf (frameMixed (drop at s)) ≡ 0
+  step-none z = let y : 0 * n ≡ 0 = omega arith in sym (rw y at (A .each 0 (omega arith))) ∙ z
+
+module _ {values classes rows s : List ℕ} {known to at i : ℕ} (K : Counted values classes rows s known to at i) where
+  pub counted-end : length s ≤ at → Total values classes rows s known i
+  counted-end h = record { few = omega (arith, K .few, K .within); right = λ L k. omega (arith, K .right L k .1, at-end s at h) }
+
+  -- a step, where characters are known up to another byte
+  module _ {to′ n m : ℕ} (k : Known s at to → Known s at to′) (N : Next values classes rows s at to′ n m) where
+    pub counted-stop : n ≡ 0 → at < length s → Total values classes rows s known i
     counted-stop z l = record {
       few = omega (arith, K .few, K .within);
-      right = λ L.
-          let r = K .right L in
-          omega (arith, r .1, none-left s at (frameMixed (drop at s)) refl (sym (Z .right L (k (r .0))) ∙ z) l);
+      right = λ L f.
+          let r = K .right L f in
+          omega (arith, r .1, none-left s at _ refl (step-none s at n m (N .right L (k (r .0))) z) l);
     }
 
-    pub counted-more : (n ≡ 0 → ⊥) → Counted values classes rows s to′ (at + n) (i + 1)
+    more-few : (n ≡ 0 → ⊥) → m ≤ m * n
+    more-few z = let y : m * 1 ≤ m * n = mul-le-mul-left m (pos-of-ne-zero z) in omega arith
+
+    pub counted-more : (n ≡ 0 → ⊥) → Counted values classes rows s known to′ (at + (n + m * n)) (i + (1 + m))
     counted-more z = record {
-      within = Z .within;
-      few = omega (arith, K .few, pos-of-ne-zero z);
-      right = λ L.
-          let r = K .right L in (
-            known-on s at to′ (at + n) (omega arith) (k (r .0)),
-            omega (arith, r .1, next s at (frameMixed (drop at s)) refl n (Z .right L (k (r .0))) (pos-of-ne-zero z)),
+      within = N .within;
+      few = omega (arith, K .few, more-few z, pos-of-ne-zero z);
+      right = λ L f.
+          let r = K .right L f in (
+            known-on s at to′ (at + (n + m * n)) (omega arith) (k (r .0)),
+            omega (arith, r .1, step-rows s at n m (N .right L (k (r .0))) (pos-of-ne-zero z)),
           );
     }
 
-    pub counted-less : (n ≡ 0 → ⊥) → length s - (at + n) < length s - at
-    counted-less z = omega (arith, pos-of-ne-zero z, Z .within)
+    pub counted-less : (n ≡ 0 → ⊥) → length s - (at + (n + m * n)) < length s - at
+    counted-less z = omega (arith, pos-of-ne-zero z, N .within)
 
-    pub at-fits : length s * 1 < 2 ^ 63 → val.Fits w64 (at + n)
-    at-fits l = omega (arith, Z .within)
+    -- the sums fit
+    pub more-fits : length s * 1 < 2 ^ 63 → val.Fits w64 (m * n)
+    more-fits l = omega (arith, N .within)
+
+    pub step-fits : length s * 1 < 2 ^ 63 → val.Fits w64 (n + m * n)
+    step-fits l = omega (arith, N .within)
+
+    pub at-fits : length s * 1 < 2 ^ 63 → val.Fits w64 (at + (n + m * n))
+    at-fits l = omega (arith, N .within)
+
+    pub items-fit : (n ≡ 0 → ⊥) → length s * 1 < 2 ^ 63 → val.Fits w64 (1 + m)
+    items-fit z l = omega (arith, more-few z, pos-of-ne-zero z, N .within)
+
+    pub i-fits : (n ≡ 0 → ⊥) → length s * 1 < 2 ^ 63 → val.Fits w64 (i + (1 + m))
+    i-fits z l = omega (arith, K .few, more-few z, pos-of-ne-zero z, N .within)

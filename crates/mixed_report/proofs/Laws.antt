@@ -40,18 +40,18 @@ begin s o n = filled-start frameMixed judgeMixed frames-mixed (mixedRowBytes s) 
 -- ---- all turns
 
 -- some items are stored, up to a byte
-pub record Reached (values classes rows s : List ℕ) (n : ℕ) (out out₁ : List ℕ) (to at i k : ℕ) : Type 0 where
-  pub begun : Begun values classes rows s n out
+pub record Reached (values classes rows s : List ℕ) (first n : ℕ) (out out₁ : List ℕ) (to at i k : ℕ) : Type 0 where
+  pub begun : Begun values classes rows s first n out
   pub inside : at ≤ length s
   pub long : length out₁ ≡ length out
   pub known : Known s at to
   pub fills : (o : List ℕ) → Fill s o n 0 0 0 out → Fill s o n at i k out₁
 
-module _ {values classes rows s : List ℕ} {n : ℕ} {out : List ℕ} where
-  pub reached-start : Begun values classes rows s n out → Reached values classes rows s n out out 0 0 0 0
-  reached-start B = record { begun = B; inside = omega arith; long = refl; known = known-start s; fills = λ o φ. φ }
+module _ {values classes rows s : List ℕ} {first n : ℕ} {out : List ℕ} where
+  pub reached-start : Begun values classes rows s first n out → Reached values classes rows s first n out out first 0 0 0
+  reached-start B = record { begun = B; inside = omega arith; long = refl; known = B .counted .read .clean; fills = λ o φ. φ }
 
-  module _ {out₁ : List ℕ} {to at i k : ℕ} (T : Reached values classes rows s n out out₁ to at i k) where
+  module _ {out₁ : List ℕ} {to at i k : ℕ} (T : Reached values classes rows s first n out out₁ to at i k) where
     asks : at < length s → Filling s n at i k out₁
     asks l = record {
       few = T .begun .counted .read .few;
@@ -72,7 +72,7 @@ module _ {values classes rows s : List ℕ} {n : ℕ} {out : List ℕ} where
           → (0 < m) × (at + m ≤ length s) × Fill s o n (at + m) (i + 1) (k + b) out₂
       stored m b e o φ = subst (λ (t : Turn). After s o n at i k t out₂) e (after o φ)
 
-      pub reached-more : (m b : ℕ) → r ≡ Stored m b → length out₂ ≡ length out₁ → Reached values classes rows s n out out₂ to′ (at + m) (i + 1) (k + b)
+      pub reached-more : (m b : ℕ) → r ≡ Stored m b → length out₂ ≡ length out₁ → Reached values classes rows s first n out out₂ to′ (at + m) (i + 1) (k + b)
       reached-more m b e long₂ =
           let w = stored m b e (T .begun .held) (T .begun .filled) in
           record {
@@ -130,11 +130,11 @@ module _ {values classes rows s : List ℕ} {n : ℕ} {out : List ℕ} where
 
 -- ---- what is filled
 
-module _ {values classes rows s : List ℕ} {n : ℕ} {o : List ℕ} (C : Counted values classes rows s n o) (out : List ℕ) (p : out ≡ put o 0 (be4 n)) where
+module _ {values classes rows s : List ℕ} {known n : ℕ} {o : List ℕ} (C : Counted values classes rows s known n o) (out : List ℕ) (p : out ≡ put o 0 (be4 n)) where
   stored-count : out ≡ sets o 0 (be4 n)
   stored-count = puts o 0 (be4 n) (omega (arith, be4-long n, C .room)) p
 
-  pub begun : Begun values classes rows s n out
+  pub begun : Begun values classes rows s known n out
   begun = record {
     counted = record { read = C .read; count = C .count; room = omega (arith, C .room, ap length stored-count, length-sets o 0 (be4 n)) };
     held = o;
@@ -145,7 +145,7 @@ module _ {values classes rows s : List ℕ} {n : ℕ} {o : List ℕ} (C : Counte
   ended r last E = E .ends o (rw stored-count (begin s o n))
 
 -- the last stores, behind rows of ten bytes, make the report
-module _ {values classes rows s : List ℕ} {n : ℕ} {o : List ℕ} (C : Counted values classes rows s n o) where
+module _ {values classes rows s : List ℕ} {known n : ℕ} {o : List ℕ} (C : Counted values classes rows s known n o) where
   ends-few : (e : End) (mid : List ℕ) → Ends s o n e mid → refusedOf e ≤ n
   unfolding Ends refusedOf
   ends-few (Whole k) mid w = w .0
@@ -172,25 +172,28 @@ module _ {values classes rows s : List ℕ} {n : ℕ} {o : List ℕ} (C : Counte
 
 -- ---- the answer
 
+pub known-first : (xs : List ℕ) (to : ℕ) → (Known xs 0 0 → Known xs 0 to) → Known xs 0 to
+known-first xs to k = k (known-start xs)
+
 pub too-long : (xs out : List ℕ) → mixedLimit < length xs → R.Refused 1 0 ≡ mixedAnswer xs (length out)
 unfolding mixedAnswer
 too-long xs out l = rw (lt-ltb mixedLimit (length xs) l)
 
-module _ (xs out : List ℕ) {values classes rows : List ℕ} (Q : Read values classes rows xs) (n : ℕ) (T : Total values classes rows xs n) where
+module _ (xs out : List ℕ) {values classes rows : List ℕ} {known : ℕ} (Q : Read values classes rows xs known) (n : ℕ) (T : Total values classes rows xs known n) where
   pub no-room : length out < 17 + 19 * n → Answered xs out (R.Refused 3 0) out
   unfolding mixedAnswer mixedLeft
-  no-room k = record { answer = rw (le-ltb mixedLimit (length xs) (Q .few), ← (T .right (Q .lent)), lt-ltb (length out) (17 + 19 * n) k); left = refl }
+  no-room k = record { answer = rw (le-ltb mixedLimit (length xs) (Q .few), ← (T .right (Q .lent) (Q .clean)), lt-ltb (length out) (17 + 19 * n) k); left = refl }
 
   pub with-room : 17 + 19 * n ≤ length out → (w : ℕ) (out′ : List ℕ) → Written xs out w out′ → Answered xs out (R.Written w) out′
   unfolding mixedAnswer mixedLeft
   with-room k w out′ W =
       let z : 0 + length (mixedReport xs) ≡ length (mixedReport xs) = omega arith in
-      let e = T .right (Q .lent) in
+      let e = T .right (Q .lent) (Q .clean) in
       let fits : 0 + length (mixedReport xs) ≤ length out = omega (arith, proved .call .fits xs) in
       record {
         answer = rw (le-ltb mixedLimit (length xs) (Q .few), ← e, le-ltb (length out) (17 + 19 * n) k) (ap R.Written (W .long));
         left = W .held ∙ sets-eq (mixedReport xs) out 0 fits ∙ rw (z, W .long);
       }
 
-  pub counted : 17 + 19 * n ≤ length out → Counted values classes rows xs n out
-  counted k = record { read = Q; count = T .right (Q .lent); room = k }
+  pub counted : 17 + 19 * n ≤ length out → Counted values classes rows xs known n out
+  counted k = record { read = Q; count = T .right (Q .lent) (Q .clean); room = k }

@@ -10,22 +10,24 @@ use Rattle.report_first.specs.First.{Lent}
 use Rattle.report_last.specs.declared.End.{End}
 use Rattle.report_last.specs.declared.End.the-variants.{Whole, Rest}
 use Rattle.mixed.specs.Mixed.{rowsMixed, mixedReport, mixedLimit, mixedAnswer, mixedLeft}
+use Rattle.mixed_known.specs.Known.{Known}
 use Rattle.mixed_turn.specs.Turns.{Fill}
 
--- a stream within the limit, and the tables
-pub record Read (values classes rows s : List ℕ) : Type 0 where
+-- a stream within the limit, how far its characters are known, and the tables
+pub record Read (values classes rows s : List ℕ) (known : ℕ) : Type 0 where
   pub lent : Lent values classes rows
+  pub clean : Known s 0 known
   pub few : length s ≤ mixedLimit
 
 -- its items are counted, and a buffer has room for the report
-pub record Counted (values classes rows s : List ℕ) (n : ℕ) (out : List ℕ) : Type 0 where
-  pub read : Read values classes rows s
+pub record Counted (values classes rows s : List ℕ) (known n : ℕ) (out : List ℕ) : Type 0 where
+  pub read : Read values classes rows s known
   pub count : n ≡ length (rowsMixed s)
   pub room : 17 + 19 * n ≤ length out
 
 -- the buffer holds their number
-pub record Begun (values classes rows s : List ℕ) (n : ℕ) (out : List ℕ) : Type 0 where
-  pub counted : Counted values classes rows s n out
+pub record Begun (values classes rows s : List ℕ) (known n : ℕ) (out : List ℕ) : Type 0 where
+  pub counted : Counted values classes rows s known n out
   pub held : List ℕ
   pub filled : Fill s held n 0 0 0 out
 

@@ -1,6 +1,7 @@
 // The report of a mixed stream into a lent buffer: items with their form, refusals, remainder, each after its count. A first pass counts the
 // items, since room is asked by them; a second stores their rows where they are to stand. The tables are named once and lent; `to` is a byte
-// in front of which, from the present one on, all characters of a text are known.
+// in front of which, from the present one on, all characters of a text are known, and `known` such a byte from the first on, so that a stream
+// of text items alone is scanned once for both passes.
 use format::Reported;
 use mixed_turn::Turn;
 use report_last::End;
@@ -18,12 +19,13 @@ fn put_all(
     rows: &[u16; 192],
     s: &[u8],
     out: &mut [u8],
+    known: usize,
     n: usize,
 ) -> End
-    requires { ⌜ Begun (now values) (now classes) (now rows) (now s) n (now out) ⌝ }
+    requires { ⌜ Begun (now values) (now classes) (now rows) (now s) known n (now out) ⌝ }
     ensures { λ r. ⌜ Ended (now (s .entry)) n (now (out .entry)) r (now (out .exit)) ⌝ }
 {
-    let mut to = 0;
+    let mut to = known;
     let mut at = 0;
     let mut i = 0;
     let mut k = 0;
@@ -54,13 +56,14 @@ fn put_items(
     rows: &[u16; 192],
     s: &[u8],
     out: &mut [u8],
+    known: usize,
     n: usize,
 ) -> End
-    requires { ⌜ Counted (now values) (now classes) (now rows) (now s) n (now out) ⌝ }
+    requires { ⌜ Counted (now values) (now classes) (now rows) (now s) known n (now out) ⌝ }
     ensures { λ r. ⌜ Ends (now (s .entry)) (now (out .entry)) n r (now (out .exit)) ⌝ }
 {
     report_rows::put_number(out, 0, n);
-    put_all(values, classes, rows, s, out, n)
+    put_all(values, classes, rows, s, out, known, n)
 }
 
 // Writes the report of a stream, which has n items.
@@ -70,12 +73,13 @@ fn fill(
     rows: &[u16; 192],
     s: &[u8],
     out: &mut [u8],
+    known: usize,
     n: usize,
 ) -> usize
-    requires { ⌜ Counted (now values) (now classes) (now rows) (now s) n (now out) ⌝ }
+    requires { ⌜ Counted (now values) (now classes) (now rows) (now s) known n (now out) ⌝ }
     ensures { λ r. ⌜ Written (now (s .entry)) (now (out .entry)) r (now (out .exit)) ⌝ }
 {
-    let end = put_items(values, classes, rows, s, out, n);
+    let end = put_items(values, classes, rows, s, out, known, n);
     report_last::put_last(out, 4 + 10 * n, end)
 }
 
@@ -88,15 +92,16 @@ fn report_by(
     rows: &[u16; 192],
     s: &[u8],
     out: &mut [u8],
+    known: usize,
 ) -> Reported
-    requires { ⌜ Read (now values) (now classes) (now rows) (now s) ⌝ }
+    requires { ⌜ Read (now values) (now classes) (now rows) (now s) known ⌝ }
     ensures { λ r. ⌜ Answered (now (s .entry)) (now (out .entry)) r (now (out .exit)) ⌝ }
 {
-    let n = mixed_count::count(values, classes, rows, s);
+    let n = mixed_count::count(values, classes, rows, s, known);
     if out.len() < 17 + 19 * n {
         return Reported::Refused(3, 0);
     }
-    let length = fill(values, classes, rows, s, out, n);
+    let length = fill(values, classes, rows, s, out, known, n);
     Reported::Written(length)
 }
 
@@ -111,5 +116,6 @@ pub fn report_mixed(s: &[u8], out: &mut [u8]) -> Reported
     let values = alphabet::sextets();
     let classes = runs_tables::classes();
     let rows = runs_tables::rows();
-    report_by(&values, &classes, &rows, s, out)
+    let known = mixed_known::known(s, 0, 0);
+    report_by(&values, &classes, &rows, s, out, known)
 }

@@ -7,10 +7,10 @@ use Rattle.mixed_report.proofs.put_all.Statement.{statement}
 use Rattle.mixed_report.proofs.put_all.Tie as tie
 
 abbrev Inv-loop : tie.InvT-loop
-Inv-loop values classes rows s out₀ n to₀ at₀ i₀ k₀ out to at i k = Reached values classes rows s n out₀ out to at i k
+Inv-loop values classes rows s out₀ known n to₀ at₀ i₀ k₀ out to at i k = Reached values classes rows s known n out₀ out to at i k
 
 abbrev μ-loop : tie.MeasureT-loop
-μ-loop values classes rows s out₀ n to₀ at₀ i₀ k₀ out to at i k = length s - at
+μ-loop values classes rows s out₀ known n to₀ at₀ i₀ k₀ out to at i k = length s - at
 
 loop-holds : tie.Need-loop-holds Inv-loop μ-loop
 loop-holds c = reached-start (c .before .before .pre)
