@@ -8,6 +8,8 @@
 // length of what was read and how many of its bytes, from the first on, are those that were given.
 // Call 21 of a text and 22 of a binary reads the indexed item that a stream begins with, around what a stream may have: the value is that
 // stream, and the line has the seven numbers of the item and the checksum of the buffer.
+// Call 28 of a text and 29 of a binary is the report by the second judge, of a stream around the limit. Of a binary, whose text asks for more
+// than the sixteen bytes of working room that are lent, the line ends with these, which held AA before.
 use exports_values::INFO;
 use format::BinaryOffset;
 use libc::STDIN_FILENO;
@@ -178,6 +180,24 @@ fn read_indexed(call: u8, stream: &[u8], out: &mut [u8]) {
     show_indexed(call, number, value, info, out);
 }
 
+// ---- a report by the second judge
+
+fn second_text(call: u8, stream: &[u8], out: &mut [u8]) {
+    let mut value = 0;
+    let number = exports::cesr_second_text(stream, out, &mut value);
+    show_written(call, number, value, out);
+}
+
+fn second_binary(call: u8, stream: &[u8], out: &mut [u8]) {
+    let mut value = 0;
+    let mut work: [u8; 16] = [170; 16];
+    let number = exports::cesr_second_binary(stream, &mut work, out, &mut value);
+    recorded::show_answer(call, number, value);
+    show_number(checksum(out));
+    recorded::show_bytes(&work);
+    recorded::end_line();
+}
+
 // ---- any call
 
 fn run(head: [u8; 4], raw: &mut [u8], out: &mut [u8]) {
@@ -185,6 +205,14 @@ fn run(head: [u8; 4], raw: &mut [u8], out: &mut [u8]) {
     let seed = head[3];
     fill(raw, letter, seed);
     blank(out);
+    if head[0] == 28 {
+        second_text(head[0], raw, out);
+        return;
+    }
+    if head[0] == 29 {
+        second_binary(head[0], raw, out);
+        return;
+    }
     if 20 < head[0] {
         read_indexed(head[0], raw, out);
         return;

@@ -1,41 +1,71 @@
-// Runs recorded reports of mixed streams, and writes what each answered and left in its buffer. The records and the expected output were
-// made by the independent program in rust/oracle; nothing here was.
+// Runs recorded reports of mixed streams and by the second judge, and writes what each answered and left in its buffers. The records and the
+// expected output were made by the independent program in rust/oracle; nothing here was.
 //
-// A record: the call (1 byte: 27), the room lent (2 bytes, big-endian), the stream's length (2) and the stream. A line of output: the call,
-// the number (0: accepted), the length or place, and the whole lent buffer in hexadecimal, which held AA before.
+// A record: the call (1 byte: 27 mixed, 28 a text and 29 a binary by the second judge), the room lent (2 bytes, big-endian), the working room
+// (2), the stream's length (2) and the stream. A line of output: the call, the number (0: accepted), the length or place, and the whole lent
+// buffer in hexadecimal, which held AA before; of a binary by the second judge the working room too, which held AA as well.
 use libc::STDIN_FILENO;
 use recorded::number;
 ghost use mathlib.Core.Path.{_≡_};
 ghost use lib.ListN.{length};
 
-fn report(call: u8, stream: &[u8], out: &mut [u8]) {
-    let mut value = 0;
-    let number = exports::cesr_report_mixed(stream, out, &mut value);
+fn show(call: u8, number: u8, value: usize, out: &[u8]) {
     recorded::show_answer(call, number, value);
     recorded::show_bytes(out);
+}
+
+fn report(call: u8, stream: &[u8], out: &mut [u8]) {
+    let mut value = 0;
+    if call == 27 {
+        let number = exports::cesr_report_mixed(stream, out, &mut value);
+        show(call, number, value, out);
+        return;
+    }
+    let number = exports::cesr_second_text(stream, out, &mut value);
+    show(call, number, value, out);
+}
+
+fn second_binary(call: u8, stream: &[u8], work: &mut [u8], out: &mut [u8]) {
+    let mut value = 0;
+    let number = exports::cesr_second_binary(stream, work, out, &mut value);
+    show(call, number, value, out);
+    recorded::show_bytes(work);
+}
+
+fn answer(call: u8, stream: &[u8], work: &mut [u8], out: &mut [u8]) {
+    if call == 29 {
+        second_binary(call, stream, work, out);
+        recorded::end_line();
+        return;
+    }
+    report(call, stream, out);
     recorded::end_line();
 }
 
 // A buffer that holds AA everywhere.
-fn space() -> [u8; 256]
-    ensures { λ r. ⌜ 256 ≡ length r ⌝ }
+fn space() -> [u8; 512]
+    ensures { λ r. ⌜ 512 ≡ length r ⌝ }
 {
-    [170; 256]
+    [170; 512]
 }
 
-fn lend(call: u8, room: usize, stream: &[u8]) {
+fn lend(call: u8, room: usize, work_room: usize, stream: &[u8]) {
     let mut buffer = space();
-    if room <= 256 {
-        report(call, stream, &mut buffer[..room]);
+    let mut work = space();
+    if room <= 512 {
+        if work_room <= 512 {
+            answer(call, stream, &mut work[..work_room], &mut buffer[..room]);
+        }
     }
 }
 
 // A record's numbers, and the call on its stream.
 fn run(record: &[u8]) {
     let n = record.len();
-    if 5 <= n {
+    if 7 <= n {
         let room = number(record[1], record[2]);
-        lend(record[0], room, &record[5..n]);
+        let work_room = number(record[3], record[4]);
+        lend(record[0], room, work_room, &record[7..n]);
     }
 }
 
@@ -51,10 +81,10 @@ fn main() {
     let n = io::read_full(STDIN_FILENO, &mut records);
     let mut at = 0;
     while at < n {
-        if n - at < 5 {
+        if n - at < 7 {
             return;
         }
-        let length = 5 + number(records[at + 3], records[at + 4]);
+        let length = 7 + number(records[at + 5], records[at + 6]);
         if n - at < length {
             return;
         }

@@ -5,7 +5,7 @@
 
 mod common;
 
-use common::papers::{DIGESTS_OF_001, NUMBER, POST_PADDED_OF_001, SAD_PATHS, SHORTS_OF_002};
+use common::papers::{DECK, DIGESTS_OF_001, NUMBER, POST_PADDED_OF_001, SAD_PATHS, SHORTS_OF_002};
 use common::{around, nested};
 use oracle::compare::compare;
 use oracle::convert;
@@ -430,36 +430,6 @@ fn around_blocks(records: &mut Vec<Record>) {
     }
     records.push(Record::new(TO_BINARY, 145, &[b'k'; 192]));
 }
-
-/// 01's deck as streams, with its verdicts: the number of the first item's
-/// refusal, or of the remainder.
-const DECK: [(&str, u8); 25] = [
-    ("", 0),
-    ("MAAB", 0),
-    ("MP__", 0),
-    ("MQAA", 8),
-    ("0HD_____", 0),
-    ("0HEAAAAA", 8),
-    ("VABh", 0),
-    ("WGhp", 0),
-    ("1AAM", 0),
-    ("4BAA", 0),
-    ("5BAA", 9),
-    ("5BABAGhp", 0),
-    ("6BABAABh", 0),
-    ("5BABAPAA", 0),
-    ("5BABAQAA", 8),
-    ("0J_A", 0),
-    ("0JAA", 10),
-    ("-0AA", 6),
-    ("-AAA", 0),
-    ("-AABMAAB", 0),
-    ("-AACMAAB", 4),
-    ("-AAC-_AAABAA", 7),
-    ("-JAC-_AAABAA", 0),
-    ("--AAABAA", 4),
-    ("E8wYuBjhslETYaLZcxMkWrhVbMcA8RS1pKYl7nJ77ntA", 8),
-];
 
 /// 01: the report of `-AAB0AAAMAAB`.
 const BROKEN: &[u8] = b"-AAB0AAAMAAB";

@@ -1,13 +1,15 @@
 //! The recorded calls of `crates/vectors_long`: long raw values and texts
-//! written, and read back, and indexed items of long streams. What the program there is fed and what it must write come from
-//! this package, which shares nothing with the program. `VECTORS_WRITE=1 cargo
-//! test -p oracle --test vectors_long` writes the files anew; without it the
-//! files must be what they would be.
+//! written, and read back, indexed items of long streams, and reports of such by
+//! the second judge. What the program there is fed and what it must write come
+//! from this package, which shares nothing with the program. `VECTORS_WRITE=1
+//! cargo test -p oracle --test vectors_long` writes the files anew; without it
+//! the files must be what they would be.
 
 use oracle::indexed::{self, IndexedItem};
 use oracle::primitive::{read_binary, read_text, write, Named, Primitive, Tag};
 use oracle::primitive::{MOST_LARGE, MOST_SMALL};
 use oracle::registry::{Code, VARIABLE};
+use oracle::second;
 use oracle::text::{MOST_LARGE_TEXT, MOST_SMALL_TEXT, TEXT_TYPE};
 use oracle::Form;
 use std::fmt::Write as _;
@@ -148,6 +150,81 @@ impl Start {
         }
         line + &format!(" {}\n", checksum(&out))
     }
+}
+
+/// 02 m: the second judge's report of a stream, which is filled like a raw value.
+struct Judged {
+    form: Form,
+    letter: u8,
+    seed: u8,
+    length: usize,
+    room: usize,
+}
+
+impl Judged {
+    /// The working room of a binary: less than a long one asks for.
+    const WORK: usize = 16;
+
+    fn bytes(&self) -> Vec<u8> {
+        let mut bytes = vec![self.call(), 0, self.letter, self.seed];
+        bytes.extend((self.length as u32).to_be_bytes());
+        bytes.extend((self.room as u16).to_be_bytes());
+        bytes
+    }
+
+    fn call(&self) -> u8 {
+        match self.form {
+            Form::Text => 28,
+            Form::Binary => 29,
+        }
+    }
+
+    fn line(&self) -> String {
+        let stream = filled(self.letter, self.seed, self.length);
+        let (mut work, mut out) = ([0xAA; Judged::WORK], vec![0xAA; self.room]);
+        let (number, value) = match second::write_report(&stream, self.form, &mut work, &mut out) {
+            Ok(length) => (0, length),
+            Err(refusal) => (refusal.number, refusal.place),
+        };
+        let shown = match self.form {
+            Form::Text => &out[..12],
+            Form::Binary => &work,
+        };
+        let shown: String = shown.iter().map(|b| format!("{b:02x}")).collect();
+        format!(
+            "{} {number} {value} {} {shown}\n",
+            self.call(),
+            checksum(&out)
+        )
+    }
+}
+
+/// At the limit a text, with room enough and one less, and a binary whose working
+/// room is less, with and without room for a report; 1 where the stream has one
+/// more, whatever the rooms are; and binaries around what the working room holds.
+fn judged() -> Vec<Judged> {
+    let mut judged = Vec::new();
+    for (form, letter, seed) in [(Form::Text, b'A', 3), (Form::Binary, b'B', 9)] {
+        for more in [0, 1] {
+            judged.extend([17, 16].map(|room| Judged {
+                form,
+                letter,
+                seed,
+                length: form.limit() + more,
+                room,
+            }));
+        }
+    }
+    for length in [11, 12, 13, 14, 15] {
+        judged.extend([17, 16].map(|room| Judged {
+            form: Form::Binary,
+            letter: b'B',
+            seed: 0x80,
+            length,
+            room,
+        }));
+    }
+    judged
 }
 
 /// Selector and letter, units, where the raw value starts in bytes, its length,
@@ -320,6 +397,32 @@ fn starts_by_hand() {
     }
 }
 
+/// 02 m by hand: 1 first, then 3 of the working room, then of the report, which
+/// leaves the text. 80 87 8E is `gIeO`, whose start is unknown: nothing is framed,
+/// and 17 bytes say so. Of eleven bytes three triplets are whole.
+#[test]
+fn judged_by_hand() {
+    let told: Vec<_> = judged().iter().map(Judged::line).collect();
+    let blank = "aa".repeat(Judged::WORK);
+    for (line, (begins, ends)) in told.iter().zip([
+        ("28 0 17 ", "000000000000000000000001"),
+        ("28 3 0 ", &blank[..24]),
+        ("28 1 0 ", &blank[..24]),
+        ("28 1 0 ", &blank[..24]),
+        ("29 3 0 ", &blank),
+        ("29 3 0 ", &blank),
+        ("29 1 0 ", &blank),
+        ("29 1 0 ", &blank),
+        ("29 0 17 ", "aaaaaaaa"),
+        ("29 3 0 ", "aaaaaaaa"),
+    ]) {
+        assert!(line.starts_with(begins), "{line} {begins}");
+        assert!(line.ends_with(&format!("{ends}\n")), "{line} {ends}");
+    }
+    assert!(told[8..10].iter().all(|line| line.contains(" 6749654f")));
+    assert!(told[16..].iter().all(|line| line.starts_with("29 3 0 ")));
+}
+
 fn headed(letter: u8, large: bool, length: usize, answer: (u8, usize), head: &[u8]) {
     let record = Record {
         form: Form::Text,
@@ -342,6 +445,10 @@ fn the_files_say_what_the_oracle_says() {
     for start in starts() {
         input.extend(start.bytes());
         expected += &start.line();
+    }
+    for judged in judged() {
+        input.extend(judged.bytes());
+        expected += &judged.line();
     }
     if std::env::var_os("VECTORS_WRITE").is_some() {
         std::fs::write(file("stdin"), &input).unwrap();

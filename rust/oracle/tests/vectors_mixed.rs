@@ -1,51 +1,96 @@
-//! The recorded calls of `crates/vectors_mixed`: reports of mixed streams. What
-//! the program there is fed and what it must write come from this package, which
-//! shares nothing with the program. `VECTORS_WRITE=1 cargo test -p oracle --test
-//! vectors_mixed` writes the files anew; without it the files must be what they
-//! would be.
+//! The recorded calls of `crates/vectors_mixed`: reports of mixed streams, and
+//! reports by the second judge (02 m). What the program there is fed and what it
+//! must write come from this package, which shares nothing with the program.
+//! `VECTORS_WRITE=1 cargo test -p oracle --test vectors_mixed` writes the files
+//! anew; without it the files must be what they would be.
 
 mod common;
 
+use common::papers::{DECK, POST_PADDED_OF_001, SAD_PATHS};
 use common::{around, binary, nested};
-use oracle::mixed;
+use oracle::form::Form;
+use oracle::refusal::Refusal;
 use oracle::registry::{GROUPS, INDEXED};
+use oracle::{mixed, report, second};
 use std::path::PathBuf;
 
-/// The call's number in a record.
-const CALL: u8 = 27;
+/// The calls' numbers in a record.
+const MIXED: u8 = 27;
+const SECOND_TEXT: u8 = 28;
+const SECOND_BINARY: u8 = 29;
 
-/// The room lent, and the stream.
+/// The call, the room and the working room lent, and the stream.
+#[derive(Clone)]
 struct Record {
+    call: u8,
     room: usize,
+    work: usize,
     stream: Vec<u8>,
 }
 
 impl Record {
     fn bytes(&self) -> Vec<u8> {
-        let mut bytes = vec![CALL];
+        let mut bytes = vec![self.call];
         bytes.extend((self.room as u16).to_be_bytes());
+        bytes.extend((self.work as u16).to_be_bytes());
         bytes.extend((self.stream.len() as u16).to_be_bytes());
         bytes.extend(&self.stream);
         bytes
     }
 
-    /// The call, its number, length or place, and the buffer, which held AA.
+    fn answer(&self, work: &mut [u8], out: &mut [u8]) -> Result<usize, Refusal> {
+        match self.call {
+            MIXED => mixed::write_report(&self.stream, out),
+            SECOND_TEXT => second::write_report(&self.stream, Form::Text, work, out),
+            _ => second::write_report(&self.stream, Form::Binary, work, out),
+        }
+    }
+
+    /// The call, its number, length or place, the buffer, which held AA, and of
+    /// a binary by the second judge the working room, which held AA too.
     fn line(&self) -> String {
-        let mut out = vec![0xAA; self.room];
-        let (number, value) = match mixed::write_report(&self.stream, &mut out) {
+        let (mut work, mut out) = (vec![0xAA; self.work], vec![0xAA; self.room]);
+        let (number, value) = match self.answer(&mut work, &mut out) {
             Ok(length) => (0, length),
             Err(refusal) => (refusal.number, refusal.place),
         };
-        let shown: String = out.iter().map(|byte| format!("{byte:02x}")).collect();
-        format!("{CALL} {number} {value} {shown}\n")
+        let mut line = format!("{} {number} {value} {}", self.call, hex(&out));
+        if self.call == SECOND_BINARY {
+            line += &format!(" {}", hex(&work));
+        }
+        line + "\n"
     }
+}
+
+fn hex(bytes: &[u8]) -> String {
+    bytes.iter().map(|byte| format!("{byte:02x}")).collect()
 }
 
 /// A stream with the room that its report asks for and a byte more.
 fn record(stream: impl Into<Vec<u8>>) -> Record {
     let stream = stream.into();
     let room = mixed::report(&stream).expect("a short stream").room() + 1;
-    Record { room, stream }
+    Record {
+        call: MIXED,
+        room,
+        work: 0,
+        stream,
+    }
+}
+
+/// The second judge's, with a byte more than it asks for of either room.
+fn second_record(form: Form, stream: &[u8]) -> Record {
+    let room = report::report(stream, form).expect("a short stream").room() + 1;
+    let (call, work) = match form {
+        Form::Text => (SECOND_TEXT, 0),
+        Form::Binary => (SECOND_BINARY, stream.len() / 3 * 4 + 1),
+    };
+    Record {
+        call,
+        room,
+        work,
+        stream: stream.to_vec(),
+    }
 }
 
 /// A header that states this length in these digits.
@@ -99,6 +144,8 @@ fn records() -> Vec<Record> {
     records.extend(headers());
     records.extend(groups());
     records.extend(rooms());
+    records.extend(seconds());
+    records.extend(second_rooms());
     records
 }
 
@@ -171,11 +218,99 @@ fn rooms() -> Vec<Record> {
         b"MAAB",
     ]
     .concat();
+    let whole = record(stream);
     let room = |room| Record {
         room,
-        stream: stream.clone(),
+        ..whole.clone()
     };
     (0..=17 + 19 * 4 + 2).map(room).collect()
+}
+
+/// Each number that a text or a binary is refused with, at top level, in a group
+/// and behind another, and what stands in front of what.
+#[rustfmt::skip]
+const RULES: &[&str] = &[
+    // 4, 5, 6, 7 and 19 of framing.
+    "MAABM", "MAABMA!", "0HEA", "-AACMAAB-AAB", "MA!B", "MAAB\n", "7AAB!__!", "7AAB+!__", "_AAAMAAB", "MAAB_AAA",
+    "-_AAACAA-_AAABAA", "-_AAAC=A", "-AAC-_AAABAAMAAB", "-BAC-_AAABAA", "-AADMAAB-_AAABAA", "+AAB", "M/AB",
+    // 5 and 19 behind a header, then 8, 10, 9, 18 and 16.
+    "0HEAA!/A", "0HEAA/!A", "0L_ab=cd", "0LAab-cd", "-DAC0HEAAAAAMQAAMAAB", "5BAA", "6BAA", "9AABAAAA", "9AABAAABAAEA",
+    "8AABAAAB+AAA", "7AAAAAABabcd", "4AAB-a-b", "4AABA-ab", "4AABAAab", "5AABAA-a", "5AABA-ab", "5AABAB-a", "6AABAAA-", "6AABAA-a",
+    "4AAA", "5AAA", "4BABAAAA", "5BABAAAA", "5BABABAA", "6BABAABh", "6BABABAA",
+    // 18 of groups, in front of what they hold; an inner 5, and 8 behind an accepted item.
+    "--AAAAAA", "-AAC--JAAAAAMAAB", "--JAAAAB_AAA", "-AACMAABMA+!", "-AABMQAA", "-AACMAABMQAA", "-AAB-AABMQAA", "-AAB_AAA",
+    "-AAB0AAAMAAB", "-AABMA!AMAAB",
+    // Signature groups hold indexed items alone.
+    "-KAA", "-KABMAAB", "-LABMAAB", "-KAC-_AAACAA", "-KAB-KAA", "-KAA-LAA", "-AAB-KAAMAAB", "-KAB_A=!", "-LAB_A!A",
+];
+
+/// 02 m: streams by the second judge as text and, where it has one, as binary.
+fn seconds() -> Vec<Record> {
+    let mut texts: Vec<String> = RULES.iter().map(|text| text.to_string()).collect();
+    texts.extend(DECK.map(|(text, _)| text.to_string()));
+    texts.extend(SAD_PATHS.map(|(_, _, item)| item.to_string()));
+    texts.extend(POST_PADDED_OF_001[..4].iter().map(|item| item.to_string()));
+    for row in INDEXED {
+        let digits = "A".repeat(row.code_length() - row.code.len() - 1);
+        for head in [
+            format!("{}{}", row.code, "_".repeat(row.index)),
+            format!("{}{digits}B", row.code),
+            format!("{}{digits}AD", row.code),
+            format!("{}{digits}AE", row.code),
+        ] {
+            let item = format!("{head}{}", "A".repeat(row.full - head.len()));
+            texts.push(around('K', 1, &item));
+        }
+    }
+    for depth in [63, 64, 65] {
+        texts.extend(['A', 'J'].map(|letter| nested(letter, depth)));
+    }
+    texts.push(around('J', 63, "--CAAAAA"));
+    let mut records = Vec::new();
+    for text in texts {
+        records.push(second_record(Form::Text, text.as_bytes()));
+        let mut out = vec![0; text.len() / 4 * 3];
+        if oracle::convert::to_binary(text.as_bytes(), &mut out).is_ok() {
+            records.push(second_record(Form::Binary, &out));
+        }
+    }
+    for units in [4095, 4096] {
+        let digits = ["AA__", "ABAA"][units - 4095];
+        let text = format!("--AA{digits}{}", "1AAK".repeat(units));
+        records.push(second_record(Form::Text, text.as_bytes()));
+    }
+    records
+}
+
+/// Every room of a text, and of a binary the two rooms in each way around what
+/// is asked; each length up to two triplets and a part.
+fn second_rooms() -> Vec<Record> {
+    let mut records = Vec::new();
+    let text = second_record(Form::Text, b"-AABMQAAMAABM");
+    records.extend((0..=text.room).map(|room| Record {
+        room,
+        ..text.clone()
+    }));
+    let stream = [&binary("-AABMQAAMAAB")[..], &[0x30, 0]].concat();
+    let whole = second_record(Form::Binary, &stream);
+    for room in [0, 1, whole.room - 2, whole.room - 1, whole.room, 100] {
+        for work in [0, 1, 10, 11, 12, 13, 40] {
+            records.push(Record {
+                room,
+                work,
+                ..whole.clone()
+            });
+        }
+    }
+    for length in 0..=8 {
+        let stream = &[0x30, 0, 1, 0xF8, 0, 0, 0x30, 0][..length];
+        let whole = second_record(Form::Binary, stream);
+        records.extend((0..=whole.work).map(|work| Record {
+            work,
+            ..whole.clone()
+        }));
+    }
+    records
 }
 
 fn file(name: &str) -> PathBuf {
@@ -204,6 +339,30 @@ fn the_papers() {
     );
 }
 
+/// 02 m of some: the working room begins with the text, even where the report is
+/// refused, and the rest stays; with less than that it is as it was.
+#[test]
+fn the_working_room() {
+    let told = |room, work| {
+        let whole = second_record(Form::Binary, &[0x30, 0, 1, 0x30]);
+        Record {
+            room,
+            work,
+            ..whole
+        }
+        .line()
+    };
+    let report = "0000000100000000000000030000000000000000010000000304";
+    let blank = "aa".repeat(35 - report.len() / 2);
+    assert_eq!(told(35, 4), format!("29 0 26 {report}{blank} 4d414142\n"));
+    assert_eq!(told(35, 5), format!("29 0 26 {report}{blank} 4d414142aa\n"));
+    assert_eq!(
+        told(34, 5),
+        format!("29 3 0 {} 4d414142aa\n", "aa".repeat(34))
+    );
+    assert_eq!(told(35, 3), format!("29 3 0 {} aaaaaa\n", "aa".repeat(35)));
+}
+
 #[test]
 fn the_files_say_what_the_oracle_says() {
     let records = records();
@@ -214,8 +373,8 @@ fn the_files_say_what_the_oracle_says() {
         std::fs::write(file("stdout"), &expected).unwrap();
     }
     assert!(input.len() < 131_072, "the program reads 131,072 bytes");
-    let rooms = records.iter().all(|record| record.room <= 256);
-    assert!(rooms, "the program lends 256 bytes");
+    let rooms = |record: &Record| record.room.max(record.work) <= 512;
+    assert!(records.iter().all(rooms), "the program lends 512 bytes");
     assert_eq!(std::fs::read(file("stdin")).unwrap(), input);
     assert_eq!(std::fs::read_to_string(file("stdout")).unwrap(), expected);
 }

@@ -59,3 +59,33 @@ pub const DIGESTS_OF_001: [&str; 2] = [
 
 /// 001's sequence number behind its old count.
 pub const NUMBER: &str = "-EAB0AAAAAAAAAAAAAAAAAAAAAAB";
+
+/// 01's deck as streams, with its verdicts: the number of the first item's
+/// refusal, or of the remainder.
+pub const DECK: [(&str, u8); 25] = [
+    ("", 0),
+    ("MAAB", 0),
+    ("MP__", 0),
+    ("MQAA", 8),
+    ("0HD_____", 0),
+    ("0HEAAAAA", 8),
+    ("VABh", 0),
+    ("WGhp", 0),
+    ("1AAM", 0),
+    ("4BAA", 0),
+    ("5BAA", 9),
+    ("5BABAGhp", 0),
+    ("6BABAABh", 0),
+    ("5BABAPAA", 0),
+    ("5BABAQAA", 8),
+    ("0J_A", 0),
+    ("0JAA", 10),
+    ("-0AA", 6),
+    ("-AAA", 0),
+    ("-AABMAAB", 0),
+    ("-AACMAAB", 4),
+    ("-AAC-_AAABAA", 7),
+    ("-JAC-_AAABAA", 0),
+    ("--AAABAA", 4),
+    ("E8wYuBjhslETYaLZcxMkWrhVbMcA8RS1pKYl7nJ77ntA", 8),
+];
