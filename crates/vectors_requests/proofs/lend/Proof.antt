@@ -1,9 +1,9 @@
--- `vectors_mixed::lend` meets its contract. Assumes nothing.
+-- `vectors_requests::lend` meets its contract. Assumes nothing.
 use mathlib.Core.Path.{sym}
 use lib.Seq.{length-take-le}
 use borrow.Author.Needs.{needs}
-use Rattle.vectors_mixed.proofs.lend.Statement.{statement}
-use Rattle.vectors_mixed.proofs.lend.Tie as tie
+use Rattle.vectors_requests.proofs.lend.Statement.{statement}
+use Rattle.vectors_requests.proofs.lend.Tie as tie
 
 slice-aggregate-answer : tie.Need-slice-aggregate-answer
 slice-aggregate-answer c = sym (length-take-le _ _ (search needs))

@@ -1,18 +1,11 @@
-//! The recorded calls of `crates/vectors_mixed`: reports of mixed streams, and
-//! reports by the second judge (02 m). What the program there is fed and what it
-//! must write come from this package, which shares nothing with the program.
-//! `VECTORS_WRITE=1 cargo test -p oracle --test vectors_mixed` writes the files
-//! anew; without it the files must be what they would be.
+//! Reports of mixed streams, and reports by the second judge (02 m).
 
-mod common;
-
-use common::papers::{DECK, POST_PADDED_OF_001, SAD_PATHS};
-use common::{around, binary, nested};
+use crate::common::papers::{DECK, POST_PADDED_OF_001, SAD_PATHS};
+use crate::common::{around, binary, nested};
 use oracle::form::Form;
 use oracle::refusal::Refusal;
 use oracle::registry::{GROUPS, INDEXED};
 use oracle::{mixed, report, second};
-use std::path::PathBuf;
 
 /// The calls' numbers in a record.
 const MIXED: u8 = 27;
@@ -313,11 +306,6 @@ fn second_rooms() -> Vec<Record> {
     records
 }
 
-fn file(name: &str) -> PathBuf {
-    let top = PathBuf::from(env!("CARGO_MANIFEST_DIR")).join("../..");
-    top.join("crates/vectors_mixed").join(name)
-}
-
 /// What the papers say of some of them.
 #[test]
 fn the_papers() {
@@ -363,18 +351,11 @@ fn the_working_room() {
     assert_eq!(told(35, 3), format!("29 3 0 {} aaaaaa\n", "aa".repeat(35)));
 }
 
-#[test]
-fn the_files_say_what_the_oracle_says() {
+/// What the program is fed, and what it must write.
+pub fn recorded() -> (Vec<u8>, String) {
     let records = records();
-    let input: Vec<u8> = records.iter().flat_map(Record::bytes).collect();
-    let expected: String = records.iter().map(Record::line).collect();
-    if std::env::var_os("VECTORS_WRITE").is_some() {
-        std::fs::write(file("stdin"), &input).unwrap();
-        std::fs::write(file("stdout"), &expected).unwrap();
-    }
-    assert!(input.len() < 131_072, "the program reads 131,072 bytes");
-    let rooms = |record: &Record| record.room.max(record.work) <= 512;
-    assert!(records.iter().all(rooms), "the program lends 512 bytes");
-    assert_eq!(std::fs::read(file("stdin")).unwrap(), input);
-    assert_eq!(std::fs::read_to_string(file("stdout")).unwrap(), expected);
+    let lent = |record: &Record| record.room.max(record.work) <= 512;
+    assert!(records.iter().all(lent), "the program lends 512 bytes");
+    let input = records.iter().flat_map(Record::bytes).collect();
+    (input, records.iter().map(Record::line).collect())
 }

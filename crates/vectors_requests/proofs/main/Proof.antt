@@ -1,9 +1,9 @@
--- `vectors_mixed::main` meets its contract. Assumes nothing.
+-- `vectors_requests::main` meets its contract. Assumes nothing.
 use Prim.Native.Nat.{_≤_, _-_}
 use lib.ListN.{length}
 use borrow.Author.Needs.{needs}
-use Rattle.vectors_mixed.proofs.main.Statement.{statement}
-use Rattle.vectors_mixed.proofs.main.Tie as tie
+use Rattle.vectors_requests.proofs.main.Statement.{statement}
+use Rattle.vectors_requests.proofs.main.Tie as tie
 
 abbrev Inv-loop : tie.InvT-loop
 Inv-loop records n at₀ at = (at ≤ n) × (n ≤ length records)

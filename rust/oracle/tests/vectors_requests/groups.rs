@@ -1,16 +1,9 @@
-//! The recorded calls of `crates/vectors_groups`: groups put around bodies. What
-//! the program there is fed and what it must write come from this package, which
-//! shares nothing with the program. `VECTORS_WRITE=1 cargo test -p oracle --test
-//! vectors_groups` writes the files anew; without it the files must be what they
-//! would be.
+//! Groups put around bodies.
 
-mod common;
-
-use common::{around, binary, nested};
+use crate::common::{around, binary, nested};
 use oracle::group;
 use oracle::registry::{GROUPS, INDEXED};
 use oracle::Form;
-use std::path::PathBuf;
 
 /// A letter, the stated length of the body, and the buffer.
 struct Record {
@@ -29,8 +22,9 @@ impl Record {
     }
 
     fn bytes(&self) -> Vec<u8> {
-        let mut bytes = vec![self.call(), self.letter];
+        let mut bytes = vec![self.call()];
         bytes.extend((self.stated as u16).to_be_bytes());
+        bytes.extend([0, self.letter]);
         bytes.extend((self.buffer.len() as u16).to_be_bytes());
         bytes.extend(&self.buffer);
         bytes
@@ -160,11 +154,6 @@ fn rooms() -> Vec<Record> {
     records
 }
 
-fn file(name: &str) -> PathBuf {
-    let top = PathBuf::from(env!("CARGO_MANIFEST_DIR")).join("../..");
-    top.join("crates/vectors_groups").join(name)
-}
-
 /// What the papers say of some of them.
 #[test]
 fn the_papers() {
@@ -185,16 +174,11 @@ fn the_papers() {
     assert!(line(b'J', &nested('J', 64)).starts_with("25 11 252 "));
 }
 
-#[test]
-fn the_files_say_what_the_oracle_says() {
+/// What the program is fed, and what it must write.
+pub fn recorded() -> (Vec<u8>, String) {
     let records = records();
-    let input: Vec<u8> = records.iter().flat_map(Record::bytes).collect();
-    let expected: String = records.iter().map(Record::line).collect();
-    if std::env::var_os("VECTORS_WRITE").is_some() {
-        std::fs::write(file("stdin"), &input).unwrap();
-        std::fs::write(file("stdout"), &expected).unwrap();
-    }
-    assert!(input.len() < 262_144, "the program reads 262,144 bytes");
-    assert_eq!(std::fs::read(file("stdin")).unwrap(), input);
-    assert_eq!(std::fs::read_to_string(file("stdout")).unwrap(), expected);
+    let lent = records.iter().all(|record| record.buffer.len() <= 20_480);
+    assert!(lent, "the program lends 20,480 bytes");
+    let input = records.iter().flat_map(Record::bytes).collect();
+    (input, records.iter().map(Record::line).collect())
 }
