@@ -1,6 +1,6 @@
 -- What stands at a byte, one law for each way through the code. Assumes nothing.
 use Prim.Native.Nat.{ℕ, _-_, _<_}
-use mathlib.Core.Path.{_≡_, sym, _∙_}
+use mathlib.Core.Path.{_≡_, sym, ap, _∙_}
 use mathlib.Core.List.{List}
 use native.Mathlib.Omega.{arith}
 use lib.ListN.{length, take, drop}
@@ -13,7 +13,7 @@ use Rattle.format.specs.declared.Verdict.the-variants.{Accepted}
 use Rattle.judging.proofs.Laws.{to-end}
 use Rattle.mixed.specs.declared.Start.{Start}
 use Rattle.mixed.specs.declared.Start.the-variants.{Cesr}
-use Rattle.mixed.specs.Mixed.{startAt, frameMixed}
+use Rattle.mixed.specs.Mixed.{startAt, formByte, frameMixed}
 use Rattle.mixed_fast.specs.Found.{Fast}
 use Rattle.mixed_item.specs.Items.{Judges}
 use Rattle.mixed_here.specs.declared.Standing.{Standing}
@@ -26,11 +26,12 @@ module _ (s : List ℕ) (at : ℕ) (f : Framed) (e : f ≡ frameMixed (take (len
   pub general-rest : (m p : ℕ) → f ≡ F.Unframed m p → General s at (Rest m)
   general-rest m p q = record { right = λ _. (p, sym (rw (to-end s at) at e) ∙ q) }
 
-  pub general-item : (k : Kind) (h n : ℕ) → f ≡ F.Item k h n → (v : Verdict) → Judges s at n v → General s at (Item n v)
-  general-item k h n q v J = record {
+  pub general-item : (k : Kind) (h n : ℕ) → f ≡ F.Item k h n → (v : Verdict) → Judges s at n v → (t : Start) → t ≡ startAt s at → (b : ℕ)
+      → b ≡ formByte t → General s at (Item n v b)
+  general-item k h n q v J t et b eb = record {
     right = λ few.
         let i : frameMixed (drop at s) ≡ F.Item k h n = sym (rw (to-end s at) at e) ∙ q in
-        record { kind = k; head = h; framed = i; judged = J .right few k h i };
+        (record { kind = k; head = h; framed = i; judged = J .right few k h i }, eb ∙ ap formByte et);
   }
 
 -- ---- either
@@ -40,8 +41,8 @@ module _ (values classes rows s : List ℕ) (at to : ℕ) where
   behind r l = record { right = λ L few h K. absurd (omega arith) }
 
   pub by-fast : (t : Start) → t ≡ startAt s at → (f : Form) → t ≡ Cesr f → (n : ℕ) → Fast f values classes rows s at to n → 0 < n
-      → Judged values classes rows s at to (Item n Accepted)
-  by-fast t e f q n A p = record { right = λ L few h K. A .right L few K (sym e ∙ q) p }
+      → (b : ℕ) → b ≡ formByte (Cesr f) → Judged values classes rows s at to (Item n Accepted b)
+  by-fast t e f q n A p b eb = record { right = λ L few h K. (A .right L few K (sym e ∙ q) p, eb ∙ ap formByte (sym q ∙ e)) }
 
   pub by-general : (r : Standing) → General s at r → Judged values classes rows s at to r
   by-general r G = record { right = λ L few h K. G .right few }

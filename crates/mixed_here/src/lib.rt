@@ -7,10 +7,16 @@ ghost use Prim.Native.Nat.{_≤_};
 ghost use lib.ListN.{length};
 ghost use Rattle.mixed_here.specs.Here.{General, Judged};
 
-// An item of so many bytes with its verdict, its place in the stream; or nothing is framed, for this reason.
+// An item of so many bytes with its verdict, its place in the stream, and the byte of its form; or nothing is framed, for this reason.
 pub enum Standing {
-    Item { size: usize, verdict: Verdict },
-    Rest { number: u8 },
+    Item {
+        size: usize,
+        verdict: Verdict,
+        form: u8,
+    },
+    Rest {
+        number: u8,
+    },
 }
 
 // By the general way.
@@ -26,7 +32,12 @@ fn general(s: &[u8], at: usize) -> Standing
             size,
         } => {
             let verdict = mixed_item::verdict(s, at, size);
-            Standing::Item { size, verdict }
+            let form = mixed_frame::form_byte(mixed_frame::start(s, at));
+            Standing::Item {
+                size,
+                verdict,
+                form,
+            }
         }
     }
 }
@@ -48,8 +59,11 @@ pub fn judged(
     if let Start::Cesr(form) = mixed_frame::start(s, at) {
         let size = mixed_fast::accepted(form, values, classes, rows, s, at, to);
         if 0 < size {
-            let verdict = Verdict::Accepted;
-            return Standing::Item { size, verdict };
+            return Standing::Item {
+                size,
+                verdict: Verdict::Accepted,
+                form: mixed_frame::form_byte(Start::Cesr(form)),
+            };
         }
     }
     general(s, at)

@@ -23,8 +23,8 @@ module _ (out : List ℕ) (at form : ℕ) where
   unfolding put
   form-put h l = rw (le-leb (at + 9 + 1) (length out) (omega arith))
 
-pub item-is : (out : List ℕ) (at to index offset size : ℕ) (v : Verdict) (form b : ℕ) {mid after : List ℕ}
-    → mid ≡ put (put out at (be4 offset ++ (be4 size ++ (verdictByte v ∷ [])))) to (concat refusalBytes (refusal index v)) → b ≡ form
-    → after ≡ put mid (at + 9) (b ∷ []) → after ≡ itemPut out at to index offset size v form
+pub item-is : (out : List ℕ) (at to index offset size : ℕ) (v : Verdict) (form : ℕ) {mid after : List ℕ}
+    → mid ≡ put (put out at (be4 offset ++ (be4 size ++ (verdictByte v ∷ [])))) to (concat refusalBytes (refusal index v))
+    → after ≡ put mid (at + 9) (form ∷ []) → after ≡ itemPut out at to index offset size v form
 unfolding itemPut
-item-is out at to index offset size v form b m e a = a ∙ rw (m, e)
+item-is out at to index offset size v form m a = a ∙ rw m

@@ -1,13 +1,11 @@
 // The rows of a mixed report's item, stored at places of a lent buffer: an item's row has ten bytes, the last of which tells its form. What
 // does not fit is not stored.
 use format::Verdict;
-use mixed::Start;
 ghost use mathlib.Core.Path.{_≡_};
 ghost use mathlib.Core.List.{[], _∷_};
 ghost use Prim.Native.Nat.{_+_};
 ghost use lib.ListN.{length};
 ghost use Rattle.format.specs.Report.{refusal};
-ghost use Rattle.mixed.specs.Mixed.{formByte};
 ghost use Rattle.report_rows.specs.Stores.{put};
 ghost use Rattle.mixed_rows.specs.Rows.{itemPut};
 
@@ -32,11 +30,11 @@ pub fn put_item(
     offset: usize,
     size: usize,
     v: Verdict,
-    start: Start,
+    form: u8,
 ) -> usize
-    ensures { λ r. ⌜ (r ≡ length (refusal index v)) × (now (out .exit) ≡ itemPut (now (out .entry)) at to index offset size v (formByte start)) ⌝ }
+    ensures { λ r. ⌜ (r ≡ length (refusal index v)) × (now (out .exit) ≡ itemPut (now (out .entry)) at to index offset size v form) ⌝ }
 {
     let refused = report_rows::put_item(out, at, to, index, offset, size, v);
-    put_form(out, at, mixed_frame::form_byte(start));
+    put_form(out, at, form);
     refused
 }

@@ -13,10 +13,8 @@ use Rattle.format.specs.declared.Verdict.{Verdict}
 use Rattle.format.specs.Report.{refusal, refusalBytes}
 use Rattle.filling.specs.Stores.{rowWith, concat-long, refusal-long}
 use Rattle.filling.specs.Filling.{refusal-few, turn, filled-room, filled-more, filled-few}
-use Rattle.mixed.specs.declared.Start.{Start}
 use Rattle.mixed.specs.Mixed.{startAt, formByte, frameMixed, judgeMixed, mixedRowBytes}
 use Rattle.mixed_laws.specs.Frames.{frames-mixed}
-use Rattle.mixed_fast.specs.Found.{Found}
 use Rattle.mixed_here.specs.declared.Standing.{Standing}
 use Rattle.mixed_here.specs.declared.Standing.the-variants as H
 use Rattle.mixed_here.specs.Here.{Stands, Judged}
@@ -47,14 +45,15 @@ module _ {s : List ℕ} {n at i k : ℕ} {out : List ℕ} (Φ : Filling s n at i
         item-put s out (4 + 10 * i) (8 + 10 * n + 9 * k) i at m v (omega (arith, r .0)) (omega (arith, Φ .room, r .0, r .1))
 
 -- an item that is found
-pub found-turn : (s : List ℕ) (n at i k : ℕ) (out : List ℕ) (m : ℕ) (v : Verdict) (t : Start) → t ≡ startAt s at → (b : ℕ) → b ≡ length (refusal i v)
-    → (out′ : List ℕ) → out′ ≡ itemPut out (4 + 10 * i) (8 + 10 * n + 9 * k) i at m v (formByte t) → Found s at m v
+pub found-turn : (s : List ℕ) (n at i k : ℕ) (out : List ℕ) (m : ℕ) (v : Verdict) (form b : ℕ) → b ≡ length (refusal i v)
+    → (out′ : List ℕ) → out′ ≡ itemPut out (4 + 10 * i) (8 + 10 * n + 9 * k) i at m v form → Stands s at (H.Item m v form)
     → Filled s n at i k out (Stored m b) out′
-found-turn s n at i k out m v t et b eb out′ c g Φ o φ =
+found-turn s n at i k out m v form b eb out′ c S Φ o φ =
+    let g = S .0 in
     let w = frames-mixed .within (drop at s) (g .kind) (g .head) m (g .framed) in (
       omega (arith, w .0, w .1),
       omega (arith, w .2, length-drop at s, Φ .here),
-      rw (eb, c, et, stored-is Φ (g .kind) (g .head) m (g .framed) v)
+      rw (eb, c, S .1, stored-is Φ (g .kind) (g .head) m (g .framed) v)
           (filled-more frameMixed judgeMixed frames-mixed (mixedRowBytes s) 10 (row-ten s) s o n (Φ .count) at i k out φ (g .framed) v (g .judged)),
     )
 
@@ -63,9 +62,9 @@ module _ (s : List ℕ) (n at i k : ℕ) (out : List ℕ) (h : Standing) where
   pub rest-turn : (x : ℕ) → h ≡ H.Rest x → Stands s at h → Filled s n at i k out (Rest x) out
   rest-turn x e S Φ o φ = let p = subst (Stands s at) e S in (p .0, p .1, φ)
 
-  pub item-turn : (m : ℕ) (v : Verdict) → h ≡ H.Item m v → (r : Turn) (out′ : List ℕ) → (Found s at m v → Filled s n at i k out r out′)
+  pub item-turn : (m : ℕ) (v : Verdict) (form : ℕ) → h ≡ H.Item m v form → (r : Turn) (out′ : List ℕ) → (Stands s at (H.Item m v form) → Filled s n at i k out r out′)
       → Stands s at h → Filled s n at i k out r out′
-  item-turn m v e r out′ F S = F (subst (Stands s at) e S)
+  item-turn m v form e r out′ F S = F (subst (Stands s at) e S)
 
 -- by what is judged there
 pub judged-turn : {values classes rows s : List ℕ} {n to at i k : ℕ} {out : List ℕ} (h : Standing) → Judged values classes rows s at to h → (r : Turn)

@@ -2,7 +2,7 @@
 // it is given are within the stream, the tables are right, characters are known up to `to` and the buffer is filled up to there.
 use format::Verdict;
 use mixed_here::Standing;
-ghost use Rattle.mixed_fast.specs.Found.{Found};
+ghost use Rattle.mixed_here.specs.declared.Standing.the-variants as Standing;
 ghost use Rattle.mixed_here.specs.Here.{Stands};
 ghost use Rattle.mixed_turn.specs.Turns.{Placed, Filled, Turns, Places};
 
@@ -29,7 +29,7 @@ fn is_place(s: &[u8], room: usize, n: usize, at: usize, i: usize, k: usize) -> b
     at <= s.len()
 }
 
-// The rows of an item of so many bytes that has this verdict.
+// The rows of an item of so many bytes that has this verdict and form.
 fn put_item(
     s: &[u8],
     out: &mut [u8],
@@ -39,14 +39,14 @@ fn put_item(
     k: usize,
     size: usize,
     v: Verdict,
+    form: u8,
 ) -> Turn
     requires { ⌜ Placed (now s) n at i k ⌝ }
-    ensures { λ r. ⌜ (Found (now (s .entry)) at size v → Filled (now (s .entry)) n at i k (now (out .entry)) r (now (out .exit))) ⌝ }
+    ensures { λ r. ⌜ (Stands (now (s .entry)) at (Standing.Item size v form) → Filled (now (s .entry)) n at i k (now (out .entry)) r (now (out .exit))) ⌝ }
 {
-    let start = mixed_frame::start(s, at);
     let row = 4 + 10 * i;
     let to = 8 + 10 * n + 9 * k;
-    let refused = mixed_rows::put_item(out, row, to, i, at, size, v, start);
+    let refused = mixed_rows::put_item(out, row, to, i, at, size, v, form);
     Turn::Stored {
         bytes: size,
         refused,
@@ -68,7 +68,11 @@ fn put_here(
 {
     match here {
         Standing::Rest { number } => Turn::Rest { number },
-        Standing::Item { size, verdict } => put_item(s, out, n, at, i, k, size, verdict),
+        Standing::Item {
+            size,
+            verdict,
+            form,
+        } => put_item(s, out, n, at, i, k, size, verdict, form),
     }
 }
 

@@ -1,13 +1,16 @@
 //! The tables of the mixed report: events with their signatures, groups in both
-//! forms by turns; and decks of groups, which a text's report judges too, so that
-//! the two can be held against each other.
+//! forms by turns; and decks of groups in one form, which that form's own report
+//! judges too, so that the two can be held against each other.
 
 use crate::race::{Contender, Race, Rate, REFUSED};
 use crate::reports::contender;
 use crate::SIZES;
 use streams::decks::{nests, signatures};
-use streams::mixed::{events, forms_in_turn};
-use streams::{Form, Random};
+use streams::generate::fixed;
+use streams::item::stream;
+use streams::mixed::{attachment, events, forms_in_turn};
+use streams::table::FIXED;
+use streams::{Form, Item, Random};
 
 static MIXED: &[Contender] = &[
     contender("baseline", baseline_mixed),
@@ -15,11 +18,20 @@ static MIXED: &[Contender] = &[
 ];
 
 /// The last one writes a report of another shape, which is not compared.
-static GROUPS: &[Contender] = &[
+static TEXT: &[Contender] = &[
     contender("baseline", baseline_mixed),
     contender("proved", proved_mixed),
     contender("proved, as text", |text, out| {
         proved::report_text(text, out).unwrap_or(REFUSED)
+    }),
+];
+
+/// Likewise.
+static BINARY: &[Contender] = &[
+    contender("baseline", baseline_mixed),
+    contender("proved", proved_mixed),
+    contender("proved, as binary", |binary, out| {
+        proved::report_binary(binary, out).unwrap_or(REFUSED)
     }),
 ];
 
@@ -38,7 +50,7 @@ type Deck = (
     &'static [Contender],
 );
 
-const DECKS: [Deck; 5] = [
+const DECKS: [Deck; 3] = [
     (
         "JSON events with signatures in text",
         |random, size| events(random, size, Form::Text),
@@ -54,13 +66,50 @@ const DECKS: [Deck; 5] = [
         forms_in_turn,
         MIXED,
     ),
-    ("groups nested ten deep, all in text", nests, GROUPS),
-    (
-        "groups of one to four indexed signatures, all in text",
-        signatures,
-        GROUPS,
-    ),
 ];
+
+/// Makers of text decks of groups, each of which is judged in both forms.
+type Groups = (&'static str, fn(&mut Random, usize) -> Vec<u8>);
+
+const GROUPS: [Groups; 5] = [
+    ("groups of one digest", |random, size| {
+        digests(random, size, 1)
+    }),
+    ("groups of twenty digests", |random, size| {
+        digests(random, size, 20)
+    }),
+    ("groups nested ten deep", nests),
+    ("groups of one to four indexed signatures", signatures),
+    ("groups of all codes", all_codes),
+];
+
+/// Groups of so many digests.
+fn digests(random: &mut Random, size: usize, count: usize) -> Vec<u8> {
+    fill(size, || {
+        let body = (0..count).map(|_| fixed(random, FIXED[4])).collect();
+        stream(&[Item::Group {
+            letter: b'A',
+            large: false,
+            body,
+        }])
+    })
+}
+
+/// All codes alike, as they stand behind an event.
+fn all_codes(random: &mut Random, size: usize) -> Vec<u8> {
+    fill(size, || attachment(random, Form::Text))
+}
+
+fn fill(size: usize, mut next: impl FnMut() -> Vec<u8>) -> Vec<u8> {
+    let mut all = Vec::with_capacity(size);
+    loop {
+        let item = next();
+        if all.len() + item.len() > size {
+            return all;
+        }
+        all.extend(item);
+    }
+}
 
 pub fn races() -> Vec<Race> {
     let mut races = Vec::new();
@@ -69,6 +118,15 @@ pub fn races() -> Vec<Race> {
             let stream = make(&mut Random::new(2), size);
             let title = format!("Mixed report, {deck}, {name}");
             races.push(race(title, contenders, stream));
+        }
+    }
+    for (deck, make) in GROUPS {
+        for (name, size) in SIZES {
+            let text = make(&mut Random::new(2), size);
+            let binary = Form::Binary.of_text(&text);
+            let title = |form| format!("Mixed report, {deck}, all in {form}, {name}");
+            races.push(race(title("text"), TEXT, text));
+            races.push(race(title("binary"), BINARY, binary));
         }
     }
     races
