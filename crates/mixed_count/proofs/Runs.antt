@@ -21,7 +21,7 @@ use Rattle.format.specs.Report.{frameIn}
 use Rattle.damage.specs.Words.{Agree}
 use Rattle.laws.specs.Domains.{reader}
 use Rattle.runs.specs.Plain.{letterAt}
-use Rattle.runs.specs.Levels.{Clear, group-drop}
+use Rattle.runs.specs.Levels.{Clear, small-drop}
 use Rattle.runs.specs.Runs.{Run}
 use Rattle.report_followers.specs.Followers.{same, sameTwo, sameUnit, likeIn}
 use Rattle.report_followers.proofs.Laws.{picked}
@@ -98,7 +98,7 @@ module _ (f : Form) (part : List ℕ) (clean g r : ℕ) (e : startAt part 0 ≡ 
   framed =
       let w = G p in
       let z : 4 * 0 ≡ 0 = omega arith in
-      let i = rw z at (group-drop (domain f .sextets part) 0 clean K (w .1) g (w .0) p (rw (reader f .units part) (w .2))) in
+      let i = rw z at (small-drop (domain f .sextets part) 0 clean K (w .1) g (w .0) p (rw (reader f .units part) (w .2))) in
       cesr-frame part f e ∙ ap (scale u) i
 
   -- the place of the one behind i others, in elements
