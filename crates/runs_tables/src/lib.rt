@@ -464,8 +464,8 @@ const CLASSES: [u8; 256] = [
     3,
 ];
 
-// Of each character as a group's letter: 0 where the master table frames the items, 1 where 7 is asked of the first of them, 2 for
-// everything else, `K` and `L` among it.
+// Of each character as a group's letter: 0 where the master table frames the items, 1 where 7 is asked of the first of them, 2 where the
+// indexed table frames them (`K` and `L`), 3 for everything else.
 pub fn classes() -> [u8; 256]
     ensures { λ r. ⌜ r ≡ classTable ⌝ }
 {

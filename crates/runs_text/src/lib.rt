@@ -1,6 +1,6 @@
 // What the first unit at a position of a text decides, by its characters and the tables lent: sizes, plain primitives, small
-// groups and which table frames their items, and which of them stand one in the other; where indexed items stand, these; and what it decides with the unit behind it: small
-// variable values. Whether a character is known is not asked.
+// groups and which table frames their items, and which of them stand one in the other; where indexed items stand, these; and what it
+// decides with the unit behind it: small variable values. Whether a character is known is not asked.
 ghost use mathlib.Core.Path.{_≡_};
 ghost use Prim.Native.Nat.{ℕ, _/_, _<_};
 ghost use lib.ListN.{length, getD};
