@@ -1,11 +1,11 @@
 -- What is held and a piece behind it, element by element and unit by unit. Assumes nothing.
-use Prim.Native.Nat.{ℕ, _+_, _-_, _*_, _/_, _≤_, _<_}
+use Prim.Native.Nat.{ℕ, zero, suc, _+_, _-_, _*_, _/_, _%_, _≤_, _<_}
 use mathlib.Core.Path.{_≡_, refl, sym, ap, _∙_, subst}
 use mathlib.Core.List.{List, [], _∷_, _++_}
 use Rattle.base.specs.Each.{each, take4, take3}
 use native.Mathlib.Omega.{arith}
-use native.Mathlib.Nat.{add-mul}
-use lib.ListN.{length, getD, take, drop, length-append, length-drop, List·getD-append}
+use native.Mathlib.Nat.{add-mul, div-add-mod'}
+use lib.ListN.{length, getD, take, drop, replicate, length-append, length-drop, length-replicate, List·getD-append, List·getD-eq-default}
 use lib.Seq.{getD-take, getD-drop, getD-append-add, length-take-le}
 use Rattle.format.specs.declared.Form.{Form}
 use Rattle.format.specs.declared.Form.the-variants.{Text, Binary}
@@ -13,6 +13,8 @@ use Rattle.format.specs.Alphabet.{sextetOf}
 use Rattle.format.specs.Units.{Domain, text, binary, domain, textSextets, binarySextets, sextetsOf}
 use Rattle.laws.specs.Domains.{Reader, reader}
 use Rattle.laws.specs.Units.{sextets-size}
+use Rattle.base.specs.Lists.{list4}
+use Rattle.pieces_units.specs.Rests.{leftOf, restOf}
 
 module _ (held : List ℕ) (count : ℕ) (piece : List ℕ) (four : length held ≡ 4) (few : count ≤ 4) where
   abbrev xs : List ℕ
@@ -89,3 +91,41 @@ module _ (form : Form) (held : List ℕ) (count : ℕ) (piece : List ℕ) (k : �
 
   pub binary-found : form ≡ Binary → Unit Binary → r ≡ take 4 (drop (4 * k) (domain form .sextets (take count held ++ piece)))
   binary-found e q = unit-found (subst Unit (sym e) q)
+
+-- ---- behind the last whole unit
+
+pub left-none : (xs : List ℕ) (from i : ℕ) → length xs ≤ from + i → 0 ≡ getD (drop from xs) i 0
+left-none xs from i l = sym (getD-drop from xs i 0 ∙ List·getD-eq-default xs 0 l)
+
+zeros-at : (k i : ℕ) → _≡_ {A = ℕ} (getD (replicate k 0) i 0) 0
+zeros-at zero i = refl
+zeros-at (suc k) zero = refl
+zeros-at (suc k) (suc i) = zeros-at k i
+
+padded-at : (l : List ℕ) (k i : ℕ) → getD (l ++ replicate k 0) i 0 ≡ getD l i 0
+padded-at [] k i = zeros-at k i
+padded-at (x ∷ l) k zero = refl
+padded-at (x ∷ l) k (suc i) = padded-at l k i
+
+whole-and-left : (form : Form) (n : ℕ) → n - n % domain form .unit ≡ n / domain form .unit * domain form .unit
+whole-and-left form n = omega (arith, div-add-mod' n (domain form .unit))
+
+left-few : (form : Form) (n : ℕ) → n % domain form .unit ≤ 3
+left-few Text n = omega arith
+left-few Binary n = omega arith
+
+pub left-within : (form : Form) (n : ℕ) → n % domain form .unit ≤ n
+left-within Text n = omega arith
+left-within Binary n = omega arith
+
+pub rest-made : (form : Form) (xs : List ℕ) (n from a b c d : ℕ) → length xs ≡ n → from ≡ n - n % domain form .unit
+    → a ≡ getD (drop from xs) 0 0 → b ≡ getD (drop from xs) 1 0 → c ≡ getD (drop from xs) 2 0 → d ≡ getD (drop from xs) 3 0
+    → a ∷ b ∷ c ∷ d ∷ [] ≡ restOf (domain form) xs
+rest-made form xs n from a b c d ln ef ea eb ec ed =
+    let at : from ≡ length xs / domain form .unit * domain form .unit = rw ln (ef ∙ whole-and-left form n) in
+    let l : List ℕ = leftOf (domain form) xs in
+    let k : ℕ = 4 - length l in
+    let few : length l ≤ 3 =
+    omega (arith, length-drop (length xs / domain form .unit * domain form .unit) xs, whole-and-left form (length xs), left-few form (length xs)) in
+    let four : length (l ++ replicate k 0) ≡ 4 = omega (arith, length-append l (replicate k 0), length-replicate {A = ℕ} k 0) in
+    rw (ea, eb, ec, ed, at) (sym (list4 (l ++ replicate k 0) four ∙ rw (padded-at l k 0, padded-at l k 1, padded-at l k 2, padded-at l k 3)))
