@@ -37,6 +37,45 @@ ends-whole ends p l =
     ap (λ (e : List ℕ). record { ends = e; depth = p .depth; at = p .at; first = p .first; indexed = p .indexed })
     (sym (take-all maxDepth ends (omega arith)))
 
+-- ---- parts put together
+
+abbrev pub withWalk : Stage → Walk → Progress
+withWalk g w = record {
+  walk = w;
+  read = g .read;
+  header = g .header;
+  scans = g .scans;
+  lead = g .lead;
+  text = g .text;
+  number = g .number;
+  place = g .place;
+  start = g .start;
+  items = g .items;
+  phase = g .phase;
+}
+
+abbrev pub walkIn : Progress → Walk → Progress
+walkIn p w = record {
+  walk = w;
+  read = p .read;
+  header = p .header;
+  scans = p .scans;
+  lead = p .lead;
+  text = p .text;
+  number = p .number;
+  place = p .place;
+  start = p .start;
+  items = p .items;
+  phase = p .phase;
+}
+
+pub held-made : (form : Form) (st : Pieces) (p : Progress) (piece rest : List ℕ) (n : ℕ) → rest ≡ restOf (domain form) (heldAnd st piece)
+    → n ≡ (st .count + length piece) % domain form .unit
+    → record { unit = st .unit; progress = p; held = rest; count = n } ≡ holdingAll (domain form) st p piece
+held-made form st p piece rest n e f =
+    ap (λ (x : List ℕ). record { unit = st .unit; progress = p; held = x; count = n }) e
+    ∙ ap (λ (k : ℕ). record { unit = st .unit; progress = p; held = restOf (domain form) (heldAnd st piece); count = k }) f
+
 -- ---- what is asked
 
 unit-few : (form : Form) → domain form .unit ≤ 4
@@ -60,7 +99,7 @@ module _ (form : Form) (st : Pieces) (piece : List ℕ) (full : length (st .prog
   sound : Facts d st
   sound = facts d (reader form) st full fit
 
-  few : st .count ≤ 4
+  pub few : st .count ≤ 4
   few = omega (arith, sound .part, unit-few form)
 
   pub starts : (ends : List ℕ) (g : Stage) → progressAt ends g ≡ st .progress → length ends ≡ maxDepth → Starts form ends g (st .count) piece

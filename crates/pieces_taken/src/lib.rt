@@ -10,6 +10,7 @@ ghost use mathlib.Core.Bool as Bool;
 ghost use Prim.Native.Nat.{_+_, _≤_};
 ghost use lib.ListN.{length};
 ghost use Rattle.format.specs.Units.{domain};
+ghost use Rattle.format.specs.Judging.{maxDepth};
 ghost use Rattle.pieces.specs.Feeding.{taken};
 ghost use Rattle.pieces.specs.Calls.{isFit};
 ghost use Rattle.pieces_stage.specs.Stages.{progressAt};
@@ -25,7 +26,7 @@ pub struct Ahead {
 // ---- a state, and its walk's ends beside it
 
 pub fn stage_of(p: Progress) -> Stage
-    ensures { λ r. ⌜ progressAt (p .walk .ends) r ≡ p ⌝ }
+    ensures { λ r. ⌜ (progressAt (p .walk .ends) r ≡ p) × (length (p .walk .ends) ≡ maxDepth) ⌝ }
 {
     let w = p.walk;
     let header = p.header;
@@ -83,7 +84,7 @@ fn progress_with(ends: [usize; MAX_DEPTH], g: Stage) -> Progress
 // The state with what is left behind the last whole unit.
 fn holding(form: Form, st: Pieces, progress: Progress, piece: &[u8]) -> Pieces
     requires { ⌜ st .count ≤ 4 ⌝ }
-    ensures { λ r. ⌜ r ≡ holdingAll (domain form) st progress (now (piece .entry)) ⌝ }
+    ensures { λ r. ⌜ (r ≡ holdingAll (domain form) st progress (now (piece .entry))) × (length (st .held) ≡ 4) ⌝ }
 {
     let held = st.held;
     let rest = pieces_units::rest(form, held, st.count, piece);
@@ -96,13 +97,7 @@ fn holding(form: Form, st: Pieces, progress: Progress, piece: &[u8]) -> Pieces
 }
 
 // A piece within the limit, to a state that is fit. Of any other it is said only that the call returns.
-pub fn take_in(
-    form: Form,
-    st: Pieces,
-    piece: &[u8],
-    items: &mut [u8],
-    refusals: &mut [u8],
-) -> Ahead
+pub fn take_in(form: Form, st: Pieces, piece: &[u8], items: &mut [u8], refusals: &mut [u8]) -> Ahead
     ensures { λ r. ⌜ (isFit (domain form) st ≡ Bool.true → taken (domain form) st + length (now (piece .entry)) ≤ domain form .limit → Took (domain form) st (now (piece .entry)) (now (items .entry)) (now (items .exit)) (now (refusals .entry)) (now (refusals .exit)) r) ⌝ }
 {
     if 4 < st.count {

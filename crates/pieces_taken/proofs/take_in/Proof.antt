@@ -1,59 +1,41 @@
+-- `pieces_taken::take_in` meets its contract. Assumes nothing.
+use mathlib.Core.Path.{_≡_, sym}
+use native.Mathlib.Omega.{arith}
+use lib.ListN.{length}
+use Rattle.pieces_taken.proofs.Laws.{few, took}
 use borrow.Author.Needs.{needs}
 use Rattle.pieces_taken.proofs.take_in.Statement.{statement}
 use Rattle.pieces_taken.proofs.take_in.Tie as tie
-use Rattle.pieces_taken.proofs.take_in.Reads as reads
-use Rattle.pieces_taken.proofs.take_in.Lts as lts
-use Rattle.pieces_run.proofs.run.Reads as run-reads
-use Rattle.pieces_taken.proofs.holding.Reads as holding-reads
-use Rattle.pieces_taken.proofs.progress_with.Reads as progress-with-reads
-use Rattle.pieces_taken.proofs.stage_of.Reads as stage-of-reads
 
--- src/lib.rt:109:9
 returns : tie.Need-returns
-returns c = ?
+returns c =
+    let a = c .before .before .before .before .before .args in
+    λ fit room. absurd (omega (arith, c .if1 .taken, few (a .form) (a .st) (a .piece .now) (search needs) (search needs) fit room))
 
--- src/lib.rt:119:9
-stage-of-requires : tie.Need-stage-of-requires
-stage-of-requires c κs = search needs
-
--- src/lib.rt:120:35
 slice-aggregate-run : tie.Need-slice-aggregate-run
-slice-aggregate-run c = ?
+slice-aggregate-run c = sym (c .before .stage-of .ensures .1)
 
--- src/lib.rt:120:9
-run-requires : tie.Need-run-requires
-run-requires c κs = search needs
-
--- src/lib.rt:122:9
-progress-with-requires : tie.Need-progress-with-requires
-progress-with-requires c κs = search needs
-
--- src/lib.rt:124:15
 holding-requires : tie.Need-holding-requires
-holding-requires c κs = ?
+holding-requires c κs = c .before .before .before .before .before .before .before .before .before .before .before .before .before .before .before .before .if1 .left
 
--- src/lib.rt:99:1
-same-length : tie.Need-same-length
-same-length c = search needs
-
--- src/lib.rt:99:1
-same-length-2 : tie.Need-same-length-2
-same-length-2 c = search needs
-
--- src/lib.rt:99:1
 returns-2 : tie.Need-returns-2
-returns-2 c = ?
+returns-2 c =
+    let a = c .before .before .before .before .before .before .before .before .before .before .before .before .before .before .before .before .before .before .before .before .before .before .args in
+    let g = c .before .before .before .before .before .before .before .before .before .before .before .before .stage-of .ensures in
+    λ fit room.
+    took (a .form) (a .st) (a .piece .now) (g .1) (c .holding .ensures .1) fit room (a .st .progress .walk .ends) _ (g .0) (a .items .now) (a .refusals .now) _ _ _ _
+    (c .before .before .before .before .before .before .before .before .run .ensures) (g .1) _ (c .before .progress-with .ensures) _ (c .holding .ensures .0)
 
 pub take-in-spec : {M : Type 1} → statement M
 take-in-spec =
     tie.close
     (tie.spec
     returns
-    stage-of-requires
+    (λ c κs. search needs)
     slice-aggregate-run
-    run-requires
-    progress-with-requires
+    (λ c κs. search needs)
+    (λ c κs. search needs)
     holding-requires
-    same-length
-    same-length-2
+    (λ c. search needs)
+    (λ c. search needs)
     returns-2)
