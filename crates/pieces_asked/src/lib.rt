@@ -1,4 +1,5 @@
-// The conditions of 13 (02 f), one by one as `pieces/Calls` has them: whether a state, whoever made it, is fit for pieces of a form.
+// The conditions of 13 (02 f), one by one as `pieces/Calls` has them: whether a state, whoever made it, is fit for pieces of a form. The
+// limit, 1, is asked in the same way.
 use format::Form;
 use pieces::Phase;
 use pieces::Pieces;
@@ -85,7 +86,7 @@ fn places_fit(held: [u8; 4], count: usize) -> bool
 }
 
 // No more was taken in than the limit.
-fn taken_fits(form: Form, read: usize, count: usize) -> bool
+pub fn taken_fits(form: Form, read: usize, count: usize) -> bool
     ensures { λ r. ⌜ r ≡ leb (read * domain form .unit + count) (domain form .limit) ⌝ }
 {
     let limit = report_units::limit(form);

@@ -46,10 +46,8 @@ nine-same m more =
     ⊎-elim (λ (l : more / 9 < m). lt-leb m (more / 9) l ∙ sym (nine-many m more l)) (λ (l : m ≤ more / 9). le-leb m (more / 9) l ∙ sym (nine-few m more l))
     (lt-or-ge (more / 9) m)
 
-pub long-same : (limit t len : ℕ) → t ≤ limit → ltb (limit - t) len ≡ ltb limit (t + len)
-long-same limit t len h =
-    ⊎-elim (λ (l : limit - t < len). lt-ltb (limit - t) len l ∙ sym (lt-ltb limit (t + len) (omega arith)))
-    (λ (l : len ≤ limit - t). le-ltb (limit - t) len l ∙ sym (le-ltb limit (t + len) (omega arith))) (lt-or-ge (limit - t) len)
+pub taken-more : (d : Domain) (st : Pieces) (len : ℕ) → st .progress .read * d .unit + (st .count + len) ≡ taken d st + len
+taken-more d st len = omega arith
 
 both-true : (a b : Bool) → pick a b false ≡ true → (a ≡ true) × (b ≡ true)
 both-true true b e = (refl, e)
@@ -86,22 +84,15 @@ unit-few : (form : Form) → domain form .unit ≤ 4
 unit-few Text = omega arith
 unit-few Binary = omega arith
 
-module _ (form : Form) (st : Pieces) (piece : List ℕ) (full : length (st .progress .walk .ends) ≡ maxDepth) (four : length (st .held) ≡ 4)
-    (fit : isFit (domain form) st ≡ true) where
+pub count-few : (form : Form) (st : Pieces) → length (st .progress .walk .ends) ≡ maxDepth → isFit (domain form) st ≡ true → st .count ≤ 4
+count-few form st full fit = omega (arith, facts (domain form) (reader form) st full fit .part, unit-few form)
+
+module _ (form : Form) (st : Pieces) (piece : List ℕ) (four : length (st .held) ≡ 4) (few : st .count ≤ 4) where
   abbrev d : Domain
   d = domain form
 
-  fine : Facts d st
-  fine = facts d (reader form) st full fit
-
-  pub count-few : st .count ≤ 4
-  count-few = omega (arith, fine .part, unit-few form)
-
-  pub taken-within : taken d st ≤ d .limit
-  taken-within = fine .size
-
   long : length (heldAnd st piece) ≡ st .count + length piece
-  long = omega (arith, length-append (take (st .count) (st .held)) piece, length-take-le (st .count) (st .held) (omega (arith, count-few)))
+  long = omega (arith, length-append (take (st .count) (st .held)) piece, length-take-le (st .count) (st .held) (omega (arith, few)))
 
   pub items-few : length (itemsOut d st piece) ≤ (st .count + length piece) / d .unit
   unfolding itemsOut
@@ -119,11 +110,11 @@ module _ (d : Domain) (st : Pieces) (piece : List ℕ) (room more : ℕ) where
   answer-unfit e = rw e
 
   module _ (fit : isFit d st ≡ true) where
-    pub answer-long : ltb (d .limit) (taken d st + length piece) ≡ true → feedAnswer d st piece room more ≡ G.Refused 1 0
+    pub answer-long : leb (taken d st + length piece) (d .limit) ≡ false → feedAnswer d st piece room more ≡ G.Refused 1 0
     unfolding feedAnswer
-    answer-long e = rw (fit, e)
+    answer-long e = rw (fit, lt-ltb (d .limit) (taken d st + length piece) (leb-false _ _ e))
 
-    module _ (short : ltb (d .limit) (taken d st + length piece) ≡ false) where
+    module _ (short : taken d st + length piece ≤ d .limit) where
       abbrev n : ℕ
       n = 9 * length (itemsOut d st piece)
 
@@ -132,16 +123,17 @@ module _ (d : Domain) (st : Pieces) (piece : List ℕ) (room more : ℕ) where
 
       pub answer-little : pick (leb n room) (leb m more) false ≡ false → feedAnswer d st piece room more ≡ G.Refused 3 0
       unfolding feedAnswer
-      answer-little e = rw (fit, short) (⊎-elim few many (lt-or-ge room n))
+      answer-little e = rw (fit, le-ltb (d .limit) (taken d st + length piece) short) (⊎-elim few many (lt-or-ge room n))
         where
           few : room < n → pick (ltb room n) (G.Refused 3 0) (pick (ltb more m) (G.Refused 3 0) (G.Taken n m)) ≡ G.Refused 3 0
           few l = rw (lt-ltb room n l)
+
           many : n ≤ room → pick (ltb room n) (G.Refused 3 0) (pick (ltb more m) (G.Refused 3 0) (G.Taken n m)) ≡ G.Refused 3 0
           many l = let z : leb m more ≡ false = rw (le-leb n room l) at e in rw (le-ltb room n l, lt-ltb more m (leb-false m more z))
 
       pub answer-taken : n ≤ room → m ≤ more → feedAnswer d st piece room more ≡ G.Taken n m
       unfolding feedAnswer
-      answer-taken a b = rw (fit, short, le-ltb room n a, le-ltb more m b)
+      answer-taken a b = rw (fit, le-ltb (d .limit) (taken d st + length piece) short, le-ltb room n a, le-ltb more m b)
 
 -- refused: all stays
 pub gives-kept : (d : Domain) (st : Pieces) (piece items refusals : List ℕ) (number : ℕ) (r : Fed)
@@ -150,7 +142,9 @@ unfolding feed feedState itemsLeft refusalsLeft
 gives-kept d st piece items refusals number r e f = (f ∙ rw e, (rw f, rw f))
 
 stored : (out bytes : List ℕ) (n : ℕ) → length bytes ≡ n → n ≤ length out → sets out 0 bytes ≡ bytes ++ drop n out
-stored out bytes n e l = sets-eq bytes out 0 (omega arith) ∙ rw e
+stored out bytes n e l =
+    let z : 0 + length bytes ≡ n = omega arith in
+    sets-eq bytes out 0 (omega arith) ∙ ap (λ (k : ℕ). bytes ++ drop k out) z
 
 pub gives-taken : (form : Form) (st : Pieces) (piece items items′ refusals refusals′ : List ℕ) (a : Ahead) → Enters form st piece
     → Room form st piece items refusals → Took (domain form) st piece items items′ refusals refusals′ a
@@ -158,7 +152,7 @@ pub gives-taken : (form : Form) (st : Pieces) (piece items items′ refusals ref
 unfolding feed feedState itemsLeft refusalsLeft
 gives-taken form st piece items items′ refusals refusals′ a en ro t =
     let d : Domain = domain form in
-    let e = answer-taken d st piece (length items) (length refusals) (en .fit) (le-ltb _ _ (en .within)) (ro .rows) (ro .refused) in (
+    let e = answer-taken d st piece (length items) (length refusals) (en .fit) (en .within) (ro .rows) (ro .refused) in (
       rw (t .next, t .many, t .bad, e),
       (
         rw (t .many) (t .rows (ro .rows) ∙ stored items (concat rowBytes (itemsOut d st piece)) _ (concat-long rowBytes 9 row-long (itemsOut d st piece)) (ro .rows)),
@@ -167,3 +161,22 @@ gives-taken form st piece items items′ refusals refusals′ a en ro t =
             ∙ stored refusals (concat refusalBytes (refusalsOut d st piece)) _ (concat-long refusalBytes 9 refusal-long (refusalsOut d st piece)) (ro .refused)),
       ),
     )
+
+-- ---- whether the rows fit
+
+pub enough : (form : Form) (st : Pieces) (piece : List ℕ) → length (st .held) ≡ 4 → st .count ≤ 4 → (room more n : ℕ)
+    → n ≡ (st .count + length piece) / domain form .unit → pick (leb (9 * n) room) (leb (9 * n) more) false ≡ true
+    → true ≡ pick (leb (9 * length (itemsOut (domain form) st piece)) room) (leb (9 * length (refusalsOut (domain form) st piece)) more) false
+enough form st piece four few room more n e t =
+    let r = room-of (9 * n) (9 * n) room more t in
+    let i = items-few form st piece four few in
+    let j = bad-few form st piece four few in
+    rw (
+      le-leb (9 * length (itemsOut (domain form) st piece)) room (omega (arith, r .0)),
+      le-leb (9 * length (refusalsOut (domain form) st piece)) more (omega (arith, r .1)),
+    )
+
+pub counted : {d : Domain} {st : Pieces} {piece items items′ refusals refusals′ : List ℕ} {a : Ahead} {b : Bool} (room more : ℕ)
+    → Took d st piece items items′ refusals refusals′ a → b ≡ pick (leb (9 * a .items) room) (leb (9 * a .refusals) more) false
+    → b ≡ pick (leb (9 * length (itemsOut d st piece)) room) (leb (9 * length (refusalsOut d st piece)) more) false
+counted room more t e = rw (← (t .many), ← (t .bad)) e

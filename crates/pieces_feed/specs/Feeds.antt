@@ -6,7 +6,6 @@ use mathlib.Core.List.{List}
 use lib.ListN.{length}
 use Rattle.format.specs.declared.Form.{Form}
 use Rattle.format.specs.Units.{Domain, domain}
-use Rattle.format.specs.Judging.{maxDepth}
 use Rattle.pieces.specs.declared.Pieces.{Pieces}
 use Rattle.pieces.specs.declared.Given.the-variants as G
 use Rattle.pieces.specs.declared.Fed.{Fed}
@@ -17,8 +16,10 @@ use Rattle.pieces.specs.Calls.{isFit, feed, itemsLeft, refusalsLeft}
 abbrev pub kept : Pieces → ℕ → Fed
 kept st number = record { next = st; given = G.Refused number 0 }
 
--- neither 13 nor 1
+-- neither 13 nor 1, and what is held
 pub record Enters (form : Form) (st : Pieces) (piece : List ℕ) : Type 0 where
+  pub held : length (st .held) ≡ 4
+  pub few : st .count ≤ 4
   pub fit : isFit (domain form) st ≡ true
   pub within : taken (domain form) st + length piece ≤ domain form .limit
 

@@ -5,13 +5,13 @@ use pieces::Given;
 use pieces::Pieces;
 ghost use mathlib.Core.Path.{_≡_};
 ghost use mathlib.Core.Bool as Bool;
-ghost use Prim.Native.Nat.{_+_, _*_, _/_, _≤_};
-ghost use lib.Dec.{ltb, leb};
+ghost use Prim.Native.Nat.{_+_, _*_, _≤_};
+ghost use lib.Dec.{leb};
 ghost use lib.ListN.{length};
 ghost use Rattle.base.specs.Pick.{pick};
 ghost use Rattle.format.specs.Units.{domain};
 ghost use Rattle.pieces.specs.Feeding.{itemsOut, refusalsOut, taken};
-ghost use Rattle.pieces.specs.Calls.{isFit, feedAnswer, feed, itemsLeft, refusalsLeft};
+ghost use Rattle.pieces.specs.Calls.{feed, itemsLeft, refusalsLeft};
 ghost use Rattle.pieces_feed.specs.Feeds.{kept, Enters, Room, Gives};
 
 // Refused: nothing is taken in.
@@ -24,15 +24,13 @@ fn kept(st: Pieces, number: u8) -> Fed
     }
 }
 
-// 1: with so many elements more the stream passes the limit.
-fn is_long(form: Form, st: Pieces, len: usize) -> bool
-    requires { ⌜ taken (domain form) st ≤ domain form .limit ⌝ }
-    ensures { λ r. ⌜ r ≡ ltb (domain form .limit) (taken (domain form) st + len) ⌝ }
+// Not 1: with the piece the stream is within the limit.
+fn is_within(form: Form, st: Pieces, piece: &[u8]) -> bool
+    requires { ⌜ st .count ≤ 4 ⌝ }
+    ensures { λ r. ⌜ (r ≡ leb (taken (domain form) st + length (now (piece .entry))) (domain form .limit)) × (st .count ≤ 4) × (length (st .held) ≡ 4) ⌝ }
 {
     let p = st.progress;
-    let u = report_units::unit(form);
-    let limit = report_units::limit(form);
-    limit - (p.read * u + st.count) < len
+    pieces_asked::taken_fits(form, p.read, st.count + piece.len())
 }
 
 // ---- 3
@@ -71,11 +69,13 @@ fn enter(form: Form, st: Pieces, piece: &[u8], items: &mut [u8], refusals: &mut 
 {
     let a = pieces_taken::take_in(form, st, piece, items, refusals);
     let next = a.next;
+    let n = a.items;
+    let m = a.refusals;
     Fed {
         next,
         given: Given::Taken {
-            items: 9 * a.items,
-            refusals: 9 * a.refusals,
+            items: 9 * n,
+            refusals: 9 * m,
         },
     }
 }
@@ -88,7 +88,7 @@ pub fn feed(form: Form, st: Pieces, piece: &[u8], items: &mut [u8], refusals: &m
     if !pieces_asked::is_fit(form, st) {
         return kept(st, 13);
     }
-    if is_long(form, st, piece.len()) {
+    if !is_within(form, st, piece) {
         return kept(st, 1);
     }
     if !rows_fit(form, st, piece, items.len(), refusals.len()) {
