@@ -28,7 +28,25 @@ use Rattle.pieces.specs.Calls.{mostUnits, isFit, ended, endAnswer, endState, fi
 use Rattle.pieces_fit.specs.Fit.{Facts, facts}
 use Rattle.pieces_end.specs.Ends.{kept, told}
 
+most-few : (f : Form) → mostUnits (domain f) ≤ 1048576
+unfolding mostUnits
+most-few Text = omega arith
+most-few Binary = omega arith
+
 -- ---- whether there is a remainder
+
+pub left-units : (form : Form) (start read count : ℕ) → start < read
+    → true ≡ ltb (start * domain form .unit) (read * domain form .unit + count)
+left-units Text start read count l = sym (lt-ltb (start * 4) (read * 4 + count) (omega arith))
+left-units Binary start read count l = sym (lt-ltb (start * 3) (read * 3 + count) (omega arith))
+
+pub left-part : (form : Form) (start read count : ℕ) → start ≤ read → read ≤ start
+    → ltb 0 count ≡ ltb (start * domain form .unit) (read * domain form .unit + count)
+left-part form start read count a b =
+    let e : start ≡ read = omega arith in
+    let u : ℕ = domain form .unit in
+    ⊎-elim (λ (l : 0 < count). lt-ltb 0 count l ∙ sym (lt-ltb (start * u) (read * u + count) (rw e (omega arith))))
+    (λ (l : count ≤ 0). le-ltb 0 count l ∙ sym (le-ltb (start * u) (read * u + count) (rw e (omega arith)))) (lt-or-ge 0 count)
 
 module _ (form : Form) (st : Pieces) where
   abbrev d : Domain
@@ -40,19 +58,6 @@ module _ (form : Form) (st : Pieces) where
   abbrev read : ℕ
   read = st .progress .read
 
-  pub left-units : start < read → true ≡ ltb (start * d .unit) (taken d st)
-  left-units l = sym (lt-ltb (start * d .unit) (taken d st) (far form))
-    where
-      far : (f : Form) → start * domain f .unit < read * domain f .unit + st .count
-      far Text = omega arith
-      far Binary = omega arith
-
-  pub left-part : start ≤ read → read ≤ start → ltb 0 (st .count) ≡ ltb (start * d .unit) (taken d st)
-  left-part a b =
-      let e : start ≡ read = omega arith in
-      ⊎-elim (λ (l : 0 < st .count). lt-ltb 0 (st .count) l ∙ sym (lt-ltb (start * d .unit) (taken d st) (rw e (omega arith))))
-      (λ (l : st .count ≤ 0). le-ltb 0 (st .count) l ∙ sym (le-ltb (start * d .unit) (taken d st) (rw e (omega arith)))) (lt-or-ge 0 (st .count))
-
   -- ---- the conditions of 13, as far as they are needed
   module _ (full : length (st .progress .walk .ends) ≡ maxDepth) (fit : isFit d st ≡ true) where
     fine : Facts d st
@@ -63,11 +68,6 @@ module _ (form : Form) (st : Pieces) where
 
     pub start-few : start ≤ 1048576
     start-few = omega (arith, begun, fine .sound .few, most-few form)
-      where
-        most-few : (f : Form) → mostUnits (domain f) ≤ 1048576
-        unfolding mostUnits
-        most-few Text = omega arith
-        most-few Binary = omega arith
 
 -- ---- the answers
 
@@ -105,10 +105,10 @@ module _ (d : Domain) (st : Pieces) (out : List ℕ) where
           let z : 0 + length bytes ≡ 5 = omega (arith, bytes-long) in
           put-fits out 0 bytes (omega arith) ∙ sets-eq bytes out 0 (omega arith) ∙ ap (λ (k : ℕ). bytes ++ drop k out) z
 
+      answer-told : 5 ≤ length out → told st 5 ≡ finish d st (length out)
+      unfolding finish endAnswer endState ended remainderOut
+      answer-told l = rw (fit, some, le-ltb (length out) 5 l)
+
       pub end-told : 5 ≤ length out → (out′ : List ℕ) → out′ ≡ put out 0 bytes → (r : Closed) → r ≡ told st 5 → Gives out′ r
-      unfolding finish endAnswer endState ended remainderLeft
-      end-told l out′ e r f = (f ∙ answer, rw (f, row-is) (e ∙ stored l))
-        where
-          answer : told st 5 ≡ finish d st (length out)
-          unfolding finish endAnswer endState ended remainderOut
-          answer = rw (fit, some, le-ltb (length out) 5 l)
+      unfolding remainderLeft
+      end-told l out′ e r f = (f ∙ answer-told l, rw (f, row-is) (e ∙ stored l))

@@ -8,14 +8,15 @@ use pieces::Pieces;
 use pieces::Progress;
 ghost use mathlib.Core.Path.{_≡_};
 ghost use mathlib.Core.List.{[], _∷_, _++_};
-ghost use Prim.Native.Nat.{_*_, _≤_};
+ghost use Prim.Native.Nat.{_+_, _*_, _≤_};
 ghost use lib.Dec.{ltb};
 ghost use lib.ListN.{length};
 ghost use Rattle.format.specs.Units.{domain};
+ghost use Rattle.format.specs.Judging.{maxDepth};
 ghost use Rattle.format.specs.Report.{be4};
 ghost use Rattle.report_rows.specs.Stores.{put};
-ghost use Rattle.pieces.specs.Feeding.{taken, numberAt};
-ghost use Rattle.pieces.specs.Calls.{ended, endedProgress, finish, remainderLeft};
+ghost use Rattle.pieces.specs.Feeding.{numberAt};
+ghost use Rattle.pieces.specs.Calls.{endedProgress, finish, remainderLeft};
 ghost use Rattle.pieces_end.specs.Ends.{kept, told};
 
 // ---- what the call answers
@@ -72,14 +73,10 @@ fn told(st: Pieces, n: usize) -> Closed
 // ---- the remainder
 
 // There is one: something came behind the last item.
-fn is_left(form: Form, st: Pieces) -> bool
-    ensures { λ r. ⌜ (st .progress .start ≤ st .progress .read → r ≡ ltb (st .progress .start * domain form .unit) (taken (domain form) st)) ⌝ }
+fn is_left(form: Form, p: Progress, count: usize) -> bool
+    ensures { λ r. ⌜ (p .start ≤ p .read → r ≡ ltb (p .start * domain form .unit) (p .read * domain form .unit + count)) × (length (p .walk .ends) ≡ maxDepth) ⌝ }
 {
-    let p = st.progress;
-    if p.start < p.read {
-        return true;
-    }
-    0 < st.count
+    if p.start < p.read { true } else { 0 < count }
 }
 
 // What is under way is cut off, which is 4.
@@ -122,13 +119,13 @@ pub fn end(form: Form, st: Pieces, out: &mut [u8]) -> Closed
     if !pieces_asked::is_fit(form, st) {
         return kept(st, 13);
     }
-    if !is_left(form, st) {
+    let p = st.progress;
+    if !is_left(form, p, st.count) {
         return told(st, 0);
     }
     if out.len() < 5 {
         return kept(st, 3);
     }
-    let p = st.progress;
     put_rest(form, p, out);
     told(st, 5)
 }
