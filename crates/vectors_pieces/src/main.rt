@@ -5,7 +5,7 @@
 // room for items, or at the end for the remainder (2 bytes, big-endian), the room for refusals (2), the piece's length (2) and the piece. The
 // state goes from record to record. A line of output, for all but the first two: the call, the number (0: taken in), the lengths written to
 // items and to refusals, or to the one buffer of the end, and the buffers in hexadecimal.
-use exports_pieces::PIECES;
+use exports_pieces_state::PIECES;
 use libc::STDIN_FILENO;
 use recorded::number;
 ghost use mathlib.Core.Path.{_≡_};

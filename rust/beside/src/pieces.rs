@@ -1,6 +1,6 @@
 //! Streams in pieces. The oracle keeps all that came, the library a state of
 //! numbers: so the two are fed side by side, and of states that no call gave only
-//! the conditions of 13 are known here, as docs/DECISIONS.md lists them (D-f1).
+//! the conditions of 13 are known here, as docs/DECISIONS.md lists them (D200).
 
 use crate::refused;
 use oracle::{pieces, Form};
