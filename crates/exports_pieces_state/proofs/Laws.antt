@@ -6,7 +6,7 @@ use mathlib.Core.List.{List, [], _∷_, _++_, append-nil}
 use native.Mathlib.Omega.{arith}
 use native.Mathlib.Numerals.{add-one}
 use lib.Dec.{ltb}
-use lib.ListN.{length, getD, set, take, drop, replicate, length-append, length-drop, length-replicate, drop-of-length-le}
+use lib.ListN.{length, getD, set, take, drop, length-append, length-drop, drop-of-length-le}
 use Rattle.format.specs.Judging.{maxDepth}
 use Rattle.walk_state.specs.declared.Walk.{Walk}
 use Rattle.pieces.specs.declared.Pieces.{Pieces}
@@ -49,25 +49,24 @@ numbers-filled z w t u lw lt lz =
     ap (λ (k : ℕ). sets (sets z 0 (u ∷ w)) k t) a ∙ sets-append z 0 (u ∷ w) t
     ∙ over-all z (u ∷ (w ++ t)) (omega (arith, length-append w t))
 
-pub numbers-made : (st : Pieces) (w t mid all : List ℕ) → length (st .progress .walk .ends) ≡ maxDepth → w ≡ stateOf (st .progress .walk)
-    → t ≡ restOf (st .progress) (st .held) (st .count) → mid ≡ sets (set (replicate piecesSize 0) 0 (st .unit)) 1 w → all ≡ sets mid (1 + stateSize) t
+pub numbers-made : (st : Pieces) (z w t mid all : List ℕ) → length z ≡ piecesSize → length (st .progress .walk .ends) ≡ maxDepth → w ≡ stateOf (st .progress .walk)
+    → t ≡ restOf (st .progress) (st .held) (st .count) → mid ≡ sets (set z 0 (st .unit)) 1 w → all ≡ sets mid (1 + stateSize) t
     → all ≡ numbersOf st
 unfolding numbersOf restOf
-numbers-made st w t mid all l ew et em ea =
+numbers-made st z w t mid all lz l ew et em ea =
     let lw : length w ≡ stateSize = rw ew (state-long (st .progress .walk) l) in
     let lt : length t ≡ restSize = ap length et in
-    ea ∙ ap (λ (x : List ℕ). sets x (1 + stateSize) t) em ∙ numbers-filled (replicate piecesSize 0) w t (st .unit) lw lt refl
+    ea ∙ ap (λ (x : List ℕ). sets x (1 + stateSize) t) em ∙ numbers-filled z w t (st .unit) lw lt lz
     ∙ rw (ew, et)
 
-part-over : (s : List ℕ) (at n : ℕ) → at + n ≤ length s → sets (replicate n 0) 0 (take n (drop at s)) ≡ take n (drop at s)
-part-over s at n l =
-    over-all (replicate n 0) (take n (drop at s))
-    (length-take-le n (drop at s) (omega (arith, length-drop at s)) ∙ sym (length-replicate {A = ℕ} n 0))
+part-over : (z s : List ℕ) (at n : ℕ) → length z ≡ n → at + n ≤ length s → sets z 0 (take n (drop at s)) ≡ take n (drop at s)
+part-over z s at n lz l =
+    over-all z (take n (drop at s)) (length-take-le n (drop at s) (omega (arith, length-drop at s)) ∙ sym lz)
 
-pub pieces-read : (s w t : List ℕ) (walk : Walk) (r : Pieces) → length s ≡ piecesSize
-    → w ≡ sets (replicate stateSize 0) 0 (take stateSize (drop 1 s)) → t ≡ sets (replicate restSize 0) 0 (take restSize (drop (1 + stateSize) s))
+pub pieces-read : (s y z w t : List ℕ) (walk : Walk) (r : Pieces) → length s ≡ piecesSize → length y ≡ stateSize → length z ≡ restSize
+    → w ≡ sets y 0 (take stateSize (drop 1 s)) → t ≡ sets z 0 (take restSize (drop (1 + stateSize) s))
     → walk ≡ walkOf w → r ≡ piecesWith (getD s 0 0) walk t → r ≡ piecesIn s
 unfolding piecesIn
-pieces-read s w t walk r l ew et ek er =
-    er ∙ ap (λ (k : Walk). piecesWith (getD s 0 0) k t) (ek ∙ ap walkOf (ew ∙ part-over s 1 stateSize (omega arith)))
-    ∙ ap (λ (x : List ℕ). piecesWith (getD s 0 0) (walkOf (take stateSize (drop 1 s))) x) (et ∙ part-over s (1 + stateSize) restSize (omega arith))
+pieces-read s y z w t walk r l ly lz ew et ek er =
+    er ∙ ap (λ (k : Walk). piecesWith (getD s 0 0) k t) (ek ∙ ap walkOf (ew ∙ part-over y s 1 stateSize ly (omega arith)))
+    ∙ ap (λ (x : List ℕ). piecesWith (getD s 0 0) (walkOf (take stateSize (drop 1 s))) x) (et ∙ part-over z s (1 + stateSize) restSize lz (omega arith))

@@ -10,8 +10,8 @@ ghost use Prim.Native.Nat.{_+_, _%_, _≤_, _<_};
 ghost use lib.ListN.{length, getD};
 ghost use lib.Seq.{sets};
 ghost use Rattle.format.specs.Judging.{maxDepth};
-ghost use Rattle.exports_values.specs.Lent.{stateOf};
-ghost use Rattle.exports_pieces_state.specs.Numbers.{piecesSize, allUnder, isNarrow, phaseIn, progressIn, piecesWith, piecesIn, phaseNumber, restOf, numbersOf};
+ghost use Rattle.exports_values.specs.Lent.{stateSize, stateOf};
+ghost use Rattle.exports_pieces_state.specs.Numbers.{restSize, piecesSize, allUnder, isNarrow, phaseIn, progressIn, piecesWith, piecesIn, phaseNumber, restOf, numbersOf};
 ghost use Rattle.exports_pieces_state.specs.Back.{Bytes, Typed};
 
 // Numbers behind the walk's, and in all.
@@ -32,6 +32,25 @@ fn fill(to: &mut [usize], at: usize, from: &[usize])
         to[at + k] = from[k];
         k = k + 1;
     }
+}
+
+// Room for a state, for its walk, and for what stands behind that.
+fn no_state() -> [usize; PIECES]
+    ensures { λ r. ⌜ length r ≡ piecesSize ⌝ }
+{
+    [0; PIECES]
+}
+
+fn no_walk() -> [usize; STATE]
+    ensures { λ r. ⌜ length r ≡ stateSize ⌝ }
+{
+    [0; STATE]
+}
+
+fn no_rest() -> [usize; REST]
+    ensures { λ r. ⌜ length r ≡ restSize ⌝ }
+{
+    [0; REST]
 }
 
 // ---- from numbers to a state
@@ -135,8 +154,8 @@ fn unit_in(s: [usize; PIECES]) -> usize
 pub fn pieces_of(s: [usize; PIECES]) -> Pieces
     ensures { λ r. ⌜ r ≡ piecesIn s ⌝ }
 {
-    let mut w = [0usize; STATE];
-    let mut t = [0usize; REST];
+    let mut w = no_walk();
+    let mut t = no_rest();
     fill(&mut w, 0, &s[1..BEHIND]);
     fill(&mut t, 0, &s[BEHIND..PIECES]);
     let walk = exports_state::walk_of(w);
@@ -211,7 +230,7 @@ pub fn numbers_of(st: Pieces) -> [usize; PIECES]
     let held = st.held;
     let w = walk_numbers(walk);
     let t = rest_of(p, held, st.count);
-    let mut s = [0usize; PIECES];
+    let mut s = no_state();
     s[0] = st.unit;
     fill(&mut s, 1, &w);
     fill(&mut s, BEHIND, &t);
