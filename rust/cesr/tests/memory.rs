@@ -2,17 +2,20 @@
 
 use cesr::{Form, Live, Pieces};
 use std::alloc::{GlobalAlloc, Layout, System};
-use std::sync::atomic::{AtomicUsize, Ordering};
+use std::cell::Cell;
 
-/// The system's, which counts.
+/// The system's, which counts what each thread asks for: what runs the tests has
+/// a thread of its own.
 struct Counting;
 
-static ASKED: AtomicUsize = AtomicUsize::new(0);
+thread_local! {
+    static ASKED: Cell<usize> = const { Cell::new(0) };
+}
 
 // SAFETY: all is the system's own.
 unsafe impl GlobalAlloc for Counting {
     unsafe fn alloc(&self, layout: Layout) -> *mut u8 {
-        ASKED.fetch_add(1, Ordering::Relaxed);
+        ASKED.with(|times| times.set(times.get() + 1));
         System.alloc(layout)
     }
 
@@ -24,12 +27,11 @@ unsafe impl GlobalAlloc for Counting {
 #[global_allocator]
 static COUNTING: Counting = Counting;
 
-/// How often memory was asked for meanwhile. One test alone counts, since the
-/// others would be counted too.
+/// How often memory was asked for meanwhile.
 fn asked<T>(during: impl FnOnce() -> T) -> (T, usize) {
-    let before = ASKED.load(Ordering::Relaxed);
+    let before = ASKED.get();
     let made = during();
-    (made, ASKED.load(Ordering::Relaxed) - before)
+    (made, ASKED.get() - before)
 }
 
 #[test]
