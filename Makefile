@@ -39,8 +39,9 @@ $(build)/%.o: c/%.c include/cesr.h
 	@mkdir -p $(build)
 	$(CC) -std=c11 -O2 -fPIC $(CFLAGS) -Iinclude -c $< -o $@.$$$$ && mv $@.$$$$ $@
 
-$(build)/libcesr.a: $(archive) $(build)/words.o $(build)/rows.o
-	cp $(archive) $@.$$$$ && $(AR) rcsD $@.$$$$ $(build)/words.o $(build)/rows.o && mv $@.$$$$ $@
+beside := $(build)/words.o $(build)/rows.o $(build)/pieces.o
+$(build)/libcesr.a: $(archive) $(beside)
+	cp $(archive) $@.$$$$ && $(AR) rcsD $@.$$$$ $(beside) && mv $@.$$$$ $@
 
 $(build)/libcesr.so.$(version): $(build)/libcesr.a c/cesr.map
 	$(CC) -shared -Wl,-soname,$(soname) -Wl,--version-script=c/cesr.map -Wl,-z,defs $(LDFLAGS) \

@@ -30,7 +30,7 @@ const char *cesr_words(uint8_t number) {
     case CESR_UNFIT_LENGTH:
         return "writer: raw length, tag length, index or ondex unfit for the code";
     case CESR_UNFIT_STATE:
-        return "walk state unfit for the stream";
+        return "walk state unfit for the stream, or state of pieces unfit or ended";
     case CESR_NOT_A_PRIMITIVE:
         return "primitive asked for, group or genus/version found";
     case CESR_ONDEX:

@@ -3,7 +3,7 @@
 # The options of a command.
 _cesr_options() {
   case $1 in
-    judge) echo --form --engine --manifest --all --json --report --html --junit --sarif --help ;;
+    judge) echo --form --engine --manifest --live --all --json --report --html --junit --sarif --help ;;
     convert) echo --to --out --help ;;
     show | manifest) echo --form --help ;;
     group) echo --form --out --help ;;

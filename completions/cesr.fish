@@ -17,6 +17,7 @@ complete -c cesr -n '__fish_seen_subcommand_from judge show manifest' -l form -x
 complete -c cesr -n '__fish_seen_subcommand_from expect' -l form -x -a 'text binary' -d 'the form, in place of a guess'
 complete -c cesr -n '__fish_seen_subcommand_from judge' -l engine -x -a 'first second both' -d 'which engine judges'
 complete -c cesr -n '__fish_seen_subcommand_from judge' -l manifest -r -d 'the streams of a list'
+complete -c cesr -n '__fish_seen_subcommand_from judge' -l live -d 'while it is being written'
 complete -c cesr -n '__fish_seen_subcommand_from judge' -l all -d 'every item'
 complete -c cesr -n '__fish_seen_subcommand_from judge compare' -l json -d 'an object a line'
 complete -c cesr -n '__fish_seen_subcommand_from judge' -l report -d 'the bytes of the report'

@@ -11,7 +11,7 @@
  * Where 5 stands in the order of a call, the first character outside the alphabet gives 5 or 19.
  *
  * What the caller ensures: each length is that of the memory behind its pointer, which may be null where the length is 0 and is null
- * nowhere else; what is written (buffer, working room, tag, info, item, state, items, answer, passed) overlaps nothing else that the call is given. The
+ * nowhere else; what is written (buffers, working room, tag, info, item, state, items, given, answer, passed) overlaps nothing else that the call is given. The
  * library keeps nothing between calls, allocates nothing and may be called from many threads at once. */
 #ifndef CESR_H
 #define CESR_H
@@ -59,7 +59,7 @@ enum cesr_number {
     CESR_PREPAD = 10,            /* tag prepad not _ */
     CESR_TOO_DEEP = 11,          /* group standing within 64 groups already */
     CESR_UNFIT_LENGTH = 12,      /* writer: raw length, tag length, index or ondex unfit for the code */
-    CESR_UNFIT_STATE = 13,       /* walk state unfit for the stream */
+    CESR_UNFIT_STATE = 13,       /* walk state unfit for the stream, or state of pieces unfit or ended */
     CESR_NOT_A_PRIMITIVE = 14,   /* primitive asked for, group or genus/version found */
     CESR_ONDEX = 15,             /* ondex digits not zero in a code for the current key list only */
     CESR_TEXT_FILL = 16,         /* type A without its full fill, or text that itself starts with A */
@@ -308,6 +308,50 @@ uint8_t cesr_walk_on_text(const uint8_t *stream, size_t stream_len, size_t state
 /* The same over a binary. */
 uint8_t cesr_walk_on_binary(const uint8_t *stream, size_t stream_len, size_t state[CESR_STATE], size_t budget, size_t *items,
                             size_t *answer);
+
+/* A stream that arrives in pieces. Feed the pieces in order, then say that the stream has ended: the rows that come out, joined, are those
+ * of its report, wherever it was cut. An item's rows are given with the piece that its last byte comes with, the remainder's with the end.
+ * Between two calls nothing is kept but the state, CESR_PIECES numbers of the caller's own, whatever an item's size is. It starts as
+ * CESR_PIECES_TEXT or CESR_PIECES_BINARY says, and only these calls change it:
+ *
+ *     size_t state[CESR_PIECES] = CESR_PIECES_TEXT;
+ *
+ * 13 comes to every call after the end, to a text's state in a call on a binary and the other way round, and to a state that no call gave
+ * and that fails a condition; docs/DECISIONS.md lists them. Of a state that no call gave and that meets them all no more is said than what
+ * the calls may write. */
+#define CESR_PIECES (CESR_MAX_DEPTH + 23)
+#define CESR_PIECES_TEXT {4}
+#define CESR_PIECES_BINARY {3}
+
+/* A piece of a text: 13; 1 if the stream passes the limit with it; 3 exactly if the rows that it completes don't fit, 9 bytes an item in
+ * items, 9 a refusal in refusals. given[0], given[1]: the lengths written to items and to refusals, or 0 and 0. Bytes behind the rows stay.
+ * Refused, nothing is taken in, and state and buffers stay as they were: the same piece may come again, with more room. An empty piece
+ * changes nothing. */
+uint8_t cesr_feed_text(size_t state[CESR_PIECES], const uint8_t *piece, size_t piece_len, uint8_t *items, size_t items_len,
+                       uint8_t *refusals, size_t refusals_len, size_t given[2]);
+
+/* The same of a binary. */
+uint8_t cesr_feed_binary(size_t state[CESR_PIECES], const uint8_t *piece, size_t piece_len, uint8_t *items, size_t items_len,
+                         uint8_t *refusals, size_t refusals_len, size_t given[2]);
+
+/* The end of a text: 13, 3 exactly if there is a remainder and out_len is below 5. *answer: the length of its row, 5, or 0 where there is
+ * none, or 0. Refused, state and out stay as they were; else the state takes no more calls. */
+uint8_t cesr_end_text(size_t state[CESR_PIECES], uint8_t *out, size_t out_len, size_t *answer);
+
+/* The same of a binary. */
+uint8_t cesr_end_binary(size_t state[CESR_PIECES], uint8_t *out, size_t out_len, size_t *answer);
+
+/* Room that is enough, in items and in refusals each, for every piece of so many characters or bytes: each unit may end an item, and one
+ * may have begun before. */
+#define CESR_FEED_ROOM_TEXT(length) (9 * ((size_t)(length) / 4 + 1))
+#define CESR_FEED_ROOM_BINARY(length) (9 * ((size_t)(length) / 3 + 1))
+#define CESR_END_ROOM 5
+
+/* The rows that a piece or the end gave, counted from 0, in a buffer and the length written there. 1, or 0 where there is no such row, and
+ * then the row stays. */
+int cesr_fed_item(const uint8_t *items, size_t given, size_t index, struct cesr_item_row *row);
+int cesr_fed_refusal(const uint8_t *refusals, size_t given, size_t index, struct cesr_refusal_row *row);
+int cesr_fed_remainder(const uint8_t *out, size_t given, struct cesr_remainder_row *row);
 
 /* What answer holds after a comparison, CESR_COMPARED numbers; refused, all of it is 0. */
 enum cesr_compared {

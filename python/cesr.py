@@ -4,6 +4,10 @@
     report = cesr.judge("text", open("deck.cesr", "rb").read())
     report.passed, report.items, report.refusals, report.remainder
 
+    live = cesr.Pieces("text")                    # a stream that arrives in pieces
+    for item, refusal in live.feed(piece): ...    # the items that a piece completes
+    live.end().passed                             # the report of all that came
+
 Nothing here judges: every verdict, size, place and number is an answer of the library, which is lent memory. A stream is bytes, in the
 form "text" (characters of URL-safe Base64) or "binary"; offsets, sizes and places count characters or bytes, from 0. A stream that changes
 form at top level is judged by judge_mixed, in bytes. A call that is refused raises Refused, with the number and the place.
@@ -33,6 +37,7 @@ UNIT = _Forms(text=4, binary=3)
 
 # Lengths of what the library is lent, as in cesr.h.
 _TAG, _INFO, _ITEM, _COMPARED, _STATE, _INDEXED = 11, 7, 6, 5, 68, 7
+_PIECES = 87
 _UNFIT_LENGTH, _MALFORMED, _END = 12, 20, 255
 
 _byte, _size = ctypes.c_uint8, ctypes.c_size_t
@@ -113,6 +118,8 @@ _read_indexed = _Forms(
 _write_indexed = _both("write_indexed", _byte, _byte, _size, _size, _bytes, _size, _bytes, _size, _sizes)
 _group = _both("group", _byte, _size, _bytes, _size, _sizes)
 _walk = _both("walk", _bytes, _size, _sizes, _sizes, _sizes)
+_feed = _both("feed", _sizes, _bytes, _size, _bytes, _size, _bytes, _size, _sizes)
+_end = _both("end", _sizes, _bytes, _size, _sizes)
 
 
 def words(number):
@@ -239,6 +246,37 @@ def judge_second(form, stream):
     if form == "binary":
         given += (ctypes.create_string_buffer(max(4 * units, 1)), 4 * units)
     return Report(_filled(_second[form], 17 + 18 * units, *given))
+
+
+class Pieces:
+    """A stream that arrives in pieces: items are told as they come to their end, and the end gives the report of all that came, wherever
+    it was cut. It keeps the rows that it told and the library's state, and nothing of the stream."""
+
+    def __init__(self, form):
+        self.form, self._state = form, (_size * _PIECES)(UNIT[form])
+        self._items, self._refusals = bytearray(), bytearray()
+
+    def feed(self, piece):
+        """The items that a piece completes, each an Item with its Refusal or None. Raises Refused 1 where it passes the limit, and 13 after
+        the end; then nothing of it is taken in."""
+        piece = _plain(piece)
+        room, given = 9 * (_within(self.form, len(piece)) + 1), (_size * 2)()
+        rows, refused = ctypes.create_string_buffer(room), ctypes.create_string_buffer(room)
+        number = _feed[self.form](self._state, piece, len(piece), rows, room, refused, room, given)
+        if number:
+            raise Refused(number, 0)
+        first, rows, refused = len(self._items) // 9, rows.raw[: given[0]], refused.raw[: given[1]]
+        self._items += rows
+        self._refusals += refused
+        refusals = {row[0]: Refusal(*row) for row in struct.iter_unpack(">IBI", refused)}
+        items = (Item(index, *row) for index, row in enumerate(struct.iter_unpack(">IIB", rows), first))
+        return [(item, refusals.get(item.index)) for item in items]
+
+    def end(self):
+        """The report of all that came. No more pieces come: they are refused 13."""
+        rest = _filled(_end[self.form], 5, self._state)
+        sections = [(self._items, 9), (self._refusals, 9), (rest, 5)]
+        return Report(b"".join(struct.pack(">I", len(rows) // row) + rows for rows, row in sections))
 
 
 def compare(expected, report):

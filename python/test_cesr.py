@@ -69,6 +69,48 @@ class Judged(unittest.TestCase):
         self.assertEqual(refused(cesr.compare, b"", report.bytes), (20, 0))
 
 
+class Fed(unittest.TestCase):
+    def whole(self, form, stream, pieces):
+        live, told = cesr.Pieces(form), []
+        for piece in pieces:
+            told += live.feed(piece)
+        report = live.end()
+        self.assertEqual(report.bytes, cesr.judge(form, stream).bytes)
+        self.assertEqual([item for item, _ in told], report.items)
+        self.assertEqual([refusal for _, refusal in told if refusal], report.refusals)
+
+    def test_wherever_it_is_cut(self):
+        for name in ["first.cesr", "cut.cesr", "faults.cesr", "clean.cesr"]:
+            text = (SAMPLES / name).read_bytes()
+            for step in [1, 3, 4, 5, len(text)]:
+                self.whole("text", text, [text[at : at + step] for at in range(0, len(text), step)])
+        for cut in range(13):
+            self.whole("text", b"-AAB0AAAMAAB", [b"-AAB0AAAMAAB"[:cut], b"", b"-AAB0AAAMAAB"[cut:]])
+        self.whole("binary", b"\x30\0\1\x31\0\0\x30", [b"\x30\0", bytearray(b"\1\x31\0"), memoryview(b"\0\x30")])
+        self.whole("binary", b"", [])
+
+    def test_items_come_with_their_last_byte(self):
+        live = cesr.Pieces("text")
+        self.assertEqual(live.feed(b"MAABMQA"), [(cesr.Item(0, 0, 4, 0), None)])
+        self.assertEqual(live.feed(b"A"), [(cesr.Item(1, 4, 4, 8), cesr.Refusal(1, 8, 4))])
+        self.assertEqual(live.feed(b""), [])
+        self.assertFalse(live.end().passed)
+        self.assertEqual(refused(live.feed, b"MAAB"), (13, 0))
+        self.assertEqual(refused(live.end), (13, 0))
+
+    def test_the_limit(self):
+        for form in ["text", "binary"]:
+            live = cesr.Pieces(form)
+            live.feed(b"\xff" * cesr.LIMIT[form])
+            self.assertEqual(refused(live.feed, b"A"), (1, 0))
+            self.assertIsNotNone(live.end().remainder)
+
+    def test_what_is_no_piece_and_no_form(self):
+        for piece in [4, "MAAB", None]:
+            self.assertRaises(TypeError, cesr.Pieces("text").feed, piece)
+        self.assertRaisesRegex(ValueError, "a form is text or binary", cesr.Pieces, "T")
+
+
 class Converted(unittest.TestCase):
     def test_there_and_back(self):
         text = (SAMPLES / "clean.cesr").read_bytes()

@@ -8,7 +8,7 @@ if [ ! -f target/staticlib/libexports.a ]; then
 fi
 mkdir -p target/c
 build() { # NAME FLAGS...
-  for test in test edges beside; do
+  for test in test edges beside pieces; do
     "${CC:-cc}" -std=c11 -Wall -Wextra -Werror -pedantic -g -Iinclude "${@:2}" tests/c/$test.c c/*.c target/staticlib/libexports.a \
       -o "target/c/$test-$1"
   done
@@ -20,7 +20,7 @@ said() { # WHAT COMMAND...
   counts=$("${@:2}")
   echo "$1: $counts"
 }
-for test in test edges beside; do
+for test in test edges beside pieces; do
   said "$test" target/c/$test-plain
   said "$test, address and undefined behaviour sanitizers" target/c/$test-sanitized
   said "$test, valgrind" valgrind --quiet --error-exitcode=9 --leak-check=full --errors-for-leak-kinds=all target/c/$test-plain

@@ -7,7 +7,7 @@ if [ ! -f target/staticlib/libexports.a ]; then
   rt staticlib exports
 fi
 mkdir -p target/c
-for test in test edges beside; do
+for test in test edges beside pieces; do
   "${CC:-cc}" -std=c11 -Wall -Wextra -Werror -pedantic -O1 -g -Iinclude tests/c/$test.c c/*.c target/staticlib/libexports.a -o target/c/$test
   target/c/$test
 done

@@ -1,6 +1,7 @@
 // The public calls for C and Rust, on numbers and byte slices: a number, 0 for accepted, and what else there is to say behind
 // `answer`. Nothing is decided here.
 use exports_indexed::INDEXED;
+use exports_pieces_state::PIECES;
 use exports_values::INFO;
 use exports_values::STATE;
 use format::BinaryFound;
@@ -37,6 +38,9 @@ ghost use Rattle.instalments.specs.Instalments.{walkOn};
 ghost use Rattle.instalments.specs.Numbers.{pauseNumber, pausePlace};
 ghost use Rattle.exports_lent.specs.Answers.{stateBehind};
 ghost use Rattle.format.specs.declared.Form.the-variants.{Text, Binary};
+ghost use Rattle.pieces.specs.Calls.{feed, itemsLeft, refusalsLeft, finish, remainderLeft};
+ghost use Rattle.exports_pieces_state.specs.Numbers.{piecesIn};
+ghost use Rattle.exports_pieces.specs.Answers.{givenNumber, givenLengths, fedNumbers, closingNumber, closingLength, endedNumbers};
 ghost use Rattle.groups.specs.Grouping.{grouped, groupLeft};
 ghost use Rattle.groups.specs.Numbers.{groupedNumber, groupedValue};
 
@@ -425,6 +429,78 @@ pub extern "C" fn cesr_walk_on_binary(
     ensures { λ r. ⌜ now (state .exit) ≡ stateBehind (walkOn binary (now (stream .entry)) budget (walkOf (now (state .entry)))) (now (state .entry)) ⌝ }
 {
     exports_instalments::walk_on_binary(stream, state, budget, items, answer)
+}
+
+// ---- streams in pieces
+
+// A piece of a text. state: PIECES numbers; given: the lengths written to items and to refusals, or 0 and 0.
+#[no_mangle]
+pub extern "C" fn cesr_feed_text(
+    state: &mut [usize; PIECES],
+    piece: &[u8],
+    items: &mut [u8],
+    refusals: &mut [u8],
+    given: &mut [usize; 2],
+) -> u8
+    ensures { λ r. ⌜ r ≡ givenNumber (feed text (piecesIn (now (state .entry))) (now (piece .entry)) (length (now (items .entry))) (length (now (refusals .entry))) .given) ⌝ }
+    ensures { λ r. ⌜ now (given .exit) ≡ givenLengths (feed text (piecesIn (now (state .entry))) (now (piece .entry)) (length (now (items .entry))) (length (now (refusals .entry))) .given) ⌝ }
+    ensures { λ r. ⌜ now (state .exit) ≡ fedNumbers (feed text (piecesIn (now (state .entry))) (now (piece .entry)) (length (now (items .entry))) (length (now (refusals .entry))) .given) (feed text (piecesIn (now (state .entry))) (now (piece .entry)) (length (now (items .entry))) (length (now (refusals .entry))) .next) (now (state .entry)) ⌝ }
+    ensures { λ r. ⌜ piecesIn (now (state .exit)) ≡ feed text (piecesIn (now (state .entry))) (now (piece .entry)) (length (now (items .entry))) (length (now (refusals .entry))) .next ⌝ }
+    ensures { λ r. ⌜ now (items .exit) ≡ itemsLeft (feed text (piecesIn (now (state .entry))) (now (piece .entry)) (length (now (items .entry))) (length (now (refusals .entry))) .given) text (piecesIn (now (state .entry))) (now (piece .entry)) (now (items .entry)) ⌝ }
+    ensures { λ r. ⌜ now (refusals .exit) ≡ refusalsLeft (feed text (piecesIn (now (state .entry))) (now (piece .entry)) (length (now (items .entry))) (length (now (refusals .entry))) .given) text (piecesIn (now (state .entry))) (now (piece .entry)) (now (refusals .entry)) ⌝ }
+{
+    exports_pieces::feed_text(state, piece, items, refusals, given)
+}
+
+// The same of a binary.
+#[no_mangle]
+pub extern "C" fn cesr_feed_binary(
+    state: &mut [usize; PIECES],
+    piece: &[u8],
+    items: &mut [u8],
+    refusals: &mut [u8],
+    given: &mut [usize; 2],
+) -> u8
+    ensures { λ r. ⌜ r ≡ givenNumber (feed binary (piecesIn (now (state .entry))) (now (piece .entry)) (length (now (items .entry))) (length (now (refusals .entry))) .given) ⌝ }
+    ensures { λ r. ⌜ now (given .exit) ≡ givenLengths (feed binary (piecesIn (now (state .entry))) (now (piece .entry)) (length (now (items .entry))) (length (now (refusals .entry))) .given) ⌝ }
+    ensures { λ r. ⌜ now (state .exit) ≡ fedNumbers (feed binary (piecesIn (now (state .entry))) (now (piece .entry)) (length (now (items .entry))) (length (now (refusals .entry))) .given) (feed binary (piecesIn (now (state .entry))) (now (piece .entry)) (length (now (items .entry))) (length (now (refusals .entry))) .next) (now (state .entry)) ⌝ }
+    ensures { λ r. ⌜ piecesIn (now (state .exit)) ≡ feed binary (piecesIn (now (state .entry))) (now (piece .entry)) (length (now (items .entry))) (length (now (refusals .entry))) .next ⌝ }
+    ensures { λ r. ⌜ now (items .exit) ≡ itemsLeft (feed binary (piecesIn (now (state .entry))) (now (piece .entry)) (length (now (items .entry))) (length (now (refusals .entry))) .given) binary (piecesIn (now (state .entry))) (now (piece .entry)) (now (items .entry)) ⌝ }
+    ensures { λ r. ⌜ now (refusals .exit) ≡ refusalsLeft (feed binary (piecesIn (now (state .entry))) (now (piece .entry)) (length (now (items .entry))) (length (now (refusals .entry))) .given) binary (piecesIn (now (state .entry))) (now (piece .entry)) (now (refusals .entry)) ⌝ }
+{
+    exports_pieces::feed_binary(state, piece, items, refusals, given)
+}
+
+// The end of a text. answer: the length of the remainder's row, or 0.
+#[no_mangle]
+pub extern "C" fn cesr_end_text(
+    state: &mut [usize; PIECES],
+    out: &mut [u8],
+    answer: &mut usize,
+) -> u8
+    ensures { λ r. ⌜ r ≡ closingNumber (finish text (piecesIn (now (state .entry))) (length (now (out .entry))) .closing) ⌝ }
+    ensures { λ r. ⌜ now (answer .exit) ≡ closingLength (finish text (piecesIn (now (state .entry))) (length (now (out .entry))) .closing) ⌝ }
+    ensures { λ r. ⌜ now (state .exit) ≡ endedNumbers (finish text (piecesIn (now (state .entry))) (length (now (out .entry))) .closing) (finish text (piecesIn (now (state .entry))) (length (now (out .entry))) .next) (now (state .entry)) ⌝ }
+    ensures { λ r. ⌜ piecesIn (now (state .exit)) ≡ finish text (piecesIn (now (state .entry))) (length (now (out .entry))) .next ⌝ }
+    ensures { λ r. ⌜ now (out .exit) ≡ remainderLeft (finish text (piecesIn (now (state .entry))) (length (now (out .entry))) .closing) text (piecesIn (now (state .entry))) (now (out .entry)) ⌝ }
+{
+    exports_pieces::end_text(state, out, answer)
+}
+
+// The same of a binary.
+#[no_mangle]
+pub extern "C" fn cesr_end_binary(
+    state: &mut [usize; PIECES],
+    out: &mut [u8],
+    answer: &mut usize,
+) -> u8
+    ensures { λ r. ⌜ r ≡ closingNumber (finish binary (piecesIn (now (state .entry))) (length (now (out .entry))) .closing) ⌝ }
+    ensures { λ r. ⌜ now (answer .exit) ≡ closingLength (finish binary (piecesIn (now (state .entry))) (length (now (out .entry))) .closing) ⌝ }
+    ensures { λ r. ⌜ now (state .exit) ≡ endedNumbers (finish binary (piecesIn (now (state .entry))) (length (now (out .entry))) .closing) (finish binary (piecesIn (now (state .entry))) (length (now (out .entry))) .next) (now (state .entry)) ⌝ }
+    ensures { λ r. ⌜ piecesIn (now (state .exit)) ≡ finish binary (piecesIn (now (state .entry))) (length (now (out .entry))) .next ⌝ }
+    ensures { λ r. ⌜ now (out .exit) ≡ remainderLeft (finish binary (piecesIn (now (state .entry))) (length (now (out .entry))) .closing) binary (piecesIn (now (state .entry))) (now (out .entry)) ⌝ }
+{
+    exports_pieces::end_binary(state, out, answer)
 }
 
 // ---- expected verdicts and a report

@@ -35,20 +35,20 @@ use Rattle.walk_claims.specs.Streams.{placed-shift, from, from-on, judge
 use Rattle.walk_claims.specs.Streams.{framed-end, some-left, tail-left, none-left}
 
 -- the place in elements
-or-placed : (u : ℕ) (v w : Verdict) → orElse (λ m p. placed u (Refused m p)) v w ≡ andThen (placed u v) w
+pub or-placed : (u : ℕ) (v w : Verdict) → orElse (λ m p. placed u (Refused m p)) v w ≡ andThen (placed u v) w
 unfolding orElse andThen placed
 or-placed u Accepted w = refl
 or-placed u (Refused m p) w = refl
 
 module _ (d : Domain) (R : Reader d) (xs : List ℕ) where
-  abbrev s : List ℕ
+  abbrev pub s : List ℕ
   s = d .sextets xs
 
   -- the first refusal from a unit on
-  abbrev base : ℕ → Verdict
+  abbrev pub base : ℕ → Verdict
   base at = firstOf d (at * d .unit) (cut (frameIn d) (from d xs at))
 
-  at-refused : (at m p : ℕ) → at < unitsIn d xs → frameRuled (part s at (unitsIn d xs)) ≡ Unframed m p
+  pub at-refused : (at m p : ℕ) → at < unitsIn d xs → frameRuled (part s at (unitsIn d xs)) ≡ Unframed m p
       → base at ≡ placed (d .unit) (Refused m (4 * at + p))
   unfolding firstOf shift
   at-refused at m p lt e =
@@ -56,7 +56,7 @@ module _ (d : Domain) (R : Reader d) (xs : List ℕ) where
       (C.cut-refused (frameIn d) (frames d R) (from d xs at) (some-left d R xs at lt) (framed-refused d R xs at m p lt e))
       ∙ sym (placed-shift (d .unit) at (Refused m p))
 
-  at-item : (at : ℕ) (k : Kind) (h m : ℕ) → at < unitsIn d xs → frameRuled (part s at (unitsIn d xs)) ≡ Item k h m
+  pub at-item : (at : ℕ) (k : Kind) (h m : ℕ) → at < unitsIn d xs → frameRuled (part s at (unitsIn d xs)) ≡ Item k h m
       → base at ≡ andThen (shift (at * d .unit) (placed (d .unit) (judgeKind k h (part s at (at + m)) (group maxDepth)))) (base (at + m))
   unfolding firstOf
   at-item at k h m lt e =
@@ -70,7 +70,7 @@ module _ (d : Domain) (R : Reader d) (xs : List ℕ) where
         ← add-mul,
       )
 
-  at-cut : tailOf d xs ≡ true → base (unitsIn d xs) ≡ placed (d .unit) (Refused 4 (4 * unitsIn d xs))
+  pub at-cut : tailOf d xs ≡ true → base (unitsIn d xs) ≡ placed (d .unit) (Refused 4 (4 * unitsIn d xs))
   unfolding firstOf shift
   at-cut e =
       let z : 4 * unitsIn d xs + 0 ≡ 4 * unitsIn d xs = omega arith in
@@ -78,13 +78,13 @@ module _ (d : Domain) (R : Reader d) (xs : List ℕ) where
       (C.cut-refused (frameIn d) (frames d R) (from d xs (unitsIn d xs)) (tail-left d R xs e) (framed-end d R xs))
       ∙ sym (placed-shift (d .unit) (unitsIn d xs) (Refused 4 0)) ∙ ap (λ (p : ℕ). placed (d .unit) (Refused 4 p)) z
 
-  at-end : tailOf d xs ≡ false → base (unitsIn d xs) ≡ Accepted
+  pub at-end : tailOf d xs ≡ false → base (unitsIn d xs) ≡ Accepted
   unfolding firstOf
   at-end e =
       ap (λ (l : List ℕ). firstOf d (unitsIn d xs * d .unit) (cut (frameIn d) l)) (none-left d R xs e)
       ∙ ap (firstOf d (unitsIn d xs * d .unit)) (C.cut-nil (frameIn d) (frames d R))
 
-  firsts : Telling s (unitsIn d xs) (tailOf d xs) Verdict
+  unfoldable pub firsts : Telling s (unitsIn d xs) (tailOf d xs) Verdict
   firsts = record {
     stop = λ m p. placed (d .unit) (Refused m p);
     end = Accepted;

@@ -68,7 +68,7 @@ module _ (n : ℕ) where
 
   -- an item of m units with a header of h
   module _ (w : Walk) (f : Fits w n) (h m : ℕ) (some : h ≤ m) (room : w .at + m ≤ stopAt n (w .depth) (w .ends)) where
-    over-fits : Fits (overNext w m) n
+    pub over-fits : Fits (overNext w m) n
     unfolding movedTo
     over-fits =
         closed-fits (w .depth) (w .ends) (w .at + m) false (w .indexed) (record {
@@ -81,7 +81,7 @@ module _ (n : ℕ) where
           tabled = f .nest .tabled;
         })
 
-    into-fits : (b t : Bool) → w .depth < maxDepth → Fits (intoNext w h m b t) n
+    pub into-fits : (b t : Bool) → w .depth < maxDepth → Fits (intoNext w h m b t) n
     into-fits b t few = closed-fits (suc (w .depth)) (entered w h m b t .ends) (w .at + h) (entered w h m b t .first) t (record {
       full = length-set (w .ends) (w .depth) (w .at + m) ∙ f .nest .full;
       few = few;

@@ -156,7 +156,7 @@ module _ (s : List ℕ) (n : ℕ) (tail : Bool) (X : Type 0) (T : Telling s n ta
     top-frame xs e = rw e
 
     -- refused in framing, within d groups
-    rest-refused : (d m p : ℕ) → (d ≡ 0 → t ≡ false) → at < stopAt n d ends → stopAt n d ends ≤ n
+    pub rest-refused : (d m p : ℕ) → (d ≡ 0 → t ≡ false) → at < stopAt n d ends → stopAt n d ends ≤ n
         → frameNext t (pick (eqb d 0) true first) (part s at (stopAt n d ends)) ≡ Unframed m p
         → rest d ends t first at ≡ T .stop m (4 * at + p)
     unfolding rest stopAt orElse
@@ -184,7 +184,7 @@ module _ (s : List ℕ) (n : ℕ) (tail : Bool) (X : Type 0) (T : Telling s n ta
   -- ---- behind an item that is accepted, or a group that is opened
 
   -- all of the item, then what is behind it
-  abbrev onward : Walk → ℕ → Verdict → X
+  abbrev pub onward : Walk → ℕ → Verdict → X
   onward w m v = orElse (T .stop) (shift (4 * w .at) v) (rest (w .depth) (w .ends) (w .indexed) false (w .at + m))
 
   module _ (w : Walk) (f : Fits w n) (h m : ℕ) (some : h ≤ m) where
@@ -270,7 +270,7 @@ module _ (s : List ℕ) (n : ℕ) (tail : Bool) (X : Type 0) (T : Telling s n ta
     unfolding rest
     at-stop q = rw (none-open q, q)
 
-    before-stop : (w .at ≡ n → ⊥) → w .at < stopAt n (w .depth) (w .ends)
+    pub before-stop : (w .at ≡ n → ⊥) → w .at < stopAt n (w .depth) (w .ends)
     before-stop ne = ⊎-elim (f .ahead) (λ g. top (omega arith)) (lt-or-ge 0 (w .depth))
       where
         top : w .depth ≡ 0 → w .at < stopAt n (w .depth) (w .ends)
@@ -279,16 +279,16 @@ module _ (s : List ℕ) (n : ℕ) (tail : Bool) (X : Type 0) (T : Telling s n ta
             omega (arith, f .nest .reached)
 
     -- by depth
-    framed-by : (r : Framed) → framedHere s n tail w ≡ r
+    pub framed-by : (r : Framed) → framedHere s n tail w ≡ r
         → frameNext (w .indexed) (pick (eqb (w .depth) 0) true (w .first)) (part s (w .at) (stopAt n (w .depth) (w .ends))) ≡ r
     unfolding asked
     framed-by r e = rw (stop-level w n) at e
 
     -- with none open it is none
-    outermost : w .depth ≡ 0 → w .indexed ≡ false
+    pub outermost : w .depth ≡ 0 → w .indexed ≡ false
     outermost z = ⊎-elim (λ t. absurd (omega (arith, f .nest .tabled t))) (λ t. t) (whether (w .indexed))
 
-    only : (k : Kind) (h m : ℕ) → framedHere s n tail w ≡ Item k h m → w .indexed ≡ true → FramesIndexed (Item k h m)
+    pub only : (k : Kind) (h m : ℕ) → framedHere s n tail w ≡ Item k h m → w .indexed ≡ true → FramesIndexed (Item k h m)
     only k h m e t =
         subst FramesIndexed (ap (λ (b : Bool). frameNext b (asked w) (part s (w .at) (stopOf w n))) (sym t) ∙ e)
         (indexed-only (asked w) (part s (w .at) (stopOf w n)))
@@ -300,12 +300,12 @@ module _ (s : List ℕ) (n : ℕ) (tail : Bool) (X : Type 0) (T : Telling s n ta
     item-left k h m ne e =
         rest-item (w .ends) (w .indexed) (w .first) (w .at) long (w .depth) k h m outermost (before-stop ne) (stop-in w n (f .nest)) (framed-by (Item k h m) e)
 
-    refused-tells : (k : Kind) (h m q p : ℕ) → (w .at ≡ n → ⊥) → framedHere s n tail w ≡ Item k h m
+    pub refused-tells : (k : Kind) (h m q p : ℕ) → (w .at ≡ n → ⊥) → framedHere s n tail w ≡ Item k h m
         → judgedHere s n tail w k h m ≡ Refused q p → left w ≡ T .stop q (4 * w .at + p)
     unfolding orElse shift
     refused-tells k h m q p ne e v = item-left k h m ne e ∙ rw v
 
-    item-tells : (k : Kind) (h m : ℕ) → (w .at ≡ n → ⊥) → framedHere s n tail w ≡ Item k h m
+    pub item-tells : (k : Kind) (h m : ℕ) → (w .at ≡ n → ⊥) → framedHere s n tail w ≡ Item k h m
         → judgedHere s n tail w k h m ≡ Accepted → left w ≡ emitted (w .depth) (w .at) m (left (nextOf w k h m))
     unfolding orElse shift
     item-tells k h m ne e v =

@@ -7,7 +7,7 @@
 //! `oracle`.
 //!
 //! The report and the two conversions exist for lent buffers (`write_report`,
-//! `to_binary`, `to_text`); `report` allocates its answer, and `Walk` keeps its place. `plain` holds the
+//! `to_binary`, `to_text`); `report` allocates its answer, `Walk` keeps its place, and `Pieces` is fed. `plain` holds the
 //! conversions as a plain loop. `report_mixed` and `write_report_mixed` are of mixed streams.
 
 #![forbid(unsafe_code)]
@@ -17,12 +17,14 @@ mod codes;
 mod convert;
 mod judge;
 mod mixed;
+mod pieces;
 mod plain;
 mod report;
 mod walk;
 
 pub use convert::{to_binary, to_text};
 pub use mixed::{report_mixed, write_report_mixed};
+pub use pieces::Pieces;
 pub use plain::{plain_to_binary, plain_to_text};
 pub use report::{report, write_report};
 pub use walk::{Pause, Walk};

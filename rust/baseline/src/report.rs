@@ -7,7 +7,7 @@
 //! the next one is.
 
 use crate::alphabet::{self, first_stranger};
-use crate::codes::{Class, Row as Code};
+use crate::codes::{self, Class, Row as Code};
 use crate::judge::{contents, frame, primitive, signatures, Around, Frame, Refused, Unit};
 use crate::{Form, Refusal, BINARY_LIMIT, TEXT_LIMIT};
 
@@ -35,18 +35,18 @@ pub fn write_report(stream: &[u8], form: Form, out: &mut [u8]) -> Result<usize, 
 
 /// Where the next character outside the alphabet stands; binary has none.
 #[derive(Clone, Copy)]
-struct Strangers<'s> {
+pub struct Strangers<'s> {
     text: &'s [u8],
     next: usize,
 }
 
 impl Strangers<'_> {
-    const NONE: Self = Strangers {
+    pub const NONE: Self = Strangers {
         text: &[],
         next: usize::MAX,
     };
 
-    fn of(text: &[u8]) -> Strangers<'_> {
+    pub fn of(text: &[u8]) -> Strangers<'_> {
         let next = first_stranger(text, 0).unwrap_or(usize::MAX);
         Strangers { text, next }
     }
@@ -71,7 +71,7 @@ impl Strangers<'_> {
 
 /// The rows of the three sections.
 #[derive(Default)]
-struct Rows {
+pub struct Rows {
     items: Vec<Row>,
     refusals: Vec<Row>,
     remainder: Option<(usize, u8)>,
@@ -117,6 +117,72 @@ impl Rows {
     }
 }
 
+/// For a stream in pieces.
+impl Rows {
+    pub fn count(&self) -> usize {
+        self.items.len()
+    }
+
+    /// The number that framing failed with.
+    pub fn failed(&self) -> Option<u8> {
+        self.remainder.map(|(_, number)| number)
+    }
+
+    /// Where the items of so many elements end.
+    pub fn end(&self, length: usize) -> usize {
+        self.remainder.map_or(length, |(offset, _)| offset)
+    }
+
+    /// The rows as those of a stream in which so much stands before them.
+    pub fn tell(&self, start: usize, index: usize, items: &mut Vec<u8>, refusals: &mut Vec<u8>) {
+        items.extend(self.items.iter().flat_map(|row| {
+            let [a, b, c, d, rest @ ..] = *row;
+            let [a, b, c, d] = four(quad([a, b, c, d]) + start);
+            let [e, f, g, h, verdict] = rest;
+            [a, b, c, d, e, f, g, h, verdict]
+        }));
+        refusals.extend(self.refusals.iter().flat_map(|row| {
+            let [a, b, c, d, number, place @ ..] = *row;
+            let [a, b, c, d] = four(quad([a, b, c, d]) + index);
+            let [e, f, g, h] = four(quad(place) + start);
+            [a, b, c, d, number, e, f, g, h]
+        }));
+    }
+}
+
+/// How many units the item that starts `left`, of which not all is there, asks
+/// for: what its header says, else one more.
+pub fn asked<U: Unit>(left: &[U]) -> usize {
+    let Some(unit) = left.first() else {
+        return 1;
+    };
+    let (code, low) = unit.halves();
+    let row = Code::of(code);
+    match row.class {
+        Class::More => large(left),
+        _ => row.behind(low) + 1,
+    }
+}
+
+/// The same by a header of two units, or of one that `1AA` opens.
+fn large<U: Unit>(left: &[U]) -> usize {
+    let (code, low) = left[0].halves();
+    if code == codes::ONE_A {
+        return codes::ONE
+            .get(usize::from(low))
+            .map_or(1, |size| usize::from(*size));
+    }
+    let Some(second) = left.get(1) else {
+        return 2;
+    };
+    let digits = second.bits() as usize;
+    match code {
+        codes::GENUS => 2,
+        codes::LARGE_GROUP => 2 + (usize::from(low & 63) << 24 | digits),
+        _ => 2 + digits,
+    }
+}
+
 /// Writes a count and the rows behind it, and gives the rest of the buffer.
 pub(crate) fn section<'o>(out: &'o mut [u8], count: usize, rows: &[u8]) -> &'o mut [u8] {
     let (number, out) = out.split_at_mut(4);
@@ -124,6 +190,10 @@ pub(crate) fn section<'o>(out: &'o mut [u8], count: usize, rows: &[u8]) -> &'o m
     let (part, out) = out.split_at_mut(rows.len());
     part.copy_from_slice(rows);
     out
+}
+
+fn quad(bytes: [u8; 4]) -> usize {
+    u32::from_be_bytes(bytes) as usize
 }
 
 /// Four bytes, big-endian. No offset or count here is above 4,194,304.
@@ -149,7 +219,7 @@ fn refusal_row<U: Unit>(index: usize, refused: Refused, strangers: &Strangers) -
 }
 
 /// Frames and judges the top-level items of whole units.
-fn judge_all<U: Unit>(units: &[U], mut strangers: Strangers) -> Rows {
+pub fn judge_all<U: Unit>(units: &[U], mut strangers: Strangers) -> Rows {
     let mut rows = Rows::default();
     let mut open = Vec::new();
     let mut at = 0;

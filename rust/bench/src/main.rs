@@ -7,6 +7,7 @@
 mod conversion;
 mod engines;
 mod mixed;
+mod pieces;
 mod race;
 mod reports;
 mod table;
@@ -30,6 +31,7 @@ fn main() {
     races.extend(engines::races());
     races.extend(mixed::races());
     races.extend(walks::races());
+    races.extend(pieces::races());
     let words: Vec<String> = std::env::args().skip(1).collect();
     let chosen = |title: &str| words.iter().all(|word| title.contains(word.as_str()));
     races.retain(|race| chosen(&race.title));

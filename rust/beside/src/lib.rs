@@ -6,6 +6,7 @@
 
 #![forbid(unsafe_code)]
 
+mod pieces;
 mod walk;
 
 use oracle::indexed::{self, IndexedItem};
@@ -13,6 +14,7 @@ use oracle::primitive::{self, Named};
 use oracle::registry::Indexed as Row;
 use oracle::report::write_report;
 use oracle::{convert, group, mixed, second, Form};
+pub use pieces::{fits_binary, fits_text, start_binary, start_text, Fed};
 use proved::{Counts, Indexed, IndexedInfo, Info, Primitive, Refusal, Tag};
 pub use walk::{walk_binary, walk_on_binary, walk_on_text, walk_text};
 

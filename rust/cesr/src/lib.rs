@@ -3,13 +3,15 @@
 //! Nothing here judges. Every verdict, size, place and number is an answer of
 //! the proved library, which is linked in as a static archive; this crate
 //! lends it memory and gives its answers types. Its calls take any bytes of
-//! any length and panic on none of them. It asks for `alloc` and no `std`, and
+//! any length and panic on none of them. It asks for `alloc` and no `std`, unless
+//! the feature `std` is asked for, with which [`Live`] is a `std::io::Write`; and
 //! has no unsafe code: the foreign calls stand in the crate `proved`.
 //!
 //! | To | Call |
 //! | --- | --- |
 //! | judge a stream | [`judge`], [`judge_into`], [`judge_with`]: a [`Report`] with its rows |
 //! | judge one of text, binary and JSON by turns | [`judge_mixed`] and its `_into` and `_with` forms: a [`MixedReport`] |
+//! | judge it while it arrives | [`Live`]: fed in pieces, a [`Report`] at the end; [`Pieces`]: its state alone, for lent buffers |
 //! | judge it by the second engine | [`judge_second`] and its `_into` and `_with` forms |
 //! | hold two answers against each other | [`difference`]: a [`Difference`] or none |
 //! | convert a stream | [`to_binary`], [`to_text`] and their `_into` forms |
@@ -72,6 +74,8 @@
 )]
 
 extern crate alloc;
+#[cfg(feature = "std")]
+extern crate std;
 
 mod code;
 mod convert;
@@ -79,8 +83,10 @@ mod expectation;
 mod form;
 mod group;
 mod indexed;
+mod live;
 mod mixed;
 mod names;
+mod pieces;
 mod primitive;
 mod refusal;
 mod report;
@@ -96,15 +102,17 @@ pub use indexed::{
     read_indexed, read_indexed_text_into, write_indexed, write_indexed_into, IndexedCode,
     IndexedItem, ParseIndexedCodeError,
 };
+pub use live::Live;
 pub use mixed::{
     judge_mixed, judge_mixed_into, judge_mixed_with, ItemForm, JsonHead, MixedItem, MixedItems,
     MixedReport,
 };
+pub use pieces::{Pieces, Told, PIECES_BYTES};
 pub use primitive::{
     read, read_binary_into, read_text_into, write, write_into, write_variable, write_variable_into,
     Primitive, Tag, Value,
 };
-pub use proved::{STATE, STATE_INDEXED, STATE_OPEN, STATE_POSITION};
+pub use proved::{PIECES, STATE, STATE_INDEXED, STATE_OPEN, STATE_POSITION};
 pub use refusal::{Number, Refusal};
 pub use report::{
     judge, judge_into, judge_with, Item, Items, RefusalRow, Refusals, Remainder, Report, Verdict,

@@ -38,9 +38,9 @@ numbers! {
     /// Writer: raw length, tag length, index or ondex unfit for the code.
     UnfitLength = 12,
     "writer: raw length, tag length, index or ondex unfit for the code";
-    /// Walk state unfit for the stream.
+    /// Walk state unfit for the stream, or state of pieces unfit or ended.
     UnfitState = 13,
-    "walk state unfit for the stream";
+    "walk state unfit for the stream, or state of pieces unfit or ended";
     /// Primitive asked for, group or genus/version found.
     NotAPrimitive = 14,
     "primitive asked for, group or genus/version found";

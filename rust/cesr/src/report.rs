@@ -5,8 +5,8 @@ use alloc::borrow::Cow;
 use alloc::vec;
 use alloc::vec::Vec;
 use core::fmt;
-use core::iter::{Enumerate, FusedIterator};
-use core::ops::Range;
+use core::iter::{FusedIterator, Zip};
+use core::ops::{Range, RangeFrom};
 use core::slice::ChunksExact;
 
 /// Bytes of a row of items or refusals.
@@ -131,7 +131,7 @@ impl<'a> Report<'a> {
 
     /// The top-level items in stream order.
     pub fn items(&self) -> Items<'_> {
-        Items(self.sections().items.chunks_exact(ROW).enumerate())
+        Items::from(0, self.sections().items)
     }
 
     /// The item with this index, from 0.
@@ -380,7 +380,14 @@ impl Remainder {
 
 /// The items of a report in stream order.
 #[derive(Clone, Debug)]
-pub struct Items<'r>(Enumerate<ChunksExact<'r, u8>>);
+pub struct Items<'r>(Zip<RangeFrom<usize>, ChunksExact<'r, u8>>);
+
+impl<'r> Items<'r> {
+    /// Rows of which the first is of the item with this index.
+    pub(crate) fn from(first: usize, rows: &'r [u8]) -> Items<'r> {
+        Items((first..).zip(rows.chunks_exact(ROW)))
+    }
+}
 
 impl Iterator for Items<'_> {
     type Item = Item;

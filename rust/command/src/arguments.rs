@@ -18,7 +18,7 @@ const COMMANDS: &str = "judge, convert, show, group, write, manifest, compare, e
 #[rustfmt::skip]
 const JUDGE: &[&str] = &[
     "--form", MIXED, "--engine", "--manifest", "--all", "--json", "--report", "--html", "--junit",
-    "--sarif",
+    "--sarif", "--live",
 ];
 
 #[rustfmt::skip]
@@ -54,6 +54,8 @@ pub struct Judge {
     pub form: Option<Kind>,
     pub engine: Engine,
     pub style: Style,
+    /// While it is being written; of one source, by the first engine, unlisted.
+    pub live: bool,
     pub manifest: Option<PathBuf>,
     /// Files that are written beside the lines.
     pub pages: Vec<Asked>,
@@ -140,6 +142,7 @@ struct Given {
     all: bool,
     json: bool,
     report: bool,
+    live: bool,
     help: bool,
     sources: Vec<Source>,
 }
@@ -255,6 +258,7 @@ impl Given {
             "--html" | "--junit" | "--sarif" => Asked::add(&mut self.pages, name, valued()?)?,
             "--all" => self.all = true,
             "--json" => self.json = true,
+            "--live" => self.live = true,
             _ => self.report = true,
         }
         match value {
@@ -349,6 +353,9 @@ fn judge(given: Given) -> Result<Task, String> {
         (false, false, true) => Style::Report,
         _ => return Err("--report goes with neither --json nor --all".to_string()),
     };
+    if given.live {
+        is_live(&given)?;
+    }
     if given.form == Some(Kind::Mixed) && given.engine.is_some_and(|one| one != Engine::First) {
         return Err(format!(
             "--engine goes not with --form mixed: {FIRST_ALONE}"
@@ -374,10 +381,25 @@ fn judge(given: Given) -> Result<Task, String> {
         form: given.form,
         engine: given.engine.unwrap_or_default(),
         style,
+        live: given.live,
         manifest: given.manifest.map(PathBuf::from),
         pages: given.pages,
         sources,
     }))
+}
+
+/// What is judged while it is being written is one stream, by one engine.
+fn is_live(given: &Given) -> Result<(), String> {
+    if given.engine.is_some() || given.manifest.is_some() {
+        return Err("--live goes with neither --engine nor --manifest".to_string());
+    }
+    if given.form == Some(Kind::Mixed) {
+        return Err("--live goes not with --form mixed".to_string());
+    }
+    match given.sources.len() {
+        0 | 1 => Ok(()),
+        _ => Err("--live is of one stream".to_string()),
+    }
 }
 
 /// Where a command writes to; `-` is standard output.

@@ -7,7 +7,7 @@ pub const HELP: &str = "\
 cesr: judges, converts, shows, compares and writes CESR streams
 
   cesr judge [--form text|binary|mixed] [--engine first|second|both]
-             [--manifest LIST] [--all] [--json | --report]
+             [--manifest LIST] [--live] [--all] [--json | --report]
              [--html FILE] [--junit FILE] [--sarif FILE] [--] [FILE...]
   cesr convert [--to text|binary] [--out FILE] [--] [FILE]
   cesr show [--form text|binary|mixed] OFFSET [--] [FILE]
@@ -35,6 +35,9 @@ judge     One FILE: items, accepted, refused, remainder; then refused items, eig
           --manifest  the streams of LIST, or the given ones held against it: 0
                       only if every stream of LIST is there, is the one that is
                       listed, and passed
+          --live      one stream, of standard input or a pipe, while it is being
+                      written: items as they come to their end, then what judge
+                      says of the whole; with --json a line for each row too
           Beside that, a file that is replaced when all is judged:
           --html      a page to look at and print, with a drawing of each stream
           --junit     a suite for build servers, a case for each stream

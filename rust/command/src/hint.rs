@@ -83,8 +83,8 @@ const WORDS: &[(Number, &str, &str)] = &[
     ),
     (
         Number::UnfitState,
-        "The walk can't go on from this state.",
-        "the state of another stream, or one that is damaged",
+        "The walk, or a stream in pieces, can't go on from this state.",
+        "the state of another stream, one that is damaged, or a piece after the end",
     ),
     (
         Number::NotAPrimitive,

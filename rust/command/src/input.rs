@@ -168,3 +168,19 @@ fn filled(
     }
     Ok(false)
 }
+
+/// A source that is read as it comes, and the watch over it.
+pub fn opened(source: &Source) -> io::Result<(Box<dyn Read>, Watch)> {
+    match source {
+        Source::Standard => {
+            let standard = io::stdin();
+            let watch = Watch::begin(File::from(standard.as_fd().try_clone_to_owned()?), None)?;
+            Ok((Box::new(standard.lock()), watch))
+        }
+        Source::File(path) => {
+            let file = File::open(path)?;
+            let watch = Watch::begin(file.try_clone()?, Some(path))?;
+            Ok((Box::new(file), watch))
+        }
+    }
+}

@@ -4,6 +4,7 @@ use crate::arguments::{Judge, Style};
 use crate::complain;
 use crate::expected::{self, Expected};
 use crate::json;
+use crate::live;
 use crate::name::shown;
 use crate::outcome::{no_memory, Found, Outcome};
 use crate::pages::{Call, Pages};
@@ -48,7 +49,10 @@ pub fn run(task: &Judge, out: &mut dyn Write) -> io::Result<Standing> {
         progress.at(index.saturating_add(1), count);
         progress.tick(|| "judging".to_string());
         let started = Instant::now();
-        let outcome = Outcome::of(case, task.form, task.engine, &mut progress);
+        let outcome = match task.live {
+            true => live::outcome(case, task, out, (paint, &mut progress))?,
+            false => Outcome::of(case, task.form, task.engine, &mut progress),
+        };
         let outcome = one(task.style, alone, out, outcome, paint)?;
         // A stream's line leaves whole, also where many write to one file.
         out.flush()?;

@@ -100,7 +100,7 @@ impl Judged {
     }
 }
 
-fn formed(form: Form, item: Item) -> MixedItem {
+pub fn formed(form: Form, item: Item) -> MixedItem {
     let Item {
         index,
         offset,

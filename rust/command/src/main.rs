@@ -37,6 +37,7 @@ mod judged;
 mod junit;
 mod kind;
 mod listing;
+mod live;
 mod manifest;
 mod markup;
 mod memory;

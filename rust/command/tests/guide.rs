@@ -82,7 +82,7 @@ fn commands_of_the_guide_print_what_it_shows() {
     let guide = page("docs/GUIDE.md");
     let programs = blocks(&guide, "c");
     let blocks = blocks(&guide, "console");
-    assert!(blocks.len() >= 14 && programs.len() == 3);
+    assert!(blocks.len() >= 14 && programs.len() == 4);
     // The blocks stand in one place, as a reader's would.
     let folder = place();
     for program in programs {

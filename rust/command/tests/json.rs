@@ -66,6 +66,8 @@ fn the_guide_has_every_key() {
     let mut ran = run(&[&call, &names[..]].concat());
     let mixed = run(&["judge", "--json", "--all", "samples/mixed.cesr"]);
     ran.out.extend(mixed.out);
+    ran.out
+        .extend(run(&["judge", "--json", "--live", "samples/cut.cesr"]).out);
     let script = "
 import json, re, sys
 used = set()

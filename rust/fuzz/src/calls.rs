@@ -3,7 +3,7 @@
 
 use crate::fence::{Edge, Fence, LONGEST};
 use crate::input::{Call, Front, Made, Room, LONG, LONG_UNITS};
-use crate::long;
+use crate::{long, pieces};
 use proved::{
     Indexed, Info, Pause, Primitive, Refusal, State, Tag, INDEXED, INFO, INFO_TEXT, STATE,
 };
@@ -16,13 +16,13 @@ pub const NUMBER: usize = 0xAAAA;
 
 /// Fences for the stream, the buffer, the working room, the tag, and the
 /// numbers.
-struct Memory {
-    edge: Edge,
-    stream: Fence,
-    out: Fence,
-    work: Fence,
+pub struct Memory {
+    pub edge: Edge,
+    pub stream: Fence,
+    pub out: Fence,
+    pub work: Fence,
     tag: Fence,
-    state: Fence,
+    pub state: Fence,
     numbers: Fence,
 }
 
@@ -86,6 +86,10 @@ pub fn one(input: &[u8]) {
                 second(memory, form, [work, room], &front.stream(form, long));
             }
             Call::Mixed => mixed(memory, room, &front.stream(form, long)),
+            Call::Pieces => {
+                let cut = front.cut(room);
+                pieces::fed(memory, form, &cut, &front.stream(form, long));
+            }
             _ => stream(memory, call, form, room, &front.stream(form, long)),
         }
     });

@@ -2,9 +2,9 @@
 //!
 //! | Byte | Meaning |
 //! | --- | --- |
-//! | 0 | call (bits 0 to 2), binary (bit 3), buffers against the page before them (bit 4), one too long (bits 5 to 7 all set), a comparison (bits 6 and 7 alone of these set), a group (bits 5 and 7 alone), a report by the second engine (bits 5 and 6 alone), a mixed report (bit 7 alone) |
+//! | 0 | call (bits 0 to 2), binary (bit 3), buffers against the page before them (bit 4), one too long (bits 5 to 7 all set), a comparison (bits 6 and 7 alone of these set), a group (bits 5 and 7 alone), a report by the second engine (bits 5 and 6 alone), a mixed report (bit 7 alone), a stream in pieces (bit 5 alone) |
 //! | 1 | room: just enough, one less, none, nine more, or the number itself; of a walk the budget: without bound, 1, 0, 64, or the number itself; 255 just enough, and the stream is a long one |
-//! | then | comparison: how the two are made (bits 0 to 2 of byte 0), the number of verdicts expected, these, and a remainder's number, or the file's length and the file; read: two bytes of offset; walk from a state: the state; write: the primitive, and an indexed item of the same bytes; group: its letter, and two bytes of length, 0 for the body's own; second engine: the working room, as byte 1 |
+//! | then | comparison: how the two are made (bits 0 to 2 of byte 0), the number of verdicts expected, these, and a remainder's number, or the file's length and the file; read: two bytes of offset; walk from a state: the state; write: the primitive, and an indexed item of the same bytes; group: its letter, and two bytes of length, 0 for the body's own; second engine: the working room, as byte 1; pieces: the room of refusals, as byte 1, the number of pieces before the last (bits 0 to 3) and whether the state is damaged (bit 7), their lengths, and for a damaged one the piece before which, the place and two bytes of number |
 //! | then | the stream, or the raw value or text, or the body; of a long stream the last unit is taken over and over |
 
 use crate::fence::{Edge, LONGEST};
@@ -44,6 +44,8 @@ pub enum Call {
     Second,
     /// A mixed report.
     Mixed,
+    /// A stream in pieces.
+    Pieces,
 }
 
 pub const CALLS: [Call; 8] = [
@@ -63,6 +65,8 @@ pub const COMPARE: u8 = 0xC0;
 pub const GROUP: u8 = 0xA0;
 pub const SECOND: u8 = 0x60;
 pub const MIXED: u8 = 0x80;
+/// The same of a stream in pieces.
+pub const PIECES: u8 = 0x20;
 
 /// How the two of a comparison are made: the file of verdicts or as bytes, the
 /// report of a stream or as bytes.
@@ -151,6 +155,7 @@ impl Front<'_> {
             GROUP => Call::Group,
             SECOND => Call::Second,
             MIXED => Call::Mixed,
+            PIECES => Call::Pieces,
             _ => CALLS[usize::from(first % 8)],
         };
         let form = [Form::Text, Form::Binary][usize::from(first >> 3 & 1)];

@@ -13,6 +13,7 @@ pub mod input;
 mod long;
 #[cfg(feature = "libfuzzer")]
 mod mutate;
+mod pieces;
 pub mod seeds;
 
 pub use calls::one;

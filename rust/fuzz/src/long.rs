@@ -4,6 +4,7 @@
 
 use crate::calls::{HELD, NUMBER};
 use crate::input::{Call, Front, Room};
+use beside::Fed;
 use proved::{Primitive, Refusal, INDEXED, INFO};
 use std::sync::OnceLock;
 use streams::table::TEXT;
@@ -31,13 +32,42 @@ pub fn one(call: Call, form: Form, lent_room: Room, mut front: Front) {
         Call::Write => write(form, room, front),
         Call::All => {
             group(form, stream, front.byte());
+            pieces(form, stream, lent_room == Room::More);
             lent(form, stream, room);
         }
-        Call::Report | Call::Convert | Call::Compare | Call::Group | Call::Second | Call::Mixed => {
+        Call::Report
+        | Call::Convert
+        | Call::Compare
+        | Call::Group
+        | Call::Second
+        | Call::Mixed
+        | Call::Pieces => {
             lent(form, stream, room);
             second(form, stream, room);
             mixed(room);
         }
+    }
+}
+
+/// All of it in one piece; and, if it is asked for, of a text, in which zeros are a
+/// remainder, the last byte by itself.
+fn pieces(form: Form, stream: &[u8], is_cut: bool) {
+    let (mut state, mut told) = match form {
+        Form::Text => (beside::start_text(), Fed::text()),
+        Form::Binary => (beside::start_binary(), Fed::binary()),
+    };
+    let feed = match form {
+        Form::Text => proved::feed_text,
+        Form::Binary => proved::feed_binary,
+    };
+    let (front, last) = stream.split_at(stream.len() - 1);
+    let rest: &[&[u8]] = match form {
+        Form::Text if is_cut => &[front, last, &[]],
+        _ => &[],
+    };
+    for piece in [&[stream, &[]], rest].concat() {
+        let answer = feed(&mut state, piece, &mut [], &mut []);
+        assert_eq!(answer, told.feed(piece, &mut [], &mut []));
     }
 }
 

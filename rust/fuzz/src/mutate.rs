@@ -1,7 +1,7 @@
 //! Changes of an input that know what a stream is: half of them are the ways
 //! of damage of `streams`, or an accepted item put in; the others libFuzzer's.
 
-use crate::input::{Call, Front, LONG};
+use crate::input::{Call, Front, Room, LONG};
 use crate::seeds::{long_group, writes};
 use proved::MAX_DEPTH;
 use streams::body::{body, Body};
@@ -66,6 +66,8 @@ fn changed(random: &mut Random, input: &mut [u8], size: usize) -> Option<usize> 
         Call::Group => drop((front.byte(), front.number())),
         Call::Second => drop(front.room()),
         Call::Mixed if random.once_in(2) => return another_mixed(random, front.0.to_vec(), input),
+        Call::Pieces if random.once_in(3) => return another_cut(random, input, size),
+        Call::Pieces => drop(front.cut(Room::Exact)),
         _ if random.once_in(400) => return long_stream(random, form, input),
         _ => {}
     }
@@ -165,6 +167,17 @@ fn another_mixed(random: &mut Random, mut made: Vec<u8>, input: &mut [u8]) -> Op
         }
     }
     replaced(input, 2, &made)
+}
+
+/// One byte of how a stream is cut, of its rooms, or of what is damaged.
+fn another_cut(random: &mut Random, input: &mut [u8], size: usize) -> Option<usize> {
+    let place = 1 + random.below(size.min(20) - 1);
+    input[place] = match random.below(3) {
+        0 => random.below(6) as u8,
+        1 => 128 + random.below(16) as u8,
+        _ => random.byte(),
+    };
+    Some(size)
 }
 
 /// Where an input to write has its raw value's length.

@@ -2,9 +2,10 @@
 //! for few units too and around 4,096, groups around the depth limit, streams so
 //! long that conversion goes by its tables, a primitive and an indexed item of
 //! every code to write, bodies of every kind and letter for a group, mixed streams,
-//! some states, some comparisons, some rooms for the second engine.
+//! some states, some comparisons, some rooms for the second engine, streams in
+//! pieces.
 
-use crate::input::{Call, CALLS, COMPARE, GROUP, LONG, MIXED, SECOND};
+use crate::input::{Call, CALLS, COMPARE, GROUP, LONG, MIXED, PIECES, SECOND};
 use streams::body::{body, Body, KINDS};
 use streams::damage::GENUS_CODES;
 use streams::expectation::{file, report};
@@ -41,6 +42,7 @@ pub fn seeds() -> Vec<Vec<u8>> {
         seeds.extend(states(form));
         seeds.extend(groups(form));
         seeds.extend(seconds(form));
+        seeds.extend(pieces(form));
         for header in [&b"--JAABAA"[..], b"--AAAA__", b"7AABABAA", b"9AABAA__"] {
             let made = form.of_text(&[header, b"AAAA"].concat());
             seeds.push([&[choice(Call::All, form), LONG], &made[..]].concat());
@@ -191,6 +193,33 @@ fn mixed_streams() -> Vec<Vec<u8>> {
         b"{\"v\":\"KERI10JSON004000_    ",
     ] {
         seeds.push(seed(LONG, long));
+    }
+    seeds
+}
+
+/// A stream of two items and a remainder in pieces of one element, of a unit and
+/// of any; each place of a state with some numbers, and its buffers in every room.
+fn pieces(form: Form) -> Vec<Vec<u8>> {
+    let first = PIECES | u8::from(form == Form::Binary) << 3;
+    let made = form.of_text(b"-AAB0AAAMAAB--KAABAA6BAA_AAA");
+    let head = |room: u8, more: u8, cut: &[u8]| {
+        [&[first, room, more, cut.len() as u8], cut, &made].concat()
+    };
+    let unit = form.unit() as u8;
+    let mut seeds = vec![
+        head(0, 0, &[1; 15]),
+        head(0, 0, &[unit; 15]),
+        head(0, 0, &[2 * unit - 1, 0, 0, unit + 2]),
+        head(0, 0, &[]),
+    ];
+    for room in 0..4 {
+        seeds.extend((0..4).map(|more| head(room, more, &[3 * unit, unit])));
+    }
+    for place in 0..proved::PIECES as u8 {
+        for number in [[0, 0], [0, 1], [0, 5], [0xFF, 0xFF]] {
+            let damage = [0, 0, 0x81, unit + 1, 1, place];
+            seeds.push([&[first], &damage[..], &number, &made].concat());
+        }
     }
     seeds
 }

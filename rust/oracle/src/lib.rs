@@ -21,6 +21,7 @@ pub mod indexed;
 pub mod instalments;
 pub mod judge;
 pub mod mixed;
+pub mod pieces;
 pub mod primitive;
 pub mod refusal;
 pub mod registry;

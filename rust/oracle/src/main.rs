@@ -5,6 +5,7 @@ use oracle::form::Form;
 use oracle::group;
 use oracle::indexed::{self, IndexedItem};
 use oracle::mixed;
+use oracle::pieces::Pieces;
 use oracle::primitive::{self, Named, Primitive, Tag};
 use oracle::refusal::Refusal;
 use oracle::report::{report, write_report};
@@ -24,6 +25,9 @@ usage, with FORM = text or binary; the stream comes from standard input:
   oracle read-indexed FORM OFFSET [--room N]
                                       one line: code=C index=N ondex=N raw=HEX size=N
   oracle walk FORM                    one line an item: OFFSET SIZE DEPTH CODE
+  oracle pieces FORM SIZE             the stream in pieces of SIZE bytes: a line for
+                                      each piece and the end, with the rows that it
+                                      gives in hexadecimal, `-` for none
   oracle group FORM LETTER [--length N] [--room N]
                                       the body in a group; N characters or bytes of
                                       it, in a buffer of N
@@ -104,6 +108,7 @@ fn run(words: &[Vec<u8>]) -> Answer {
         [b"write-indexed", name, code] => run_write_indexed(form(name)?, code, &options),
         [b"group", name, letter] => run_group(form(name)?, letter, &options),
         [b"walk", name] => run_walk(form(name)?),
+        [b"pieces", name, size] => run_pieces(form(name)?, number(size)?),
         [b"step", name, rest @ ..] => run_step(form(name)?, rest),
         [b"write", name, b"small", letter] => {
             run_write(form(name)?, typed(letter, false)?, &options)
@@ -277,6 +282,29 @@ fn run_walk(form: Form) -> Answer {
             }
         }
         state = next;
+    }
+}
+
+fn run_pieces(form: Form, size: usize) -> Answer {
+    let stream = standard_input()?;
+    let mut lines = String::new();
+    let mut state = Pieces::start(form);
+    // A piece completes no more items than it has bytes.
+    let room = 9 * size.min(stream.len());
+    for piece in stream.chunks(size.max(1)) {
+        let (mut items, mut refusals) = (vec![0; room], vec![0; room]);
+        let (n, m) = state.feed(piece, &mut items, &mut refusals)?;
+        lines += &format!("{} {}\n", hex(&items[..n]), hex(&refusals[..m]));
+    }
+    let mut rest = [0; 5];
+    let length = state.end(&mut rest)?;
+    Ok((lines + &hex(&rest[..length]) + "\n").into())
+}
+
+fn hex(bytes: &[u8]) -> String {
+    match bytes {
+        [] => "-".to_string(),
+        _ => bytes.iter().map(|byte| format!("{byte:02x}")).collect(),
     }
 }
 

@@ -99,18 +99,39 @@ impl Report {
     pub fn bytes(&self) -> Vec<u8> {
         let mut bytes = Vec::new();
         put4(&mut bytes, self.items.len());
-        for row in &self.items {
+        bytes.extend(self.item_bytes(0));
+        put4(&mut bytes, self.refusals.len());
+        bytes.extend(self.refusal_bytes(0));
+        put4(&mut bytes, usize::from(self.remainder.is_some()));
+        bytes.extend(self.remainder_bytes());
+        bytes
+    }
+
+    /// The rows of items from this index on.
+    pub fn item_bytes(&self, from: usize) -> Vec<u8> {
+        let mut bytes = Vec::new();
+        for row in &self.items[from..] {
             put4(&mut bytes, row.offset);
             put4(&mut bytes, row.size);
             bytes.push(row.verdict);
         }
-        put4(&mut bytes, self.refusals.len());
-        for row in &self.refusals {
+        bytes
+    }
+
+    /// The rows of refusals from this one on.
+    pub fn refusal_bytes(&self, from: usize) -> Vec<u8> {
+        let mut bytes = Vec::new();
+        for row in &self.refusals[from..] {
             put4(&mut bytes, row.index);
             bytes.push(row.number);
             put4(&mut bytes, row.place);
         }
-        put4(&mut bytes, usize::from(self.remainder.is_some()));
+        bytes
+    }
+
+    /// The remainder's row, or nothing.
+    pub fn remainder_bytes(&self) -> Vec<u8> {
+        let mut bytes = Vec::new();
         if let Some(row) = self.remainder {
             put4(&mut bytes, row.offset);
             bytes.push(row.number);

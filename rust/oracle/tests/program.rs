@@ -218,6 +218,23 @@ fn groups() {
 }
 
 #[test]
+fn pieces() {
+    let (item, number) = ("000000000000000804", "000000080000000400");
+    let told = format!("- -\n{item} 000000000400000004\n{number} -\n-\n");
+    answered(&["pieces", "text", "4"], b"-AAB0AAAMAAB", told.as_bytes());
+    let told = format!("{item}{number} 000000000400000004\n-\n");
+    answered(&["pieces", "text", "99"], b"-AAB0AAAMAAB", told.as_bytes());
+    answered(&["pieces", "text", "3"], b"MAA", b"- -\n0000000004\n");
+    answered(&["pieces", "binary", "1"], b"", b"-\n");
+    refused(
+        &["pieces", "text", "5000000"],
+        &vec![b'A'; 4_194_305],
+        "",
+        "1 0",
+    );
+}
+
+#[test]
 fn help_and_wrong_usage() {
     let (status, help, _) = run(&["--help"], b"");
     assert_eq!(status, 0);

@@ -1,6 +1,6 @@
 //! The calls as the archive has them; `include/cesr.h` says what each does.
 
-use crate::{Counts, IndexedInfo, Info, Item, State, Tag};
+use crate::{Counts, IndexedInfo, Info, Item, Pieces, State, Tag};
 
 /// Stream, its length, buffer, its length, and where the answer goes: the
 /// length written if 0 is returned, else the place that goes with the number.
@@ -44,6 +44,22 @@ pub type Walk = unsafe extern "C" fn(*const u8, usize, *mut State, *mut Item, *m
 /// Stream, its length, state, budget, items taken and answer.
 pub type WalkOn =
     unsafe extern "C" fn(*const u8, usize, *mut State, usize, *mut usize, *mut usize) -> u8;
+
+/// State, piece, buffers of item rows and of refusal rows, and the lengths
+/// written of both.
+pub type Feed = unsafe extern "C" fn(
+    *mut Pieces,
+    *const u8,
+    usize,
+    *mut u8,
+    usize,
+    *mut u8,
+    usize,
+    *mut [usize; 2],
+) -> u8;
+
+/// State, buffer of the remainder's row, and answer.
+pub type End = unsafe extern "C" fn(*mut Pieces, *mut u8, usize, *mut usize) -> u8;
 
 extern "C" {
     pub fn cesr_text_to_binary(
@@ -229,4 +245,27 @@ extern "C" {
         answer: *mut Counts,
     ) -> u8;
     pub fn cesr_passed(report: *const u8, length: usize, passed: *mut usize) -> u8;
+    pub fn cesr_feed_text(
+        state: *mut Pieces,
+        piece: *const u8,
+        length: usize,
+        items: *mut u8,
+        items_room: usize,
+        refusals: *mut u8,
+        refusals_room: usize,
+        given: *mut [usize; 2],
+    ) -> u8;
+    pub fn cesr_feed_binary(
+        state: *mut Pieces,
+        piece: *const u8,
+        length: usize,
+        items: *mut u8,
+        items_room: usize,
+        refusals: *mut u8,
+        refusals_room: usize,
+        given: *mut [usize; 2],
+    ) -> u8;
+    pub fn cesr_end_text(state: *mut Pieces, out: *mut u8, room: usize, answer: *mut usize) -> u8;
+    pub fn cesr_end_binary(state: *mut Pieces, out: *mut u8, room: usize, answer: *mut usize)
+        -> u8;
 }

@@ -12,6 +12,7 @@ mod declared;
 mod group;
 mod indexed;
 mod passed;
+mod pieces;
 mod second;
 mod walk;
 
@@ -22,6 +23,12 @@ pub use indexed::{
     IndexedInfo, INDEXED, INDEXED_RAW, INDEXED_START,
 };
 pub use passed::passed;
+pub use pieces::{
+    end_binary, end_text, feed_binary, feed_text, Given, Pieces, PIECES, PIECES_COUNT,
+    PIECES_ENDED, PIECES_HEADER, PIECES_HELD, PIECES_ITEMS, PIECES_LEAD, PIECES_NUMBER,
+    PIECES_PHASE, PIECES_PLACE, PIECES_READ, PIECES_SCANS, PIECES_START, PIECES_TEXT, PIECES_UNIT,
+    PIECES_WALK,
+};
 pub use second::{second_binary, second_text};
 pub use walk::{
     walk_binary, walk_on_binary, walk_on_text, walk_text, Instalment, Item, Pause, State,

@@ -6,6 +6,7 @@
 //! the ways that streams go wrong; `noise` makes streams that were never right;
 //! `body` makes what a group is put around, with its letter; `mixed` makes streams
 //! of JSON and of groups in both forms, right and wrong;
+//! `cuts` cuts a stream into pieces;
 //! `expectation` makes expected verdicts and reports to compare them with;
 //! `papers` are the papers' own; `shrink` makes a failing stream small.
 //! The codes are typed in from 003 (`table`), so nothing here is shared with
@@ -16,6 +17,7 @@
 #![forbid(unsafe_code)]
 
 pub mod body;
+pub mod cuts;
 pub mod damage;
 pub mod decks;
 pub mod expectation;

@@ -1,6 +1,6 @@
 //! Generated streams and primitives, as many as asked for.
 
-use crate::{compares, demand, demands, groups, judges, say, setting, walks, writes};
+use crate::{compares, demand, demands, groups, judges, pieces, say, setting, walks, writes};
 use std::panic::{catch_unwind, resume_unwind, AssertUnwindSafe};
 use std::sync::atomic::{AtomicU64, Ordering};
 use streams::damage::{cross, damage};
@@ -64,6 +64,7 @@ fn one_case(seed: u64, form: Form) {
     demand(&made, form, |s| walks::from_made_up(s, form, seed));
     demand(&made, form, |s| demands::damaged(s, form, seed));
     demand(&made, form, |s| compares::of_stream(s, form, seed));
+    demand(&made, form, |s| pieces::alike(s, form, seed));
     match form {
         Form::Binary => demand(&made, form, demands::converted),
         Form::Text => demand(&made, form, demands::masked),

@@ -18,6 +18,7 @@ mod limits;
 mod lookup;
 mod mixed;
 mod papers;
+mod pieces;
 mod seconds;
 mod walks;
 mod writes;

@@ -1,0 +1,4 @@
+pub mod Headers
+pub mod Steps
+pub mod Feeding
+pub mod Calls

@@ -1,0 +1,5 @@
+pub mod Words
+pub mod Claims
+pub mod Joining
+pub mod Timing
+pub mod Proved

@@ -1,0 +1,4 @@
+pub mod Run
+pub mod Item
+pub mod Remainder
+pub mod Whole
