@@ -1,4 +1,6 @@
 // The URL-safe Base64 alphabet: characters to sextets and back.
+#![tactic(auto)]
+
 ghost use Rattle.std.specs.Prelude.{◌≡◌, get_or};
 ghost use Rattle.format.specs.Alphabet.{sextet_of, char_of, sextet_table, character_table};
 

@@ -1,4 +1,6 @@
 // The number that a character outside the alphabet is refused with.
+#![tactic(auto)]
+
 ghost use Rattle.std.specs.Prelude.{◌≡◌, get_or};
 ghost use Rattle.format.specs.Alphabet.{sextet_of, stranger_number};
 

@@ -1,4 +1,6 @@
 // Whether a character is of the alphabet, without a table, so that many are asked at once.
+#![tactic(auto)]
+
 ghost use Rattle.std.specs.Prelude.{◌≡◌, ◌-◌, min, ◌==◌, nat_lt};
 ghost use Rattle.format.specs.Alphabet.{sextet_of};
 

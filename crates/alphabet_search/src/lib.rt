@@ -1,4 +1,6 @@
 // The search for the first character outside the alphabet: blocks of 64 while they are clean, then character by character.
+#![tactic(auto)]
+
 ghost use Rattle.std.specs.Prelude.{◌≡◌, ◌+◌, ◌≤◌, eqb, leb, length, drop};
 ghost use Rattle.format.specs.Conversion.{first_stranger};
 

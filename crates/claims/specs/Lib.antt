@@ -1,13 +1,3 @@
 pub mod Words
 pub mod Conditions
 pub mod Claims
-pub mod Header
-pub mod Demand1
-pub mod Numbers
-pub mod Demand3
-pub mod Aligned
-pub mod Ratio
-pub mod Parts
-pub mod Demand2
-pub mod Proved
-pub mod Room

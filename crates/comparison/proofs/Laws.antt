@@ -19,7 +19,7 @@ use Rattle.comparison.specs.Comparing.{passed, failed, agree, counted, refused, 
 use Rattle.comparison.specs.Words.{count, passes}
 use Rattle.expectation.specs.Bytes.{number_if, Says}
 use Rattle.comparison.specs.Passing.{alike, Passing, Least}
-use Rattle.comparison.specs.Counts.{passes-are, sum, column-length}
+use Rattle.comparison.proofs.Counting.{passes-are, sum, column-length}
 
 -- ---- columns
 

@@ -1,4 +1,3 @@
 pub mod Comparing
 pub mod Words
-pub mod Counts
 pub mod Passing

@@ -1,4 +1,6 @@
 // An expectation file compared with a report: verdicts counted, remainders on their own, and the call.
+#![tactic(auto)]
+
 ghost use Rattle.std.specs.Prelude.{◌≡◌, ◌+◌, ◌*◌, ◌≤◌, length, drop};
 ghost use Rattle.expectation.specs.Expectation.{column};
 ghost use Rattle.comparison.specs.Comparing.{agree, counted, refused, compared};
@@ -10,7 +12,7 @@ use expectation::Said;
 
 // What a comparison answers: 0, or 20 and its place; of the verdicts expected those that passed, failed or were not reached; the items
 // beyond them; and whether the remainders agree.
-#[derive(Drop)]
+#[derive(Clone, Copy)]
 pub struct Compared {
     pub number: u8,
     pub place: usize,

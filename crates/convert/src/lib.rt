@@ -1,4 +1,6 @@
 // Conversion of whole streams between text and binary, into a lent buffer.
+#![tactic(auto)]
+
 ghost use Rattle.std.specs.Prelude.{◌≡◌, length};
 ghost use Rattle.format.specs.Conversion.{text_to_binary, binary_left, binary_to_text, text_left};
 

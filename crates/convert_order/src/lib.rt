@@ -1,5 +1,7 @@
 // The answer to a text that is converted to binary, in the order of its refusals: 1, 2, 5 or 19, 3. What its length is refused with is
 // asked before a unit is converted, the rest when they are. Nothing is written here.
+#![tactic(auto)]
+
 ghost use Rattle.std.specs.Prelude.{◌≡◌, length};
 ghost use Rattle.format.specs.Conversion.{text_to_binary, first_stranger};
 ghost use Rattle.convert_order.specs.Lengths.{length_refusal};

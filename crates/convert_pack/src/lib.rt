@@ -1,5 +1,7 @@
 // A text's units to binary, into a lent buffer: each goes by value through a leaf from four characters to three bytes. The leaf of
 // long streams looks up two characters at once.
+#![tactic(auto)]
+
 ghost use Rattle.std.specs.Prelude.{◌≡◌, List, ◌++◌, map, ℕ, ◌+◌, ◌*◌, ◌≤◌, ◌<◌, length, take, drop};
 ghost use Rattle.base.specs.Digits.{Below};
 ghost use Rattle.base.specs.Each.{UnitPut};

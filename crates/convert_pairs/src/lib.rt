@@ -1,5 +1,7 @@
 // The tables by which long streams are converted, two characters a look-up. A table is built in each call, which some thousand units
 // make good: a constant one would be copied.
+#![tactic(auto)]
+
 ghost use Rattle.std.specs.Prelude.{◌≡◌, ◌+◌, ◌*◌, ◌≤◌, ◌<◌, length, get_or};
 ghost use Rattle.convert_pairs.specs.Rows.{RowPut};
 ghost use Rattle.convert_pairs.specs.Pairs.{SextetPairs, CharacterPairs};

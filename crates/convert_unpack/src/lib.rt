@@ -1,4 +1,6 @@
 // All units of a binary to text, into a lent buffer.
+#![tactic(auto)]
+
 ghost use Rattle.std.specs.Prelude.{◌≡◌};
 ghost use Rattle.convert_unpack.specs.Left.{unpacked_left};
 

@@ -1,4 +1,6 @@
 // Three bytes as four characters by a table of pairs that is lent, two characters at a look-up. Of another table nothing is said.
+#![tactic(auto)]
+
 ghost use Rattle.std.specs.Prelude.{◌≡◌, ◌/◌, ◌<◌};
 ghost use Rattle.base.specs.Digits.{number_of};
 ghost use Rattle.format.specs.Units.{quadlet_of};

@@ -1,5 +1,7 @@
 // A binary's first units to text, into a lent buffer: each goes by value through a leaf from three bytes to four characters. The leaf
 // of long streams looks up two characters at once.
+#![tactic(auto)]
+
 ghost use Rattle.std.specs.Prelude.{◌≡◌, List, ◌++◌, ℕ, ◌+◌, ◌*◌, ◌≤◌, ◌<◌, length, take, drop};
 ghost use Rattle.base.specs.Digits.{digits_of};
 ghost use Rattle.base.specs.Each.{UnitPut};

@@ -1,10 +1,3 @@
 pub mod Words
 pub mod Claims
-pub mod Law
-pub mod Answers
-pub mod Primitives
-pub mod Indexed
-pub mod Proved
 pub mod Formats
-pub mod Examples
-pub mod Ours

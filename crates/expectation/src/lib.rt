@@ -1,4 +1,6 @@
 // What an expectation file says, and what a report does. Both are read as bytes; nothing here knows of a stream.
+#![tactic(auto)]
+
 ghost use Rattle.std.specs.Prelude.{◌≡◌, ◌+◌, ◌*◌, ◌<◌, ◌≤◌, [], ◌∷◌, length, drop};
 ghost use Rattle.base.specs.Digits.{number_of};
 ghost use Rattle.expectation.specs.Expectation.{count_at, expected, reported};
@@ -9,7 +11,7 @@ use widening::wide;
 // ---- sections
 
 // How many rows a section has, and where it ends.
-#[derive(Drop)]
+#[derive(Clone, Copy)]
 enum Laid {
     Short,
     Rows { count: usize, end: usize },
@@ -52,7 +54,7 @@ fn section_at(s: &[u8], from: usize, width: usize) -> Laid
 // ---- what a file says
 
 // How many verdicts, and whether there is a remainder and its number.
-#[derive(Drop)]
+#[derive(Clone, Copy)]
 pub enum Said {
     Malformed,
     Verdicts {

@@ -1,5 +1,7 @@
 // The public calls for C and Rust, on numbers and byte slices: a number, 0 for accepted, and what else there is to say behind
 // `answer`. Nothing is decided here.
+#![tactic(auto)]
+
 ghost use Rattle.std.specs.Prelude.{◌≡◌, length};
 ghost use Rattle.base.specs.Pick.{pick};
 ghost use Rattle.format.specs.Conversion.{text_to_binary, to_binary_number, to_binary_value, binary_left, binary_to_text, to_text_number, to_text_value, text_left};
@@ -40,8 +42,7 @@ use format::{BinaryFound, BinaryOffset, Form, TextFound, TextOffset};
 use walk_state::Found;
 
 // answer: the length written, or the place in the text.
-#[unsafe(no_mangle)]
-pub extern "C" fn cesr_text_to_binary(src: &[u8], dst: &mut [u8], answer: &mut usize) -> u8
+pub fn cesr_text_to_binary(src: &[u8], dst: &mut [u8], answer: &mut usize) -> u8
     ensures value { result ≡ to_binary_number (text_to_binary src.now (length dst.old)) }
     ensures answer_after { answer.new ≡ to_binary_value (text_to_binary src.now (length dst.old)) }
     ensures dst_after { dst.new ≡ binary_left (text_to_binary src.now (length dst.old)) src.now dst.old }
@@ -51,8 +52,7 @@ pub extern "C" fn cesr_text_to_binary(src: &[u8], dst: &mut [u8], answer: &mut u
 }
 
 // answer: the length written, or the place in the binary.
-#[unsafe(no_mangle)]
-pub extern "C" fn cesr_binary_to_text(src: &[u8], dst: &mut [u8], answer: &mut usize) -> u8
+pub fn cesr_binary_to_text(src: &[u8], dst: &mut [u8], answer: &mut usize) -> u8
     ensures value { result ≡ to_text_number (binary_to_text src.now (length dst.old)) }
     ensures answer_after { answer.new ≡ to_text_value (binary_to_text src.now (length dst.old)) }
     ensures dst_after { dst.new ≡ text_left (binary_to_text src.now (length dst.old)) src.now dst.old }
@@ -62,8 +62,7 @@ pub extern "C" fn cesr_binary_to_text(src: &[u8], dst: &mut [u8], answer: &mut u
 }
 
 // answer: the length of the report, or 0 for 1 and 3.
-#[unsafe(no_mangle)]
-pub extern "C" fn cesr_report_text(stream: &[u8], out: &mut [u8], answer: &mut usize) -> u8
+pub fn cesr_report_text(stream: &[u8], out: &mut [u8], answer: &mut usize) -> u8
     ensures value { result ≡ report_number (report_answer text stream.now (length out.old)) }
     ensures answer_after { answer.new ≡ report_value (report_answer text stream.now (length out.old)) }
     ensures out_after { out.new ≡ report_left (report_answer text stream.now (length out.old)) text stream.now out.old }
@@ -73,8 +72,7 @@ pub extern "C" fn cesr_report_text(stream: &[u8], out: &mut [u8], answer: &mut u
 }
 
 // answer: the length of the report, or 0 for 1 and 3.
-#[unsafe(no_mangle)]
-pub extern "C" fn cesr_report_binary(stream: &[u8], out: &mut [u8], answer: &mut usize) -> u8
+pub fn cesr_report_binary(stream: &[u8], out: &mut [u8], answer: &mut usize) -> u8
     ensures value { result ≡ report_number (report_answer binary stream.now (length out.old)) }
     ensures answer_after { answer.new ≡ report_value (report_answer binary stream.now (length out.old)) }
     ensures out_after { out.new ≡ report_left (report_answer binary stream.now (length out.old)) binary stream.now out.old }
@@ -84,8 +82,7 @@ pub extern "C" fn cesr_report_binary(stream: &[u8], out: &mut [u8], answer: &mut
 }
 
 // answer: the length of the report, or 0 for 1 and 3.
-#[unsafe(no_mangle)]
-pub extern "C" fn cesr_report_mixed(stream: &[u8], out: &mut [u8], answer: &mut usize) -> u8
+pub fn cesr_report_mixed(stream: &[u8], out: &mut [u8], answer: &mut usize) -> u8
     ensures value { result ≡ report_number (mixed_answer stream.now (length out.old)) }
     ensures answer_after { answer.new ≡ report_value (mixed_answer stream.now (length out.old)) }
     ensures out_after { out.new ≡ mixed_left (mixed_answer stream.now (length out.old)) stream.now out.old }
@@ -95,8 +92,7 @@ pub extern "C" fn cesr_report_mixed(stream: &[u8], out: &mut [u8], answer: &mut 
 }
 
 // The same by the plain second judge. answer: the length of the report, or 0 for 1 and 3.
-#[unsafe(no_mangle)]
-pub extern "C" fn cesr_second_text(stream: &[u8], out: &mut [u8], answer: &mut usize) -> u8
+pub fn cesr_second_text(stream: &[u8], out: &mut [u8], answer: &mut usize) -> u8
     ensures value { result ≡ report_number (report_answer text stream.now (length out.old)) }
     ensures answer_after { answer.new ≡ report_value (report_answer text stream.now (length out.old)) }
     ensures out_after { out.new ≡ report_left (report_answer text stream.now (length out.old)) text stream.now out.old }
@@ -106,13 +102,7 @@ pub extern "C" fn cesr_second_text(stream: &[u8], out: &mut [u8], answer: &mut u
 }
 
 // Of a binary, with lent working room: 4 characters for each whole triplet.
-#[unsafe(no_mangle)]
-pub extern "C" fn cesr_second_binary(
-    stream: &[u8],
-    work: &mut [u8],
-    out: &mut [u8],
-    answer: &mut usize,
-) -> u8
+pub fn cesr_second_binary(stream: &[u8], work: &mut [u8], out: &mut [u8], answer: &mut usize) -> u8
     ensures value { result ≡ report_number (second_binary stream.now (length work.old) (length out.old)) }
     ensures answer_after { answer.new ≡ report_value (second_binary stream.now (length work.old) (length out.old)) }
     ensures work_after { work.new ≡ work_left stream.now work.old }
@@ -125,8 +115,7 @@ pub extern "C" fn cesr_second_binary(
 // ---- reading and writing a primitive
 
 // out: the value, raw bytes or a text; answer: its length, or the place in the text. A refused call writes to no other place.
-#[unsafe(no_mangle)]
-pub extern "C" fn cesr_read_text(
+pub fn cesr_read_text(
     stream: &[u8],
     at: usize,
     out: &mut [u8],
@@ -159,8 +148,7 @@ pub extern "C" fn cesr_read_text(
 }
 
 // out: a text; any other value lies in the stream, where info says. answer: the value's length, or the place in the binary.
-#[unsafe(no_mangle)]
-pub extern "C" fn cesr_read_binary(
+pub fn cesr_read_binary(
     stream: &[u8],
     at: usize,
     out: &mut [u8],
@@ -193,8 +181,7 @@ pub extern "C" fn cesr_read_binary(
 }
 
 // answer: the length written, or the place: for 5 and 19 the index among the tag characters, or in a text.
-#[unsafe(no_mangle)]
-pub extern "C" fn cesr_write_text(
+pub fn cesr_write_text(
     chars: u8,
     letter: u8,
     tag: &[u8; 11],
@@ -214,8 +201,7 @@ pub extern "C" fn cesr_write_text(
 }
 
 // answer: the length written, or the place: for 5 and 19 the index among the tag characters, or in a text.
-#[unsafe(no_mangle)]
-pub extern "C" fn cesr_write_binary(
+pub fn cesr_write_binary(
     chars: u8,
     letter: u8,
     tag: &[u8; 11],
@@ -237,8 +223,7 @@ pub extern "C" fn cesr_write_binary(
 // ---- reading and writing an indexed item
 
 // out: the raw value; answer: its length, or the place in the text. A refused call writes to no other place.
-#[unsafe(no_mangle)]
-pub extern "C" fn cesr_read_indexed_text(
+pub fn cesr_read_indexed_text(
     stream: &[u8],
     at: usize,
     out: &mut [u8],
@@ -254,8 +239,7 @@ pub extern "C" fn cesr_read_indexed_text(
 }
 
 // The raw value lies in the stream, where info says. answer: its length, or the place in the binary.
-#[unsafe(no_mangle)]
-pub extern "C" fn cesr_read_indexed_binary(
+pub fn cesr_read_indexed_binary(
     stream: &[u8],
     at: usize,
     info: &mut [usize; INDEXED],
@@ -269,8 +253,7 @@ pub extern "C" fn cesr_read_indexed_binary(
 }
 
 // answer: the length written, or 0, the place of every refusal.
-#[unsafe(no_mangle)]
-pub extern "C" fn cesr_write_indexed_text(
+pub fn cesr_write_indexed_text(
     selector: u8,
     letter: u8,
     index: usize,
@@ -287,8 +270,7 @@ pub extern "C" fn cesr_write_indexed_text(
 }
 
 // answer: the length written, or 0, the place of every refusal.
-#[unsafe(no_mangle)]
-pub extern "C" fn cesr_write_indexed_binary(
+pub fn cesr_write_indexed_binary(
     selector: u8,
     letter: u8,
     index: usize,
@@ -307,8 +289,7 @@ pub extern "C" fn cesr_write_indexed_binary(
 // ---- the walk over a lent state
 
 // answer: the place in the text of a refusal, else 0. The state and the item are written only where an item was found.
-#[unsafe(no_mangle)]
-pub extern "C" fn cesr_walk_text(
+pub fn cesr_walk_text(
     stream: &[u8],
     state: &mut [usize; STATE],
     item: &mut [usize; 6],
@@ -349,8 +330,7 @@ pub extern "C" fn cesr_walk_text(
 }
 
 // answer: the place in the binary of a refusal, else 0. The state and the item are written only where an item was found.
-#[unsafe(no_mangle)]
-pub extern "C" fn cesr_walk_binary(
+pub fn cesr_walk_binary(
     stream: &[u8],
     state: &mut [usize; STATE],
     item: &mut [usize; 6],
@@ -392,8 +372,7 @@ pub extern "C" fn cesr_walk_binary(
 
 // At most so many items of a text from the state on; items: how many were taken; answer: the place of a refusal, else 0. With no item the state
 // stays as it was.
-#[unsafe(no_mangle)]
-pub extern "C" fn cesr_walk_on_text(
+pub fn cesr_walk_on_text(
     stream: &[u8],
     state: &mut [usize; STATE],
     budget: usize,
@@ -410,8 +389,7 @@ pub extern "C" fn cesr_walk_on_text(
 
 // At most so many items of a binary from the state on; items: how many were taken; answer: the place of a refusal, else 0. With no item the state
 // stays as it was.
-#[unsafe(no_mangle)]
-pub extern "C" fn cesr_walk_on_binary(
+pub fn cesr_walk_on_binary(
     stream: &[u8],
     state: &mut [usize; STATE],
     budget: usize,
@@ -429,8 +407,7 @@ pub extern "C" fn cesr_walk_on_binary(
 // ---- streams in pieces
 
 // A piece of a text. state: PIECES numbers; given: the lengths written to items and to refusals, or 0 and 0.
-#[unsafe(no_mangle)]
-pub extern "C" fn cesr_feed_text(
+pub fn cesr_feed_text(
     state: &mut [usize; PIECES],
     piece: &[u8],
     items: &mut [u8],
@@ -448,8 +425,7 @@ pub extern "C" fn cesr_feed_text(
 }
 
 // The same of a binary.
-#[unsafe(no_mangle)]
-pub extern "C" fn cesr_feed_binary(
+pub fn cesr_feed_binary(
     state: &mut [usize; PIECES],
     piece: &[u8],
     items: &mut [u8],
@@ -467,12 +443,7 @@ pub extern "C" fn cesr_feed_binary(
 }
 
 // The end of a text. answer: the length of the remainder's row, or 0.
-#[unsafe(no_mangle)]
-pub extern "C" fn cesr_end_text(
-    state: &mut [usize; PIECES],
-    out: &mut [u8],
-    answer: &mut usize,
-) -> u8
+pub fn cesr_end_text(state: &mut [usize; PIECES], out: &mut [u8], answer: &mut usize) -> u8
     ensures value { result ≡ closing_number (finish text (pieces_in state.old) (length out.old)).closing }
     ensures answer_after { answer.new ≡ closing_length (finish text (pieces_in state.old) (length out.old)).closing }
     ensures state_after { state.new ≡ ended_numbers (finish text (pieces_in state.old) (length out.old)).closing (finish text (pieces_in state.old) (length out.old)).next state.old }
@@ -483,12 +454,7 @@ pub extern "C" fn cesr_end_text(
 }
 
 // The same of a binary.
-#[unsafe(no_mangle)]
-pub extern "C" fn cesr_end_binary(
-    state: &mut [usize; PIECES],
-    out: &mut [u8],
-    answer: &mut usize,
-) -> u8
+pub fn cesr_end_binary(state: &mut [usize; PIECES], out: &mut [u8], answer: &mut usize) -> u8
     ensures value { result ≡ closing_number (finish binary (pieces_in state.old) (length out.old)).closing }
     ensures answer_after { answer.new ≡ closing_length (finish binary (pieces_in state.old) (length out.old)).closing }
     ensures state_after { state.new ≡ ended_numbers (finish binary (pieces_in state.old) (length out.old)).closing (finish binary (pieces_in state.old) (length out.old)).next state.old }
@@ -501,8 +467,7 @@ pub extern "C" fn cesr_end_binary(
 // ---- expected verdicts and a report
 
 // answer: passed, failed, not reached, beyond, and 1 where the remainders agree; for 20 all are 0.
-#[unsafe(no_mangle)]
-pub extern "C" fn cesr_compare(expected: &[u8], report: &[u8], answer: &mut [usize; 5]) -> u8
+pub fn cesr_compare(expected: &[u8], report: &[u8], answer: &mut [usize; 5]) -> u8
     ensures value { result ≡ (compared expected.now report.now).number }
     ensures answer_after { answer.new ≡ counts_of (compared expected.now report.now) }
 {
@@ -511,8 +476,7 @@ pub extern "C" fn cesr_compare(expected: &[u8], report: &[u8], answer: &mut [usi
 }
 
 // passed: 1 where the report is of a stream whose every byte lies in an accepted item, else 0; for 20 it is 0.
-#[unsafe(no_mangle)]
-pub extern "C" fn cesr_passed(report: &[u8], passed: &mut usize) -> u8
+pub fn cesr_passed(report: &[u8], passed: &mut usize) -> u8
     ensures value { result ≡ (passed_in report.now).number }
     ensures passed_after { passed.new ≡ pick (passed_in report.now).passed 1 0 }
 {
@@ -522,8 +486,7 @@ pub extern "C" fn cesr_passed(report: &[u8], passed: &mut usize) -> u8
 
 // letter: a group's, as a character; len: the length of the body, which lies at the buffer's start. answer: the size of the group, or the
 // place in the body.
-#[unsafe(no_mangle)]
-pub extern "C" fn cesr_group_text(letter: u8, len: usize, buf: &mut [u8], answer: &mut usize) -> u8
+pub fn cesr_group_text(letter: u8, len: usize, buf: &mut [u8], answer: &mut usize) -> u8
     ensures value { result ≡ grouped_number (grouped Text letter len buf.old) }
     ensures answer_after { answer.new ≡ grouped_value (grouped Text letter len buf.old) }
     ensures buf_after { buf.new ≡ group_left (grouped Text letter len buf.old) Text letter len buf.old }
@@ -532,13 +495,7 @@ pub extern "C" fn cesr_group_text(letter: u8, len: usize, buf: &mut [u8], answer
 }
 
 // The same in binary.
-#[unsafe(no_mangle)]
-pub extern "C" fn cesr_group_binary(
-    letter: u8,
-    len: usize,
-    buf: &mut [u8],
-    answer: &mut usize,
-) -> u8
+pub fn cesr_group_binary(letter: u8, len: usize, buf: &mut [u8], answer: &mut usize) -> u8
     ensures value { result ≡ grouped_number (grouped Binary letter len buf.old) }
     ensures answer_after { answer.new ≡ grouped_value (grouped Binary letter len buf.old) }
     ensures buf_after { buf.new ≡ group_left (grouped Binary letter len buf.old) Binary letter len buf.old }

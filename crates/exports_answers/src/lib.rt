@@ -1,5 +1,7 @@
 // What a conversion or a report answered, as C and Rust are told it: a number, 0 for accepted, and behind `answer` the length written or the
 // place. Nothing is decided here.
+#![tactic(auto)]
+
 ghost use Rattle.std.specs.Prelude.{◌≡◌};
 ghost use Rattle.format.specs.Conversion.{to_binary_number, to_binary_value, to_text_number, to_text_value};
 ghost use Rattle.format.specs.Report.{report_number, report_value};

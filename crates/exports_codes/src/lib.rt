@@ -1,4 +1,6 @@
 // A code and a primitive as numbers for C. Nothing is decided here.
+#![tactic(auto)]
+
 ghost use Rattle.std.specs.Prelude.{◌≡◌};
 ghost use Rattle.exports_values.specs.Answers.{chars_of, letter_of, code_from, info_of, value_size};
 

@@ -1,4 +1,6 @@
 // A comparison and a pass as C is told them: the number, 0 for accepted, and the counts, or 1 for a pass. Nothing is decided here.
+#![tactic(auto)]
+
 ghost use Rattle.std.specs.Prelude.{◌≡◌};
 ghost use Rattle.base.specs.Pick.{pick};
 ghost use Rattle.exports_values.specs.Counts.{counts_of};

@@ -1,5 +1,7 @@
 // What a call that writes a group answered, as C is told it: a number, 0 for written, and behind `answer` the group's size or the place.
 // Nothing is decided here.
+#![tactic(auto)]
+
 ghost use Rattle.std.specs.Prelude.{◌≡◌};
 ghost use Rattle.groups.specs.Numbers.{grouped_number, grouped_value};
 

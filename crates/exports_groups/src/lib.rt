@@ -1,4 +1,6 @@
 // Writing a group for C: a number, 0 for written, and behind `answer` the group's size or the place. Nothing is decided here.
+#![tactic(auto)]
+
 ghost use Rattle.std.specs.Prelude.{◌≡◌};
 ghost use Rattle.format.specs.declared.Form.TheVariants.{Text, Binary};
 ghost use Rattle.groups.specs.Grouping.{grouped, group_left};

@@ -1,4 +1,6 @@
 // An indexed item as numbers for C, and in specs/ what C sees of its reading. Nothing is decided here.
+#![tactic(auto)]
+
 ghost use Rattle.std.specs.Prelude.{◌≡◌};
 ghost use Rattle.exports_indexed.specs.Answers.{info_of};
 

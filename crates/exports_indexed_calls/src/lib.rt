@@ -1,5 +1,7 @@
 // Reading and writing single indexed items for C and Rust, on numbers and byte slices: a number, 0 for accepted, and what else there is to
 // say behind `answer`. Nothing is decided here.
+#![tactic(auto)]
+
 ghost use Rattle.std.specs.Prelude.{◌≡◌, length};
 ghost use Rattle.format.specs.Indexed.{read_indexed_text, indexed_left, read_indexed_binary, write_indexed_text, text_indexed_left, write_indexed_binary, binary_indexed_left};
 ghost use Rattle.exports_indexed.specs.Answers.{text_number, text_value, text_info, binary_number, binary_value, binary_info, index_code_from};

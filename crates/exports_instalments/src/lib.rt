@@ -1,4 +1,6 @@
 // The walk in instalments over a state that C lends, which is walked where it lies: the answer in numbers. Nothing is decided here.
+#![tactic(auto)]
+
 ghost use Rattle.std.specs.Prelude.{◌≡◌};
 ghost use Rattle.format.specs.Units.{domain, text, binary};
 ghost use Rattle.instalments.specs.Instalments.{walk_on};

@@ -1,4 +1,6 @@
 // An item of the walk as numbers for C: where it lies, and its code as three numbers. Nothing is decided here.
+#![tactic(auto)]
+
 ghost use Rattle.std.specs.Prelude.{◌≡◌, eqb};
 ghost use Rattle.base.specs.Pick.{pick};
 ghost use Rattle.format.specs.Alphabet.{char_of};

@@ -1,5 +1,7 @@
 // What an instalment answered, as numbers for C: why it is over, and the state behind it in the numbers that C lent. Nothing is decided
 // here.
+#![tactic(auto)]
+
 ghost use Rattle.std.specs.Prelude.{◌≡◌, ◌++◌, eqb};
 ghost use Rattle.base.specs.Pick.{pick};
 ghost use Rattle.walk_state.specs.Lent.{slots_in};

@@ -1,4 +1,6 @@
 // Streams in pieces (02 f) over a state that C lends: a number, 0 for taken in, and the lengths written. Nothing is decided here.
+#![tactic(auto)]
+
 ghost use Rattle.std.specs.Prelude.{◌≡◌, length};
 ghost use Rattle.format.specs.Units.{domain, text, binary};
 ghost use Rattle.pieces.specs.Calls.{feed, items_left, refusals_left, finish, remainder_left};

@@ -19,7 +19,7 @@ use Rattle.pieces.specs.declared.Progress.{Progress}
 use Rattle.pieces.specs.declared.Pieces.{Pieces}
 use Rattle.pieces.specs.Feeding.{begin, start}
 use Rattle.exports_values.specs.Lent.{state_size, place_numbers, walk_of, state_of}
-use Rattle.exports_claims.specs.Proved as E
+use Rattle.exports_claims.proofs.Proved as E
 use Rattle.exports_pieces_state.specs.Numbers.{four, four_bytes, all_under, is_narrow, phase_of, phase_in, progress_in, pieces_with, pieces_in, phase_number, rest_of, rest_size, numbers_of}
 
 -- four numbers of 8 bits

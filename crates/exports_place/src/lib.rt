@@ -1,4 +1,6 @@
 // A walk's state that C lends, but for the ends of the groups open: read, and written. Nothing is decided here.
+#![tactic(auto)]
+
 ghost use Rattle.std.specs.Prelude.{◌≡◌, ◌++◌, ltb, length};
 ghost use Rattle.base.specs.Pick.{pick};
 ghost use Rattle.walk_state.specs.Lent.{slots_in};

@@ -1,4 +1,6 @@
 // A walk's state that C lends, as a value with its ends: to a walk, and back. Nothing is decided here.
+#![tactic(auto)]
+
 ghost use Rattle.std.specs.Prelude.{◌≡◌, ◌≤◌, length};
 ghost use Rattle.format.specs.Judging.{max_depth};
 ghost use Rattle.walk_state.specs.Lent.{slots_in};

@@ -1,5 +1,7 @@
 // What C sees of an answer, as definitions in specs/; how many numbers it lends and what each is, and a byte and a flag as numbers. The
 // crates above tell codes, places, items and counts by it. Nothing is decided here.
+#![tactic(auto)]
+
 ghost use Rattle.std.specs.Prelude.{◌≡◌};
 ghost use Rattle.base.specs.Pick.{pick};
 

@@ -1,5 +1,7 @@
 // What a call that writes an item answered, as C and Rust are told it: a number, 0 for accepted, and behind `answer` the length written or
 // the place. Nothing is decided here.
+#![tactic(auto)]
+
 ghost use Rattle.std.specs.Prelude.{◌≡◌};
 ghost use Rattle.exports_values.specs.Answers.{text_written_number, text_written_value, binary_written_number, binary_written_value};
 

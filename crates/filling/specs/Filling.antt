@@ -19,8 +19,8 @@ use Rattle.format.specs.Judging.{shift}
 use Rattle.format.specs.Report.{ItemRow, RemainderRow, rows_of, remainder_of, rows, remainder, refusal, refusals_of, refusals}
 use Rattle.format.specs.Report.{be4, refusal_bytes, remainder_bytes, concat, section}
 use Rattle.damage.specs.Words.{Frames}
-use Rattle.damage.specs.Cuts as C
-use Rattle.damage.specs.Damage.{rows-item, remainder-item}
+use Rattle.damage.proofs.Cuts as C
+use Rattle.damage.proofs.Damage.{rows-item, remainder-item}
 use Rattle.filling.specs.Stores.{row_with, run_of, sets-append, sets-comm, concat-append, concat-snoc, concat-long, be4-long, refusal-long, run_long}
 
 -- ---- refusals

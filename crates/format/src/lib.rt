@@ -1,22 +1,23 @@
 // The format's types. What they mean is defined in specs/, in document 01's order; there is no code here.
+#![tactic(auto)]
 
 // The form of a stream.
-#[derive(Drop)]
+#[derive(Clone, Copy)]
 pub enum Form {
     Text,
     Binary,
 }
 
 // A place or a length in a text stream, in characters.
-#[derive(Drop)]
+#[derive(Clone, Copy)]
 pub struct TextOffset(pub usize);
 
 // A place or a length in a binary stream, in bytes.
-#[derive(Drop)]
+#[derive(Clone, Copy)]
 pub struct BinaryOffset(pub usize);
 
 // A row of the code registry: a code of so many characters, the last of which is a letter's sextet (A is 0, a is 26).
-#[derive(Drop)]
+#[derive(Clone, Copy)]
 pub struct CodeRow {
     pub chars: u8,
     pub letter: u8,
@@ -31,7 +32,7 @@ pub struct CodeRow {
 }
 
 // A row of the indexed code table: a code of so many characters, a letter or a selector and a letter, both by their sextets.
-#[derive(Drop)]
+#[derive(Clone, Copy)]
 pub struct IndexRow {
     pub chars: u8,
     // `0`, `2` or `3`; 0 where the letter stands alone
@@ -49,7 +50,7 @@ pub struct IndexRow {
 }
 
 // What a header says of its item. The code is the kind with the header's length, which tells small from large.
-#[derive(Drop)]
+#[derive(Clone, Copy)]
 pub enum Kind {
     Fixed(CodeRow),
     // letter: the variable type; count: the units behind the header
@@ -60,7 +61,7 @@ pub enum Kind {
 }
 
 // What the first unit says: a header of one unit, or of two, with the item's full size in units, or what a second unit completes.
-#[derive(Drop)]
+#[derive(Clone, Copy)]
 pub enum Opening {
     Unknown,
     Short { kind: Kind, size: usize },
@@ -72,28 +73,28 @@ pub enum Opening {
 }
 
 // What conversion to binary answers: the length written, or a number and a place.
-#[derive(Drop)]
+#[derive(Clone, Copy)]
 pub enum ToBinary {
     Written(BinaryOffset),
     Refused(u8, TextOffset),
 }
 
 // What conversion to text answers: the length written, or a number and a place.
-#[derive(Drop)]
+#[derive(Clone, Copy)]
 pub enum ToText {
     Written(TextOffset),
     Refused(u8, BinaryOffset),
 }
 
 // What conversion of a binary offset to text answers: none where the text would pass the longest stream.
-#[derive(Drop)]
+#[derive(Clone, Copy)]
 pub enum InText {
     At(TextOffset),
     Past,
 }
 
 // What framing finds: an item with its header and full size in units, or a number and a place in sextets from its start.
-#[derive(Drop)]
+#[derive(Clone, Copy)]
 pub enum Framed {
     Item {
         kind: Kind,
@@ -107,14 +108,14 @@ pub enum Framed {
 }
 
 // What judging an item finds; the place is counted in sextets or in a stream's elements, as the definition says.
-#[derive(Drop)]
+#[derive(Clone, Copy)]
 pub enum Verdict {
     Accepted,
     Refused { number: u8, place: usize },
 }
 
 // A primitive's code as a caller names it. Letters are characters of the alphabet.
-#[derive(Drop)]
+#[derive(Clone, Copy)]
 pub enum Code {
     // a code of 1, 2 or 4 characters: a letter, `0` and a letter, `1AA` and a letter
     Fixed { chars: u8, letter: u8 },
@@ -125,7 +126,7 @@ pub enum Code {
 
 // A primitive that was read, in either form: its code, its full size in units, where its raw value starts in the item's binary form,
 // how many bytes the raw value has, how many characters a text (type `A`, which has no raw value) and how many tag characters there are.
-#[derive(Drop)]
+#[derive(Clone, Copy)]
 pub struct Primitive {
     pub code: Code,
     pub size: usize,
@@ -136,35 +137,35 @@ pub struct Primitive {
 }
 
 // What reading a primitive of a text answers.
-#[derive(Drop)]
+#[derive(Clone, Copy)]
 pub enum TextFound {
     Found(Primitive),
     Refused(u8, TextOffset),
 }
 
 // The same with the tag characters, unused places 0.
-#[derive(Drop)]
+#[derive(Clone, Copy)]
 pub struct TextRead {
     pub found: TextFound,
     pub tag: [u8; 11],
 }
 
 // What reading a primitive of a binary answers.
-#[derive(Drop)]
+#[derive(Clone, Copy)]
 pub enum BinaryFound {
     Found(Primitive),
     Refused(u8, BinaryOffset),
 }
 
 // The same with the tag characters, unused places 0.
-#[derive(Drop)]
+#[derive(Clone, Copy)]
 pub struct BinaryRead {
     pub found: BinaryFound,
     pub tag: [u8; 11],
 }
 
 // An indexed item's code as a caller names it, by characters of the alphabet: a selector, 0 where the letter stands alone, and a letter.
-#[derive(Drop)]
+#[derive(Clone, Copy)]
 pub struct IndexCode {
     pub selector: u8,
     pub letter: u8,
@@ -172,7 +173,7 @@ pub struct IndexCode {
 
 // An indexed item that was read, in either form: its code, its full size in units, where its raw value starts in the item's binary form,
 // how many bytes the raw value has, index and ondex.
-#[derive(Drop)]
+#[derive(Clone, Copy)]
 pub struct IndexedItem {
     pub code: IndexCode,
     pub size: usize,
@@ -183,34 +184,34 @@ pub struct IndexedItem {
 }
 
 // What reading an indexed item of a text answers.
-#[derive(Drop)]
+#[derive(Clone, Copy)]
 pub enum TextIndexed {
     Found(IndexedItem),
     Refused(u8, TextOffset),
 }
 
 // What reading an indexed item of a binary answers.
-#[derive(Drop)]
+#[derive(Clone, Copy)]
 pub enum BinaryIndexed {
     Found(IndexedItem),
     Refused(u8, BinaryOffset),
 }
 
 // What writing a primitive or an indexed item answers: the length written, or a number and, for 5 and 19, the index of the tag character or of the text's.
-#[derive(Drop)]
+#[derive(Clone, Copy)]
 pub enum TextWritten {
     Written(TextOffset),
     Refused(u8, usize),
 }
 
-#[derive(Drop)]
+#[derive(Clone, Copy)]
 pub enum BinaryWritten {
     Written(BinaryOffset),
     Refused(u8, usize),
 }
 
 // What a report answers: its length, or a number, whose place is 0.
-#[derive(Drop)]
+#[derive(Clone, Copy)]
 pub enum Reported {
     Written(usize),
     Refused(u8, usize),

@@ -1,5 +1,7 @@
 // Framing an item by either table: one header rule on sextets, which are read from either form. Sizes are in units, places in sextets
 // from the item's start. A part of a stream from the item's start to the enclosing end is lent.
+#![tactic(auto)]
+
 ghost use Rattle.std.specs.Prelude.{◌≡◌, get_or};
 ghost use Rattle.format.specs.Units.{text_sextets, binary_sextets};
 ghost use Rattle.format.specs.Registry.{opening_by};

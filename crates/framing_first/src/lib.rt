@@ -1,4 +1,6 @@
 // The first bad character of a header's first unit, and how a bad character of a header is told: its number and its place.
+#![tactic(auto)]
+
 ghost use Rattle.std.specs.Prelude.{◌≡◌, get_or};
 ghost use Rattle.format.specs.declared.Framed.TheVariants.{Unframed};
 ghost use Rattle.format.specs.Alphabet.{stranger_number};

@@ -1,4 +1,6 @@
 // Whether a genus/version is `AAACAA`, by its six digits.
+#![tactic(auto)]
+
 ghost use Rattle.std.specs.Prelude.{◌≡◌, get_or};
 ghost use Rattle.format.specs.Framing.{is_ours};
 

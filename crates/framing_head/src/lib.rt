@@ -1,5 +1,7 @@
 // The first three units of a part of a stream, as sextets that are read from either form: 0 past the end. No header reaches further,
 // and no check of a header looks further.
+#![tactic(auto)]
+
 ghost use Rattle.std.specs.Prelude.{◌≡◌, ◌++◌, get_or, take, ◌+◌, ◌*◌, ◌<◌, ◌≤◌};
 ghost use Rattle.format.specs.Alphabet.{sextet_table};
 ghost use Rattle.format.specs.Units.{text_sextets, binary_sextets};

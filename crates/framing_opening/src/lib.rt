@@ -1,4 +1,6 @@
 // An item by what its first unit opens: 6, what is asked of the second unit, and whether the item ends within what is left, 4.
+#![tactic(auto)]
+
 ghost use Rattle.std.specs.Prelude.{◌≡◌, get_or};
 ghost use Rattle.format.specs.Framing.{fit, headed};
 

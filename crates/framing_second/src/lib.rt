@@ -1,4 +1,6 @@
 // What is asked of a header's second unit: that it is there, 4, and no character of it is bad, 5 or 19.
+#![tactic(auto)]
+
 ghost use Rattle.std.specs.Prelude.{◌≡◌, get_or};
 ghost use Rattle.format.specs.Framing.{known, second};
 

@@ -1,9 +1,2 @@
 pub mod Words
 pub mod Claims
-pub mod Shift
-pub mod Inside
-pub mod Heads
-pub mod Calls
-pub mod Reads
-pub mod Judged
-pub mod Proved

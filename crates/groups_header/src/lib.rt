@@ -1,4 +1,6 @@
 // A group's header in either form, as the first of eight bytes, with zeros behind it. The letter is a sextet.
+#![tactic(auto)]
+
 ghost use Rattle.std.specs.Prelude.{◌≡◌, map};
 ghost use Rattle.format.specs.Alphabet.{char_of};
 ghost use Rattle.format.specs.declared.Form.TheVariants.{Text, Binary};

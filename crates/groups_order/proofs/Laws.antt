@@ -18,7 +18,7 @@ use Rattle.instalments.specs.declared.Pause.{Pause}
 use Rattle.instalments.specs.declared.Pause.TheVariants as P
 use Rattle.groups.specs.declared.Grouped.TheVariants as G
 use Rattle.groups.specs.Grouping.{head_units, group_size, within, room_for}
-use Rattle.groups_claims.specs.Heads.{head-eight}
+use Rattle.groups_claims.proofs.Heads.{head-eight}
 use Rattle.groups_order.specs.declared.Before.{Before}
 use Rattle.groups_order.specs.declared.Before.TheVariants as B
 use Rattle.groups_order.specs.Order.{before_walk}

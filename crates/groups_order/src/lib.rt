@@ -1,5 +1,7 @@
 // The order in which the call that writes a group refuses: 3 (the stated length), 1, 6, 2, what a walk of the body gives, 3 (room). Here is
 // what is asked before the walk, the state it starts from and what is told behind it; no stream is looked at.
+#![tactic(auto)]
+
 ghost use Rattle.std.specs.Prelude.{◌≡◌, ◌*◌, ◌/◌, ◌≤◌};
 ghost use Rattle.format.specs.Units.{domain};
 ghost use Rattle.format.specs.Registry.{is_group};
@@ -12,7 +14,7 @@ use instalments::Pause;
 use walk_state::Walk;
 
 // A refusal, with the place 0; or what is to be walked: contents of a group of this letter, a sextet, and the group's size.
-#[derive(Drop)]
+#[derive(Clone, Copy)]
 pub enum Before {
     Refused(u8),
     Contents { letter: u8, size: usize },

@@ -6,12 +6,12 @@ use native.Mathlib.Omega.{arith}
 use lib.ListN.{length, take, drop, replicate, length-drop, length-append, length-reverse, take-append-drop}
 use lib.Seq.{take_at, drop_at, length-take-le, take-take, take-length}
 use borrow.Author.Tests.{lt-ltb, le-ltb}
-use Rattle.bytes.specs.Bytes.{rev, slice}
+use Rattle.copying.specs.Copying.{turned, part}
 use Rattle.format.specs.declared.Form.{Form}
 use Rattle.format.specs.Units.{domain}
 use Rattle.groups.specs.Grouping.{head_units, head_sextets, spelled, group_of, group_size}
-use Rattle.groups_claims.specs.Heads.{head-length}
-use Rattle.groups_claims.specs.Calls.{spelled-length}
+use Rattle.groups_claims.proofs.Heads.{head-length}
+use Rattle.groups_claims.proofs.Calls.{spelled-length}
 use Rattle.groups_header.specs.Header.{head_bytes}
 use Rattle.groups_put.specs.Put.{put_group}
 
@@ -34,17 +34,17 @@ module _ (b head : List ℕ) (h s : ℕ) (few : h ≤ 8) (inside : h ≤ s) (roo
   T-split : W ≡ take (s - h) b ++ drop (s - h) W
   T-split = sym (take-append-drop (s - h) W) ∙ ap (λ (l : List ℕ). l ++ drop (s - h) W) (take-take (s - h) s b (omega arith))
 
-  turned : reverse W ≡ reverse (drop (s - h) W) ++ reverse (take (s - h) b)
-  turned = ap reverse T-split ∙ reverse-append (take (s - h) b) (drop (s - h) W)
+  split-turned : reverse W ≡ reverse (drop (s - h) W) ++ reverse (take (s - h) b)
+  split-turned = ap reverse T-split ∙ reverse-append (take (s - h) b) (drop (s - h) W)
 
   turned-drop : drop h (reverse W) ≡ reverse (take (s - h) b)
   turned-drop =
-      ap (drop h) turned
+      ap (drop h) split-turned
       ∙ drop_at (reverse (drop (s - h) W)) (reverse (take (s - h) b)) h (length-reverse (drop (s - h) W) ∙ G-long)
 
-  pub fronted : (x y z : List ℕ) → x ≡ take 0 b ++ (rev (slice 0 s b) ++ drop s b) → y ≡ take h x ++ (rev (slice h s x) ++ drop s x)
+  pub fronted : (x y z : List ℕ) → x ≡ take 0 b ++ (turned (part 0 s b) ++ drop s b) → y ≡ take h x ++ (turned (part h s x) ++ drop s x)
       → z ≡ take (length (take h head)) (take h head) ++ drop (length (take h head)) y → z ≡ (take h head ++ take (s - h) b) ++ drop s b
-  unfolding rev slice
+  unfolding turned part
   fronted x y z ex ey ez =
       let rs : length (reverse W) ≡ s = length-reverse W ∙ T-long in
       let x1 : x ≡ reverse W ++ drop s b = ex in

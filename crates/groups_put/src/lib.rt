@@ -1,5 +1,7 @@
 // A group put into its buffer: the body moved on in place, and the header put before it. What stands behind the group stays,
 // and so does a buffer that has no room for it.
+#![tactic(auto)]
+
 ghost use Rattle.std.specs.Prelude.{◌≡◌, ◌++◌, ◌-◌, ◌≤◌, length, take, drop};
 ghost use Rattle.groups_put.specs.Put.{put_group};
 
@@ -10,9 +12,9 @@ fn put_front(buf: &mut [u8], head: [u8; 8], h: usize, size: usize)
     requires { (h ≤ 8) × (h ≤ size) × (size ≤ length buf.old) }
     ensures { buf.new ≡ (take h head ++ take (size - h) buf.old) ++ drop size buf.old }
 {
-    bytes::reverse(buf, 0, size);
-    bytes::reverse(buf, h, size);
-    bytes::copy(&head[..h], buf);
+    copying::reverse(buf, 0, size);
+    copying::reverse(buf, h, size);
+    copying::copy(&head[..h], buf);
 }
 
 // A group around the first len elements, if it has room; its letter is a sextet.

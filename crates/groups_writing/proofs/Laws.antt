@@ -13,7 +13,7 @@ use Rattle.groups.specs.declared.Grouped.TheVariants as G
 use Rattle.groups.specs.declared.TextGrouped.TheVariants as T
 use Rattle.groups.specs.declared.BinaryGrouped.TheVariants as B
 use Rattle.groups.specs.Grouping.{group_size, grouped, group_left, text_grouped, binary_grouped}
-use Rattle.groups_claims.specs.Proved as C
+use Rattle.groups_claims.proofs.Proved as C
 use Rattle.groups_put.specs.Put.{put_group}
 
 -- ---- the call

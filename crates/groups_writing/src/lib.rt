@@ -1,5 +1,7 @@
 // Writing a group: the answer first, by its order and what a walk of the body as the group's contents gives, and then, if it is not a refusal,
 // the group put. What stands behind it stays, and a refused call leaves the buffer as it was.
+#![tactic(auto)]
+
 ghost use Rattle.std.specs.Prelude.{◌≡◌};
 ghost use Rattle.format.specs.Units.{domain};
 ghost use Rattle.format.specs.declared.Form.TheVariants.{Text, Binary};

@@ -1,5 +1,7 @@
 // Reading a single indexed item at an offset of a binary: 1, 4 at or past the end, framing by the indexed table, judging. The raw value is
 // told by its place.
+#![tactic(auto)]
+
 ghost use Rattle.std.specs.Prelude.{◌≡◌};
 ghost use Rattle.format.specs.declared.Framed.TheVariants.{Item};
 ghost use Rattle.format.specs.Units.{binary_sextets};

@@ -1,4 +1,6 @@
 // What is to be written of an indexed code that a caller names, or why not, before its room is asked: 6, 12 and 15, in that order.
+#![tactic(auto)]
+
 ghost use Rattle.std.specs.Prelude.{◌≡◌};
 ghost use Rattle.format.specs.Indexed.{row, named_index};
 ghost use Rattle.indexed_fit.specs.Digits.{Few};
@@ -8,7 +10,7 @@ use format::{IndexCode, IndexRow};
 use indexed_name::Named;
 
 // What is to be written, or a number. Its room is asked later, by who writes it.
-#[derive(Drop)]
+#[derive(Clone, Copy)]
 pub enum Planned {
     Refused(u8),
     Row(IndexRow),

@@ -1,4 +1,6 @@
 // Whether index, ondex and raw value fit an indexed code, 12, and whether it takes an ondex, 15.
+#![tactic(auto)]
+
 ghost use Rattle.std.specs.Prelude.{◌≡◌, ◌<◌, ◌≤◌, ◌/◌, ◌^◌};
 ghost use Rattle.format.specs.Judging.{ondex_right};
 ghost use Rattle.format.specs.Indexed.{indexed_raw_size, fits_indexed};

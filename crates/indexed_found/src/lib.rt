@@ -1,5 +1,7 @@
 // A single indexed item that a part of a text begins with: what is told of it, and 3 where there is no room for its raw value, which is copied
 // out.
+#![tactic(auto)]
+
 ghost use Rattle.std.specs.Prelude.{◌≡◌, length};
 ghost use Rattle.format.specs.Units.{text_sextets};
 ghost use Rattle.format.specs.Reading.Reading.{found};

@@ -1,4 +1,6 @@
 // What stands before the raw value of an indexed item, as its first nine bytes: code, index, ondex and pad bits, and then zeros.
+#![tactic(auto)]
+
 ghost use Rattle.std.specs.Prelude.{◌≡◌, ◌<◌, ◌%◌};
 ghost use Rattle.indexed_head.specs.Heads.{first_unit, second_unit, head_bytes};
 

@@ -18,7 +18,7 @@ use Rattle.framing_head.specs.Heads.{head_of}
 use Rattle.framing_head.proofs.Laws.{part-head, within-head}
 use Rattle.roundtrip_indexed.specs.Rows.{Spread, whole, half, Facts}
 use Rattle.roundtrip_indexed.specs.Own.{Own}
-use Rattle.roundtrip_indexed.specs.Reads.{Read, read-own}
+use Rattle.roundtrip_indexed.proofs.Reading.{Read, read-own}
 use Rattle.reading_part.specs.Outcome.{outcome}
 use Rattle.reading_part.proofs.Answers.{is_found}
 use Rattle.indexed_name.proofs.Names.{few}

@@ -1,5 +1,7 @@
 // A framed indexed item in a caller's words: its code, where its raw value starts, index and ondex. No stream is looked at. What is said
 // holds of the rows of the table, and of 1,048,576 units at most.
+#![tactic(auto)]
+
 ghost use Rattle.std.specs.Prelude.{◌≡◌, ◌-◌, ◌*◌, ◌≤◌};
 ghost use Rattle.format.specs.declared.Kind.TheVariants as Kind;
 ghost use Rattle.format.specs.Indexed.{code_of_row, indexed_of};

@@ -1,4 +1,6 @@
 // The indexed code that a caller names by its characters, as the row of the table, or none: 6.
+#![tactic(auto)]
+
 ghost use Rattle.std.specs.Prelude.{◌≡◌};
 ghost use Rattle.format.specs.Indexed.{named_index};
 ghost use Rattle.indexed_name.specs.Names.{as_named, selector_of, row_of, row_in};
@@ -6,7 +8,7 @@ ghost use Rattle.indexed_name.specs.Names.{as_named, selector_of, row_of, row_in
 use format::{IndexCode, IndexRow, Kind, Opening};
 
 // A code that is an indexed item's, or none.
-#[derive(Drop)]
+#[derive(Clone, Copy)]
 pub enum Named {
     Unknown,
     Row(IndexRow),

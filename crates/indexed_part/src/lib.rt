@@ -1,5 +1,7 @@
 // What a part of a stream begins with, as a single indexed item: framing by the indexed table, judging. Never 14: any other start is 6. The
 // place is in sextets from the part's start.
+#![tactic(auto)]
+
 ghost use Rattle.std.specs.Prelude.{◌≡◌};
 ghost use Rattle.format.specs.Units.{text_sextets, binary_sextets};
 ghost use Rattle.format.specs.Indexed.{reading_indexed};

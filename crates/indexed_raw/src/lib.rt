@@ -1,4 +1,6 @@
 // The part of a binary where the raw value of an indexed item lies: it is handed back, not copied.
+#![tactic(auto)]
+
 ghost use Rattle.std.specs.Prelude.{◌≡◌, ◌+◌};
 ghost use Rattle.format.specs.Indexed.{read_indexed_binary, indexed_part};
 ghost use Rattle.indexed_raw.specs.Part.{part_start};

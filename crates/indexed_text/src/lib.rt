@@ -1,5 +1,7 @@
 // Reading a single indexed item at an offset of a text: 1, 4 at or past the end, framing by the indexed table, judging, and 3 where there is
 // no room for its raw value, which is copied out.
+#![tactic(auto)]
+
 ghost use Rattle.std.specs.Prelude.{◌≡◌, length};
 ghost use Rattle.format.specs.Indexed.{read_indexed_text, indexed_left};
 

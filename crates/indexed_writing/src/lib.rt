@@ -1,5 +1,7 @@
 // Writing a single indexed item as text or as binary into a lent buffer: 6, 12, 15, 3. A refused call writes nothing, exact room suffices,
 // and bytes behind the item stay.
+#![tactic(auto)]
+
 ghost use Rattle.std.specs.Prelude.{◌≡◌, ◌/◌, length};
 ghost use Rattle.format.specs.Writing.{text_outcome, binary_outcome};
 ghost use Rattle.format.specs.Indexed.{write_indexed_text, text_indexed_left, write_indexed_binary, binary_indexed_left};

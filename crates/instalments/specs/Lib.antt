@@ -2,4 +2,3 @@ pub mod Instalments
 pub mod Numbers
 pub mod Lent
 pub mod Claims
-pub mod Proved

@@ -19,13 +19,13 @@ use Rattle.walk_state.specs.Lent.{walk_at}
 use Rattle.walk.specs.declared.Moved.{Moved}
 use Rattle.walk.specs.Stepping.{is_item, Steps, Fits}
 use Rattle.walk_claims.specs.Words.{Yields, Stops}
-use Rattle.walk_claims.specs.Yielding.{of-form}
+use Rattle.walk_claims.proofs.Yielding.{of-form}
 use Rattle.instalments.specs.declared.Pause.{Pause}
 use Rattle.instalments.specs.declared.Pause.TheVariants as P
 use Rattle.instalments.specs.declared.Walked.{Walked}
 use Rattle.instalments.specs.Instalments.{counted, unspent, walk_on}
 use Rattle.instalments.specs.Lent.{Goes}
-use Rattle.instalments.specs.Proved.{plus, pause_of, yields, stops}
+use Rattle.instalments.proofs.Proved.{plus, pause_of, yields, stops}
 
 -- n items behind the first state: what the rest of the budget gives from the present one, counted on, is what the budget gives from the
 -- first

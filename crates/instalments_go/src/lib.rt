@@ -1,4 +1,6 @@
 // The items of an instalment one by one, the state's ends in lent slots: one loop for both forms. 1 and 13 were asked before.
+#![tactic(auto)]
+
 ghost use Rattle.std.specs.Prelude.{◌≤◌, length};
 ghost use Rattle.format.specs.Units.{domain};
 ghost use Rattle.format.specs.Judging.{max_depth};

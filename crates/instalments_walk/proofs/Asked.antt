@@ -13,13 +13,13 @@ use Rattle.walk_state.specs.Lent.{walk_at}
 use Rattle.walk_extent.specs.declared.Extent.{Extent}
 use Rattle.walk_extent.specs.Extent.{Measured}
 use Rattle.walk.specs.Stepping.{Fits}
-use Rattle.walk_claims.specs.Yielding.{of-form}
+use Rattle.walk_claims.proofs.Yielding.{of-form}
 use Rattle.instalments.specs.declared.Pause.{Pause}
 use Rattle.instalments.specs.declared.Pause.TheVariants as P
 use Rattle.instalments.specs.declared.Went.{Went}
 use Rattle.instalments.specs.Instalments.{halted, walk_on}
 use Rattle.instalments.specs.Lent.{none, Goes}
-use Rattle.instalments.specs.Proved.{one, thirteen}
+use Rattle.instalments.proofs.Proved.{one, thirteen}
 
 module _ (form : Form) (xs : List ℕ) (e : Extent) (m : Measured form xs e) (budget : ℕ) (s : List ℕ) (p : Place) where
   no_item : {why : Pause} → walk_on (domain form) xs budget (walk_at s p) ≡ halted (walk_at s p) why → {r : Went} → r ≡ none p why

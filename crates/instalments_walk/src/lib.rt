@@ -1,6 +1,8 @@
 // The walk in instalments: on by at most a stated number of items, the state's ends in lent slots, of which an item copies none, or the
 // state by value, in the stream's elements or in a form's own offsets. 1 and 13 are asked once a call, then the items are taken one by one
 // (instalments_go). Assumes nothing of the state.
+#![tactic(auto)]
+
 ghost use Rattle.std.specs.Prelude.{◌≤◌, length, ◌≡◌};
 ghost use Rattle.format.specs.Units.{domain, text, binary};
 ghost use Rattle.format.specs.Judging.{max_depth};

@@ -1,5 +1,7 @@
 // An item's own checks, which the walk and the single readers make: of a primitive 5 behind the header, 18, 9, 8, 16, 10; of an indexed item
 // 5, 8, 15; of a group 11, 18. A header's checks look at the item's first sextets, 0 past its end.
+#![tactic(auto)]
+
 ghost use Rattle.std.specs.Prelude.{◌≡◌};
 ghost use Rattle.format.specs.declared.Verdict.TheVariants as Verdict;
 ghost use Rattle.format.specs.Units.{text_sextets};

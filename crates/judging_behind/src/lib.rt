@@ -1,4 +1,6 @@
 // 5 or 19 behind the header of a text's item: the first character there that is not in the alphabet, and its number.
+#![tactic(auto)]
+
 ghost use Rattle.std.specs.Prelude.{◌≡◌};
 ghost use Rattle.format.specs.Units.{text_sextets};
 ghost use Rattle.format.specs.Judging.{behind};

@@ -1,5 +1,7 @@
 // Bits among an item's first sextets: a sextet, and whether so many bits from one on are zero. The sextets are the item's own, 0 past
 // its end and past those that are held.
+#![tactic(auto)]
+
 ghost use Rattle.std.specs.Prelude.{◌≡◌, ◌-◌, ◌<◌, ◌≤◌, get_or};
 ghost use Rattle.format.specs.Judging.{zero_bits};
 

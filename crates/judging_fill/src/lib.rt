@@ -1,4 +1,6 @@
 // 16: whether a text, type `A`, is filled as its length asks, by its first unit. The sextets are the item's own, 0 past its end.
+#![tactic(auto)]
+
 ghost use Rattle.std.specs.Prelude.{◌≡◌};
 ghost use Rattle.judging_fill.specs.Fill.{filled_right, text_filled};
 

@@ -1,4 +1,6 @@
 // What the header and first sextets of a fixed code's item decide: 8 and 10. The sextets are the item's own, 0 past its end.
+#![tactic(auto)]
+
 ghost use Rattle.std.specs.Prelude.{◌≡◌, ◌<◌};
 ghost use Rattle.format.specs.Judging.{prepad_right};
 ghost use Rattle.judging_fixed.specs.Checks.{fixed_checks};

@@ -1,5 +1,7 @@
 // What an item's header decides alone, before a sextet behind it is looked at: a fixed code's zero bits and prepad, 18, the units
 // behind a group's header, and a group's 11 and 18.
+#![tactic(auto)]
+
 ghost use Rattle.std.specs.Prelude.{◌≡◌, ◌-◌, ◌<◌};
 ghost use Rattle.format.specs.Registry.{zero_bits_of, prepad_of};
 ghost use Rattle.format.specs.Judging.{is_shortest};

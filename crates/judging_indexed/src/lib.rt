@@ -1,4 +1,6 @@
 // What the header and first sextets of an indexed item decide: 8 and 15. The sextets are the item's own, 0 past its end.
+#![tactic(auto)]
+
 ghost use Rattle.std.specs.Prelude.{◌≡◌, ◌<◌, ◌≤◌, eqb, take, drop};
 ghost use Rattle.base.specs.Digits.{number_of};
 ghost use Rattle.format.specs.Registry.{index_chars};

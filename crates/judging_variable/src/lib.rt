@@ -1,4 +1,6 @@
 // What the header and first sextets of a variable value decide: 18, 9, 8 and 16. The sextets are the item's own, 0 past its end.
+#![tactic(auto)]
+
 ghost use Rattle.std.specs.Prelude.{◌≡◌, ◌*◌, ◌<◌};
 ghost use Rattle.format.specs.Judging.{has_lead, zero_bits};
 ghost use Rattle.judging_variable.specs.Checks.{variable_checks};

@@ -9,8 +9,8 @@ use Rattle.format.specs.Framing.{frame_ruled}
 use Rattle.format.specs.Cutting.{cut}
 use Rattle.format.specs.Judging.{shift}
 use Rattle.format.specs.Report.{ItemRow, RemainderRow, rows_of, remainder_of, frame_in, judge_in}
-use Rattle.damage.specs.Cuts as C
-use Rattle.damage.specs.Damage as D
+use Rattle.damage.proofs.Cuts as C
+use Rattle.damage.proofs.Damage as D
 use Rattle.laws.specs.Domains.{Reader}
 use Rattle.laws.specs.Framing.{unscale}
 use Rattle.laws.specs.Frames.{frames}

@@ -15,7 +15,7 @@ use Rattle.format.specs.Framing.{sextet, frame_by, frame_next, frame_with, ruled
 use Rattle.format.specs.Cutting.{cut_by, cut}
 use Rattle.format.specs.Cutting.Cut.{stopped, item}
 use Rattle.format.specs.Judging.{shift, and_then, in_turn, frame4, frame_next4, contents, judge_kind, judge_by, group, judge_with}
-use Rattle.damage.specs.Cuts as C
+use Rattle.damage.proofs.Cuts as C
 use Rattle.laws.specs.Framing.{Good, Lawful, by-with, by-good}
 use Rattle.laws.specs.Frames.{frames-any4}
 

@@ -1,10 +1,2 @@
 pub mod Words
 pub mod Claims
-pub mod Header
-pub mod Ratio
-pub mod Ties
-pub mod Room
-pub mod Kinds
-pub mod Demand3
-pub mod Items
-pub mod Proved

@@ -15,8 +15,8 @@ use Rattle.format.specs.declared.Framed.{Framed}
 use Rattle.format.specs.declared.Framed.TheVariants.{Item, Unframed}
 use Rattle.format.specs.Units.{domain}
 use Rattle.format.specs.Report.{ItemRow, rows, rows_of}
-use Rattle.damage.specs.Cuts as C
-use Rattle.damage.specs.Damage as D
+use Rattle.damage.proofs.Cuts as C
+use Rattle.damage.proofs.Damage as D
 use Rattle.laws.specs.Domains.{reader}
 use Rattle.runs.specs.Levels.{Clear}
 use Rattle.judging.proofs.Laws.{to_end}

@@ -1,6 +1,8 @@
 // How many items a mixed stream has, since room is asked by them. The size of a CESR item is told by its first unit where that tells it, and
 // small groups with one header that follow one another are counted at once. The tables are lent; `to` is a byte in front of which, from the
 // present one on, all characters of a text are known.
+#![tactic(auto)]
+
 ghost use Rattle.std.specs.Prelude.{◌≡◌, ◌≤◌, length, drop};
 ghost use Rattle.mixed.specs.Mixed.{frame_mixed};
 ghost use Rattle.mixed_count.specs.Sizes.{size_of, Begun, NextBy, Next, Total};
@@ -9,7 +11,7 @@ use format::{Form, Framed};
 use mixed::Start;
 
 // An item of so many elements or units, and how many more of that size behind it are counted at once; no size where nothing is framed.
-#[derive(Drop)]
+#[derive(Clone, Copy)]
 struct Step {
     size: usize,
     more: usize,

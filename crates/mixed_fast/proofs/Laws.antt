@@ -18,7 +18,7 @@ use Rattle.format.specs.Registry.{is_indexed}
 use Rattle.format.specs.Framing.{frame_ruled, scale}
 use Rattle.format.specs.Judging.{shift}
 use Rattle.format.specs.Report.{frame_in, judge_in}
-use Rattle.damage.specs.Damage.{shift_zero}
+use Rattle.damage.proofs.Damage.{shift_zero}
 use Rattle.laws.specs.Domains.{reader}
 use Rattle.runs.specs.Plain.{small_at, group_at, letter_at}
 use Rattle.runs.specs.Levels.{Clear}

@@ -1,5 +1,7 @@
 // The fast way to an accepted CESR item of a mixed stream, of either form: that of the reports, on the part of the stream from the item on.
 // One-sided: a size says that the item is accepted and so long, 0 says nothing. The tables are lent.
+#![tactic(auto)]
+
 ghost use Rattle.mixed_fast.specs.Found.{Units, Fast};
 
 use format::Form;

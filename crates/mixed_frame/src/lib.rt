@@ -1,5 +1,7 @@
 // What stands at the start of a mixed stream's part, framed as at top level: by its first byte as a text item, a binary one, a JSON one, or
 // not at all. Sizes are in bytes.
+#![tactic(auto)]
+
 ghost use Rattle.std.specs.Prelude.{◌≡◌};
 ghost use Rattle.format.specs.Units.{domain};
 ghost use Rattle.format.specs.Framing.{scale};

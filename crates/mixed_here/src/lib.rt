@@ -1,5 +1,7 @@
 // What stands at a byte of a mixed stream, framed and judged: a CESR item by the fast way where that accepts it, and else by the general way.
 // The tables are lent; `to` is a byte in front of which, from the present one on, all characters of a text are known.
+#![tactic(auto)]
+
 ghost use Rattle.std.specs.Prelude.{◌≤◌, length};
 ghost use Rattle.mixed_here.specs.Here.{General, Judged};
 
@@ -7,7 +9,7 @@ use format::{Framed, Verdict};
 use mixed::Start;
 
 // An item of so many bytes with its verdict, its place in the stream, and the byte of its form; or nothing is framed, for this reason.
-#[derive(Drop)]
+#[derive(Clone, Copy)]
 pub enum Standing {
     Item {
         size: usize,

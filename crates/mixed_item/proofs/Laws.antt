@@ -16,8 +16,8 @@ use Rattle.format.specs.Units.{domain}
 use Rattle.format.specs.Framing.{frame_ruled}
 use Rattle.format.specs.Judging.{shift}
 use Rattle.format.specs.Report.{frame_in, judge_in}
-use Rattle.damage.specs.Cuts.{frame-take}
-use Rattle.damage.specs.Damage.{shift_zero}
+use Rattle.damage.proofs.Cuts.{frame-take}
+use Rattle.damage.proofs.Damage.{shift_zero}
 use Rattle.laws.specs.Framing.{unscale}
 use Rattle.judging.proofs.Bounds.{Near}
 use Rattle.report_found.specs.Limits.{longest}

@@ -1,5 +1,7 @@
 // The verdict on an item of a mixed stream, judged on its own bytes by the reports' general way, with its place in the stream. What is no such
 // item is never accepted.
+#![tactic(auto)]
+
 ghost use Rattle.std.specs.Prelude.{◌≡◌, ℕ, ◌≤◌};
 ghost use Rattle.format.specs.Judging.{shift};
 ghost use Rattle.mixed_item.specs.Items.{Own, Judges, farthest};

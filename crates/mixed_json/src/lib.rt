@@ -1,4 +1,6 @@
 // A JSON item of a mixed stream, framed by its header of 23 bytes: `{"v":"` and the version string. Its body is not looked at.
+#![tactic(auto)]
+
 ghost use Rattle.std.specs.Prelude.{◌≡◌, ◌+◌, ◌*◌, ◌<◌, ◌≤◌, length, get_or};
 ghost use Rattle.mixed.specs.Json.{hex_of, meets, pattern, passes, json_size, fit_json, frame_json};
 

@@ -1,5 +1,7 @@
 // How far the characters of a text item are known in a mixed stream: all bytes in front of `to`, from the present one on, are of the alphabet.
 // So each character is looked at once, and a stretch of text items as in a text's own report.
+#![tactic(auto)]
+
 ghost use Rattle.std.specs.Prelude.{◌≤◌, length, drop};
 ghost use Rattle.format.specs.Units.{domain};
 ghost use Rattle.runs.specs.Levels.{Clear};

@@ -8,7 +8,7 @@ use Rattle.format.specs.declared.Framed.TheVariants.{Unframed}
 use Rattle.format.specs.Units.{domain}
 use Rattle.format.specs.Report.{frame_in, judge_in}
 use Rattle.damage.specs.Words.{Frames}
-use Rattle.damage.specs.Choose.{frames-none}
+use Rattle.damage.proofs.Choose.{frames-none}
 use Rattle.laws.specs.Domains.{reader}
 use Rattle.laws.specs.Frames.{frames}
 use Rattle.mixed.specs.declared.Start.{Start}

@@ -6,7 +6,7 @@ use native.Mathlib.Omega.{arith}
 use lib.ListN.{length, drop, set, length-drop, length-append}
 use lib.Seq.{length-take-le}
 use borrow.Author.Tests.{lt-ltb, le-ltb}
-use Rattle.io.specs.Counts.{IsPrefixLen}
+use Rattle.program.specs.Counts.{IsPrefixLen}
 use Rattle.format.specs.declared.Form.{Form}
 use Rattle.format.specs.declared.Form.TheVariants.{Text, Binary}
 use Rattle.format.specs.declared.Kind.{Kind}
@@ -16,8 +16,8 @@ use Rattle.format.specs.declared.Reported.TheVariants as R
 use Rattle.format.specs.Units.{domain}
 use Rattle.format.specs.Framing.{frame_ruled}
 use Rattle.format.specs.Report.{rows, rows_of, frame_in}
-use Rattle.damage.specs.Cuts as C
-use Rattle.damage.specs.Damage as D
+use Rattle.damage.proofs.Cuts as C
+use Rattle.damage.proofs.Damage as D
 use Rattle.laws.specs.Framing.{unscale}
 use Rattle.laws.specs.Domains.{reader}
 use Rattle.laws.specs.Frames.{frames}

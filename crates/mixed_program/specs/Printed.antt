@@ -2,7 +2,7 @@
 -- its report, or for a longer one the single byte 01". Assumes nothing.
 use Rattle.std.specs.Prelude.{ℕ, ◌≡◌, List, [], ◌∷◌, ◌++◌, ltb, length, drop}
 use Rattle.base.specs.Pick.{pick}
-use Rattle.io.specs.Counts.{IsPrefixLen}
+use Rattle.program.specs.Counts.{IsPrefixLen}
 use Rattle.mixed.specs.Mixed.{mixed_report}
 
 unfoldable pub printed : List ℕ → List ℕ

@@ -1,6 +1,8 @@
 // What the program for mixed streams writes: the report of one of at most 8,192 bytes, or for a longer one the single byte 01.
+#![tactic(auto)]
+
 ghost use Rattle.std.specs.Prelude.{◌≡◌, length};
-ghost use Rattle.io.specs.Counts.{IsPrefixLen};
+ghost use Rattle.program.specs.Counts.{IsPrefixLen};
 ghost use Rattle.mixed_program.specs.Printed.{printed_answer, printed_left, Prints};
 
 use format::Reported;

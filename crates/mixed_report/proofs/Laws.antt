@@ -20,7 +20,7 @@ use Rattle.report_last.specs.declared.End.TheVariants.{Whole}
 use Rattle.report_last.specs.declared.End.TheVariants as E
 use Rattle.mixed.specs.Mixed.{frame_mixed, judge_mixed, mixed_row_bytes, mixed_report, mixed_limit, mixed_answer, mixed_left}
 use Rattle.mixed_laws.specs.Frames.{frames-mixed}
-use Rattle.mixed_claims.specs.Proved.{proved}
+use Rattle.mixed_claims.proofs.Proved.{proved}
 use Rattle.mixed_known.specs.Known.{Known, known_start, known_on}
 use Rattle.mixed_count.specs.Sizes.{Total}
 use Rattle.mixed_rows.specs.Rows.{row-ten}

@@ -2,6 +2,8 @@
 // items, since room is asked by them; a second stores their rows where they are to stand. The tables are named once and lent; `to` is a byte
 // in front of which, from the present one on, all characters of a text are known, and `known` such a byte from the first on, so that a stream
 // of text items alone is scanned once for both passes.
+#![tactic(auto)]
+
 ghost use Rattle.std.specs.Prelude.{◌≡◌, length};
 ghost use Rattle.mixed.specs.Mixed.{mixed_answer, mixed_left};
 ghost use Rattle.mixed_report.specs.Turns.{Read, Counted, Begun, Ends, Ended, Written, Answered};

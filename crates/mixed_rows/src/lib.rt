@@ -1,5 +1,7 @@
 // The rows of a mixed report's item, stored at places of a lent buffer: an item's row has ten bytes, the last of which tells its form. What
 // does not fit is not stored.
+#![tactic(auto)]
+
 ghost use Rattle.std.specs.Prelude.{◌≡◌, [], ◌∷◌, ◌+◌, length};
 ghost use Rattle.format.specs.Report.{refusal};
 ghost use Rattle.report_rows.specs.Stores.{put};

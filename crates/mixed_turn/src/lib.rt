@@ -1,5 +1,7 @@
 // A turn of the mixed report's loop: what stands at a byte is framed and judged, and its rows are stored. It does so wherever the places that
 // it is given are within the stream, the tables are right, characters are known up to `to` and the buffer is filled up to there.
+#![tactic(auto)]
+
 ghost use Rattle.mixed_here.specs.declared.Standing.TheVariants as Standing;
 ghost use Rattle.mixed_here.specs.Here.{Stands};
 ghost use Rattle.mixed_turn.specs.Turns.{Placed, Filled, Turns, Places};
@@ -8,7 +10,7 @@ use format::Verdict;
 use mixed_here::Standing;
 
 // What a turn stored: the rows of an item of so many bytes and its refusal, if it is refused; or nothing, for this reason.
-#[derive(Drop)]
+#[derive(Clone, Copy)]
 pub enum Turn {
     Stored { bytes: usize, refused: usize },
     Rest { number: u8 },

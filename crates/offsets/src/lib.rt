@@ -1,4 +1,6 @@
 // Offsets of the two forms, which are never interchangeable numbers, and the four-to-three conversion between them.
+#![tactic(auto)]
+
 ghost use Rattle.std.specs.Prelude.{◌≡◌};
 ghost use Rattle.format.specs.Offsets.{offset_in_binary, offset_in_text};
 

@@ -1,12 +1,2 @@
 pub mod Words
 pub mod Claims
-pub mod Marks
-pub mod Framed
-pub mod Judged
-pub mod Reports
-pub mod Calls
-pub mod Walks
-pub mod Places
-pub mod Exact
-pub mod IndexedReads
-pub mod Proved

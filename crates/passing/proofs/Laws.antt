@@ -11,7 +11,7 @@ use Rattle.expectation.specs.declared.Said.{Said}
 use Rattle.expectation.specs.declared.Said.TheVariants as S
 use Rattle.expectation.specs.Bytes.{Says}
 use Rattle.expectation.specs.Expectation.{malformed, column, reported}
-use Rattle.comparison.specs.Counts.{column-length}
+use Rattle.comparison.proofs.Counting.{column-length}
 use Rattle.passing.specs.Passing.{are_accepted, passed_of, passed_by, passed_in}
 use Rattle.passing.specs.Looked.{Looked}
 

@@ -1,4 +1,6 @@
 // Whether a stream passed, read off its report's bytes alone: every item accepted, one at least, no refusal and no remainder.
+#![tactic(auto)]
+
 ghost use Rattle.std.specs.Prelude.{◌≡◌, ◌+◌, ◌*◌, ◌≤◌, length, drop};
 ghost use Rattle.expectation.specs.Expectation.{column};
 ghost use Rattle.passing.specs.Passing.{are_accepted, passed_of, passed_in};
@@ -6,7 +8,7 @@ ghost use Rattle.passing.specs.Passing.{are_accepted, passed_of, passed_in};
 use expectation::Said;
 
 // 0, and whether it passed; or 20, and then it did not.
-#[derive(Drop)]
+#[derive(Clone, Copy)]
 pub struct Outcome {
     pub number: u8,
     pub passed: bool,

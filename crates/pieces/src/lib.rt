@@ -1,9 +1,11 @@
 // Streams that arrive in pieces (02 f): the state between pieces, and what the calls answer. What they mean is defined in specs/; there is
 // no code here.
+#![tactic(auto)]
+
 use walk_state::Walk;
 
 // Whether items are framed, or the remainder has begun, or the end was told.
-#[derive(Drop)]
+#[derive(Clone, Copy)]
 pub enum Phase {
     Framing,
     Unframed,
@@ -16,7 +18,7 @@ pub enum Phase {
 // position. lead, text: the zero lead bytes that the next unit opens with, and whether it opens a text. number, place: the refusal of the
 // top-level item, or what stands unless a stranger comes first; number 0 is none. start: where the top-level item or the remainder starts.
 // items: how many were told.
-#[derive(Drop)]
+#[derive(Clone, Copy)]
 pub struct Progress {
     pub walk: Walk,
     pub read: usize,
@@ -33,7 +35,7 @@ pub struct Progress {
 
 // unit: the elements to a unit, by which a text's state is told from a binary's. held: the elements of a unit that is not whole, so many as
 // count says; unused places are 0.
-#[derive(Drop)]
+#[derive(Clone, Copy)]
 pub struct Pieces {
     pub unit: usize,
     pub progress: Progress,
@@ -42,28 +44,28 @@ pub struct Pieces {
 }
 
 // What a piece gives: the lengths written of item rows and of refusal rows, or a number, whose place is 0.
-#[derive(Drop)]
+#[derive(Clone, Copy)]
 pub enum Given {
     Taken { items: usize, refusals: usize },
     Refused { number: u8, place: usize },
 }
 
 // The state behind a piece, with what it gave. At a refusal the state stays as it was.
-#[derive(Drop)]
+#[derive(Clone, Copy)]
 pub struct Fed {
     pub next: Pieces,
     pub given: Given,
 }
 
 // What the end gives: the length written of the remainder's row, or a number, whose place is 0.
-#[derive(Drop)]
+#[derive(Clone, Copy)]
 pub enum Closing {
     Written(usize),
     Refused { number: u8, place: usize },
 }
 
 // The state behind the end, with what it gave.
-#[derive(Drop)]
+#[derive(Clone, Copy)]
 pub struct Closed {
     pub next: Pieces,
     pub closing: Closing,

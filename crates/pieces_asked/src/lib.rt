@@ -1,5 +1,7 @@
 // The conditions of 13 (02 f), one by one as `pieces/Calls` has them: whether a state, whoever made it, is fit for pieces of a form. The
 // limit, 1, is asked in the same way.
+#![tactic(auto)]
+
 ghost use Rattle.std.specs.Prelude.{◌≡◌, ◌+◌, ◌*◌, ltb, leb, eqb};
 ghost use Rattle.std.proofs.Math.Bool as Bool;
 ghost use Rattle.base.specs.Pick.{pick};

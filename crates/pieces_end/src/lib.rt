@@ -1,5 +1,7 @@
 // The end of a stream in pieces (02 f): 13, 3, else the row of the remainder, if there is one, and a state that takes no more calls. Refused,
 // the state and the buffer stay as they were. Assumes nothing of the state.
+#![tactic(auto)]
+
 ghost use Rattle.std.specs.Prelude.{◌≡◌, [], ◌∷◌, ◌++◌, ◌+◌, ◌*◌, ◌≤◌, ltb, length};
 ghost use Rattle.format.specs.Units.{domain};
 ghost use Rattle.format.specs.Judging.{max_depth};

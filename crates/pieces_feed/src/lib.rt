@@ -1,4 +1,6 @@
 // A piece (02 f): 13, 1, 3, else it is taken in. Refused, the state and both buffers stay as they were. Assumes nothing of the state.
+#![tactic(auto)]
+
 ghost use Rattle.std.specs.Prelude.{◌≡◌, ◌+◌, ◌*◌, ◌≤◌, leb, length};
 ghost use Rattle.std.proofs.Math.Bool as Bool;
 ghost use Rattle.base.specs.Pick.{pick};

@@ -21,7 +21,7 @@ use Rattle.laws.specs.Domains.{Reader}
 use Rattle.walk_state.specs.declared.Walk.{Walk}
 use Rattle.walk_state.specs.Walking.{all_below, next_of}
 use Rattle.walk_state.specs.Walking as W
-use Rattle.walk_claims.specs.Fitting.{fit-facts, fit-made, plain, by-depth}
+use Rattle.walk_claims.proofs.Fitting.{fit-facts, fit-made, plain, by-depth}
 use Rattle.pieces.specs.declared.Phase.{Phase}
 use Rattle.pieces.specs.declared.Phase.TheVariants as P
 use Rattle.pieces.specs.declared.Progress.{Progress}

@@ -24,9 +24,9 @@ use Rattle.format.specs.Framing as Fr
 use Rattle.format.specs.Judging.{scan, max_depth}
 use Rattle.walk_state.specs.declared.Walk.{Walk}
 use Rattle.walk_state.specs.Walking.{moved_to, next_of}
-use Rattle.walk_claims.specs.Fitting.{stop_at, stop-outer, stop-in, Fits}
-use Rattle.walk_claims.specs.Steps.{next-by}
-use Rattle.walk_claims.specs.Keeps.{over-fits, into-fits}
+use Rattle.walk_claims.proofs.Fitting.{stop_at, stop-outer, stop-in, Fits}
+use Rattle.walk_claims.proofs.Steps.{next-by}
+use Rattle.walk_claims.proofs.Keeps.{over-fits, into-fits}
 use Rattle.pieces.specs.declared.Phase.{Phase}
 use Rattle.pieces.specs.declared.Phase.TheVariants as P
 use Rattle.pieces.specs.declared.Progress.{Progress}

@@ -18,9 +18,9 @@ use Rattle.laws.specs.Local.{There, frame-there, ruled-there}
 use Rattle.laws.specs.Levels.{part, part_length, part-drop, part-take}
 use Rattle.walk_state.specs.declared.Walk.{Walk}
 use Rattle.walk_state.specs.Walking.{stop_of}
-use Rattle.walk_claims.specs.Fitting.{stop_at, stop-in, Fits}
-use Rattle.walk_claims.specs.Steps.{asked, framed_here}
-use Rattle.walk_claims.specs.Keeps.{stop-level}
+use Rattle.walk_claims.proofs.Fitting.{stop_at, stop-in, Fits}
+use Rattle.walk_claims.proofs.Steps.{asked, framed_here}
+use Rattle.walk_claims.proofs.Keeps.{stop-level}
 use Rattle.pieces.specs.Headers.{all_known, is_long, endless, room_of, asks7, framed_by}
 use Rattle.pieces_headers.specs.Headers.{opens, Opened, frame_opened, NearKind, frame-one, ruled-one, cap, ruled-capped, long-made}
 

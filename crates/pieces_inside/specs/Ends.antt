@@ -12,8 +12,8 @@ use Rattle.laws.specs.Alphabet.{number-some}
 use Rattle.laws.specs.Levels.{shift-shift}
 use Rattle.walk_state.specs.declared.Walk.{Walk}
 use Rattle.walk_state.specs.Walking.{closed, moved_to, next_of}
-use Rattle.walk_claims.specs.Fitting.{stop_at, Fits}
-use Rattle.walk_claims.specs.Steps.{into_next, over_next, next-by}
+use Rattle.walk_claims.proofs.Fitting.{stop_at, Fits}
+use Rattle.walk_claims.proofs.Steps.{into_next, over_next, next-by}
 use Rattle.pieces.specs.Steps.{clear, end_of}
 
 -- ---- the end, whatever is closed or opened within

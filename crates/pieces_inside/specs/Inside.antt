@@ -29,12 +29,12 @@ use Rattle.laws.specs.Levels.{part, part_length, part-drop, part-take, shift-shi
 use Rattle.walk_state.specs.declared.Walk.{Walk}
 use Rattle.walk_state.specs.Walking.{closed, moved_to, past, next_of}
 use Rattle.walk_claims.specs.Words.{units_in, tail_of}
-use Rattle.walk_claims.specs.Fitting.{stop_at, stop-inner, stop-outer, stop-in, Nested, Fits}
-use Rattle.walk_claims.specs.Steps.{asked, framed_here, judged_here, entered, into_next, over_next, opens-next, next-by}
-use Rattle.walk_claims.specs.Keeps.{over-fits, into-fits, item_room}
-use Rattle.walk_claims.specs.Runs.{closed_at}
-use Rattle.walk_claims.specs.Rest.{or_else, Telling, rest, left, emitted, rest-refused, refused-tells, item-tells, framed-by, before-stop, outermost}
-use Rattle.walk_claims.specs.Firsts.{firsts, or-placed, at-end, base}
+use Rattle.walk_claims.proofs.Fitting.{stop_at, stop-inner, stop-outer, stop-in, Nested, Fits}
+use Rattle.walk_claims.proofs.Steps.{asked, framed_here, judged_here, entered, into_next, over_next, opens-next, next-by}
+use Rattle.walk_claims.proofs.Keeps.{over-fits, into-fits, item_room}
+use Rattle.walk_claims.proofs.Runs.{closed_at}
+use Rattle.walk_claims.proofs.Rest.{or_else, Telling, rest, left, emitted, rest-refused, refused-tells, item-tells, framed-by, before-stop, outermost}
+use Rattle.walk_claims.proofs.Firsts.{firsts, or-placed, at-end, base}
 use Rattle.pieces.specs.declared.Phase.{Phase}
 use Rattle.pieces.specs.declared.Phase.TheVariants as P
 use Rattle.pieces.specs.declared.Progress.{Progress}

@@ -1,5 +1,7 @@
 // What a header decides of an item before its own units have come (02 f), and the unit behind it: whether there is a second header unit, and
 // the number of a refusal, 0 for none.
+#![tactic(auto)]
+
 ghost use Rattle.std.specs.Prelude.{◌≡◌, ◌<◌};
 ghost use Rattle.format.specs.Registry.{header_units};
 ghost use Rattle.format.specs.Judging.{has_lead, zero_bits};

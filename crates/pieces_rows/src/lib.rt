@@ -1,5 +1,7 @@
 // The rows of an item whose last unit was read (02 f): its row, and its refusal's where it is refused, each kind in a buffer of its own. A row
 // that does not fit is not stored.
+#![tactic(auto)]
+
 ghost use Rattle.std.specs.Prelude.{◌≡◌, ◌≤◌};
 ghost use Rattle.format.specs.Report.{placed};
 ghost use Rattle.pieces.specs.Headers.{verdict_of};

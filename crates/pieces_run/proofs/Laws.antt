@@ -21,7 +21,7 @@ use Rattle.laws.specs.Domains.{reader}
 use Rattle.filling.specs.Stores.{sets-append, concat-append, concat-snoc, concat-long, row-long, refusal-long}
 use Rattle.report_rows.specs.Stores.{put, put-fits}
 use Rattle.walk_state.proofs.Lent.{slot_at}
-use Rattle.walk_claims.specs.Fitting.{stop_at, stop-in}
+use Rattle.walk_claims.proofs.Fitting.{stop_at, stop-in}
 use Rattle.pieces.specs.declared.Progress.{Progress}
 use Rattle.pieces.specs.Steps.{unit_step, is_whole, row_of, rows_from, told}
 use Rattle.pieces.specs.Feeding.{after, rows_after}

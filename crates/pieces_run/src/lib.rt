@@ -1,4 +1,6 @@
 // All units of what is held and a piece behind it (02 f), one behind the other. Buffers of no bytes serve to count.
+#![tactic(auto)]
+
 ghost use Rattle.std.specs.Prelude.{◌≡◌, ◌+◌, ◌/◌, ◌≤◌, length};
 ghost use Rattle.format.specs.Units.{domain};
 ghost use Rattle.pieces_run.specs.Runs.{held_with, Starts, Running};

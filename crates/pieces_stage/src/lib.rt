@@ -1,5 +1,7 @@
 // A state of pieces (02 f) whose walk's ends are lent, so that a unit copies none of them: what a unit makes of it once it is known what the
 // unit is.
+#![tactic(auto)]
+
 ghost use Rattle.std.specs.Prelude.{◌≡◌, ◌≤◌, length};
 ghost use Rattle.std.proofs.Math.Bool as Bool;
 ghost use Rattle.format.specs.Judging.{max_depth};
@@ -13,7 +15,7 @@ use pieces::Phase;
 use walk_state::Place;
 
 // The state but the ends: as pieces::Progress has it, with the walk's place.
-#[derive(Drop)]
+#[derive(Clone, Copy)]
 pub struct Stage {
     pub walk: Place,
     pub read: usize,

@@ -153,10 +153,12 @@ module _ (before : List ℕ) (g r : Stage) (cs : List ℕ) (k : Kind) (h n numbe
       → Becomes mid after r (settled (progress_at mid g) (walk_at mid next) (lead_of k) (opens_text k) (head_number k h cs) (4 * g.walk.at))
       → Becomes before after r (headed (progress_at before g) cs (Item k h n))
   unfolding headed settled
-  item_on mid after next none m b = record {
-    state = b.state ∙ rw (m.state, ← is_number, eq-eqb number 0 none);
-    behind = b.behind ∙ m.behind;
-  }
+  item_on mid after next none m b =
+      let next_is = ap (λ (w : Walk). settled (progress_at mid g) w (lead_of k) (opens_text k) (head_number k h cs) (4 * g.walk.at)) m.state in
+      record {
+        state = b.state ∙ next_is ∙ rw (← is_number, eq-eqb number 0 none);
+        behind = b.behind ∙ m.behind;
+      }
 
 pub leads-on : (before after : List ℕ) (w next : Place) (k : Kind) (h n : ℕ) (opens mark indexed : Bool) → w.depth ≤ max_depth → Slotted k w.depth
     → opens ≡ is_entered k → mark ≡ is_ruled k → indexed ≡ holds_indexed k

@@ -1,4 +1,6 @@
 // One unit more (02 f): what it is, by where the walk stands and how far was read, and what it makes of the state.
+#![tactic(auto)]
+
 ghost use Rattle.std.specs.Prelude.{◌≡◌, ◌++◌, List, ℕ, ◌≤◌, ◌+◌, length};
 ghost use Rattle.format.specs.declared.Framed.TheVariants.{Item};
 ghost use Rattle.format.specs.declared.Verdict.TheVariants.{Refused};

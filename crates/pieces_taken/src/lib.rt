@@ -1,4 +1,6 @@
 // A piece taken in (02 f), the state by value: the state behind it, and the rows that it completes, counted and, where there is room, stored.
+#![tactic(auto)]
+
 ghost use Rattle.std.specs.Prelude.{◌≡◌, ◌+◌, ◌≤◌, length};
 ghost use Rattle.std.proofs.Math.Bool as Bool;
 ghost use Rattle.format.specs.Units.{domain};
@@ -15,7 +17,7 @@ use pieces_stage::Stage;
 use walk_state::Walk;
 
 // The state behind a piece, and how many items and refusals it gave.
-#[derive(Drop)]
+#[derive(Clone, Copy)]
 pub struct Ahead {
     pub next: Pieces,
     pub items: usize,

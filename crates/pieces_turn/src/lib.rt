@@ -1,5 +1,7 @@
 // One unit more of what is held and a piece behind it (02 f): it takes the state on, and an item's last unit gives its rows. Rows that do not fit
 // are not stored.
+#![tactic(auto)]
+
 ghost use Rattle.std.specs.Prelude.{◌≡◌, ◌+◌, ◌≤◌};
 ghost use Rattle.pieces_stage.specs.Stages.{far};
 ghost use Rattle.pieces_turn.specs.Turns.{Able, Turned};
@@ -7,7 +9,7 @@ ghost use Rattle.pieces_turn.specs.Turns.{Able, Turned};
 use pieces_stage::Stage;
 
 // The state behind some units, and how many items and refusals they gave.
-#[derive(Drop)]
+#[derive(Clone, Copy)]
 pub struct Ran {
     pub stage: Stage,
     pub items: usize,

@@ -1,4 +1,6 @@
 // What is held and a piece behind it (02 f), of either form: its units as four sextets, and the elements behind the last whole one.
+#![tactic(auto)]
+
 ghost use Rattle.std.specs.Prelude.{◌≡◌, ◌++◌, ◌+◌, ◌*◌, ◌%◌, ◌≤◌, length, get_or, take, drop};
 ghost use Rattle.format.specs.Units.{text, binary, domain};
 ghost use Rattle.pieces_units.specs.Rests.{rest_of};

@@ -20,11 +20,11 @@ use Rattle.laws.specs.Framing.{Good, Lawful, ruled_with, frame_ruled-good}
 use Rattle.laws.specs.Levels.{part, take-of-drop}
 use Rattle.walk_state.specs.declared.Walk.{Walk}
 use Rattle.walk_state.specs.Walking.{stop_of}
-use Rattle.walk_claims.specs.Fitting.{stop_at, stop-outer, Fits}
-use Rattle.walk_claims.specs.Steps.{asked, framed_here}
-use Rattle.walk_claims.specs.Keeps.{stop-level}
-use Rattle.walk_claims.specs.Rest.{then-accepted}
-use Rattle.walk_claims.specs.Firsts.{at_item, base}
+use Rattle.walk_claims.proofs.Fitting.{stop_at, stop-outer, Fits}
+use Rattle.walk_claims.proofs.Steps.{asked, framed_here}
+use Rattle.walk_claims.proofs.Keeps.{stop-level}
+use Rattle.walk_claims.proofs.Rest.{then-accepted}
+use Rattle.walk_claims.proofs.Firsts.{at_item, base}
 use Rattle.pieces.specs.declared.Progress.{Progress}
 use Rattle.pieces.specs.declared.Phase.TheVariants as P
 use Rattle.pieces.specs.Headers.{verdict_of}

@@ -11,7 +11,7 @@ use Rattle.format.specs.declared.Verdict.TheVariants.{Accepted, Refused}
 use Rattle.format.specs.Judging.{scan}
 use Rattle.walk_state.specs.declared.Walk.{Walk}
 use Rattle.walk_state.specs.Walking.{moved_to, next_of}
-use Rattle.walk_claims.specs.Fitting.{Fits}
+use Rattle.walk_claims.proofs.Fitting.{Fits}
 use Rattle.pieces.specs.declared.Phase.{Phase}
 use Rattle.pieces.specs.declared.Phase.TheVariants as P
 use Rattle.pieces.specs.declared.Progress.{Progress}

@@ -20,10 +20,10 @@ use Rattle.format.specs.Report.{ItemRow, RemainderRow, frame_in, placed, rows, r
 use Rattle.laws.specs.Domains.{Reader}
 use Rattle.laws.specs.Levels.{part, part_length, part-drop, part-take, take-of-drop}
 use Rattle.laws.specs.Frames.{frames}
-use Rattle.damage.specs.Cuts as C
+use Rattle.damage.proofs.Cuts as C
 use Rattle.laws.specs.Items.{rows_at, left_at, first_row, rows-nil, left-nil, rows-refused, left-refused, rows-item, left-item}
 use Rattle.walk_claims.specs.Words.{units_in, tail_of}
-use Rattle.walk_claims.specs.Streams.{placed-shift, from, from_on, judged-from, framed-item, framed-refused, framed-end, some_left, tail-left, none_left}
+use Rattle.walk_claims.proofs.Streams.{placed-shift, from, from_on, judged-from, framed-item, framed-refused, framed-end, some_left, tail-left, none_left}
 use Rattle.pieces.specs.declared.Phase.TheVariants as P
 use Rattle.pieces.specs.declared.Progress.{Progress}
 use Rattle.pieces.specs.Feeding.{after, rows_after, number_at, begin}

@@ -6,7 +6,7 @@ use native.Mathlib.Omega.{arith}
 use lib.ListN.{length, drop, set, length-drop, length-append}
 use lib.Seq.{length-take-le}
 use borrow.Author.Tests.{lt-ltb, le-ltb}
-use Rattle.io.specs.Counts.{IsPrefixLen}
+use Rattle.program.specs.Counts.{IsPrefixLen}
 use Rattle.format.specs.declared.Kind.{Kind}
 use Rattle.format.specs.declared.Framed.TheVariants.{Item, Unframed}
 use Rattle.format.specs.declared.Reported.{Reported}
@@ -17,18 +17,12 @@ use Rattle.laws.specs.Domains.{Reader}
 use Rattle.laws.specs.Frames.{frames}
 use Rattle.laws.specs.Items.{rows_at, by-items, rows-nil, rows-refused, rows-item, item-units}
 use Rattle.claims.specs.Claims.{Demand3}
-use Rattle.claims.specs.Room.{report-fits}
-use Rattle.program.specs.declared.Input.{Input}
-use Rattle.program.specs.declared.Input.TheVariants.{Failed, Whole}
-use Rattle.program.specs.Printed.{printed, printed_answer, printed_left, Fits}
+use Rattle.claims.proofs.Room.{report-fits}
+use Rattle.program.specs.Printed.{printed, printed_answer, printed_left}
 
 wider : (n u : ℕ) → 3 ≤ u → n * 3 ≤ n * u
 wider zero u l = omega arith
 wider (suc n) u l = let z : suc n * u ≡ u + n * u = omega arith in omega (arith, wider n u l)
-
-pub fits_whole : (r : Input) (at n : ℕ) → Fits r at n → (m : ℕ) → r ≡ Whole m → at + m ≤ n
-fits_whole Failed at n f m e = let z : ◌≡◌ {A = ℕ} 0 1 = cc in absurd (omega arith)
-fits_whole (Whole k) at n f m e = let z : k ≡ m = cc in omega arith
 
 pub counts : (n : ℕ) (xs : List ℕ) → n ≤ length xs → IsPrefixLen n xs
 counts n xs l = (l, sym (length-take-le n xs l))

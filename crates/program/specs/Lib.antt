@@ -1,1 +1,3 @@
+pub mod Counts
 pub mod Printed
+pub mod Taken

@@ -3,7 +3,7 @@
 use Rattle.std.specs.Prelude.{ℕ, ◌+◌, ◌≤◌, ◌≡◌, List, [], ◌∷◌, ◌++◌, ltb, length, drop}
 use Rattle.std.proofs.Common.{arith}
 use Rattle.base.specs.Pick.{pick}
-use Rattle.io.specs.Counts.{IsPrefixLen}
+use Rattle.program.specs.Counts.{IsPrefixLen}
 use Rattle.format.specs.Units.{Domain}
 use Rattle.format.specs.Report.{report}
 use Rattle.program.specs.declared.Input.{Input}
@@ -26,7 +26,7 @@ abbrev pub Fits : Input → ℕ → ℕ → Type 0
 Fits Failed at n = 0 ≤ n
 Fits (Whole m) at n = at + m ≤ n
 
--- a count that is answered is at most the buffer's length; which bytes came, no contract can say
+-- a count that is answered is at most the buffer's length; which bytes came is said beside it, where the reader's are known
 abbrev pub Came : Input → List ℕ → Type 0
 Came Failed xs = 0 ≤ length xs
 Came (Whole n) xs = IsPrefixLen n xs

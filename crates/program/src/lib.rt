@@ -1,12 +1,15 @@
 // What the two programs share: a stream from standard input, told from one that a failed read cut off, and what is to be
-// written. Assumed: the contract of the C library's read.
-ghost use Rattle.std.specs.Prelude.{◌≡◌, ◌≤◌, length};
-ghost use Rattle.io.specs.Counts.{IsPrefixLen};
+// written.
+#![tactic(auto)]
+
+ghost use Rattle.std.specs.Prelude.{◌≡◌, ◌≤◌, length, take};
+ghost use Rattle.program.specs.Counts.{IsPrefixLen};
 ghost use Rattle.format.specs.Units.{text, binary};
 ghost use Rattle.program.specs.Printed.{printed_answer, printed_left, Fits, Came};
+ghost use Rattle.program.specs.Taken.{Takes, Took};
 
 use format::Reported;
-use libc::STDIN_FILENO;
+use std::io::Read;
 
 // The longest stream that is reported, and room for each such report: 17 + 18 x 2,730.
 const LONGEST: usize = 8192;
@@ -14,31 +17,33 @@ const LONGEST: usize = 8192;
 const ROOM: usize = 49157;
 
 // What came from standard input: whole, so many bytes, or cut off by a read that failed.
-#[derive(Drop)]
+#[derive(Clone, Copy)]
 pub enum Input {
     Failed,
     Whole(usize),
 }
 
 // One read into the buffer from `at` on.
-fn receive(buffer: &mut [u8], at: usize) -> Input
+fn receive<R: Read>(reader: &mut R, buffer: &mut [u8], at: usize) -> Input
     requires { at ≤ length buffer.old }
-    ensures { Fits result at (length buffer.old) }
+    ensures fits { Fits result at (length buffer.old) }
+    ensures before { take at buffer.new ≡ take at buffer.old }
+    ensures bytes { Takes (R.remaining reader.old) (R.remaining reader.new) at result buffer.new }
 {
-    let got = libc::read(STDIN_FILENO, &mut buffer[at..]);
-    if got < 0 {
-        return Input::Failed;
+    match reader.read(&mut buffer[at..]) {
+        Ok(more) => Input::Whole(more),
+        Err(_) => Input::Failed,
     }
-    Input::Whole(io::count(got, &buffer[at..]))
 }
 
 // Reads until the buffer is full or the input ends. A buffer one byte longer than a stream may be tells a longer one.
-pub fn read_stream(buffer: &mut [u8]) -> Input
-    ensures { Came result buffer.new }
+pub fn read_stream<R: Read>(reader: &mut R, buffer: &mut [u8]) -> Input
+    ensures came { Came result buffer.new }
+    ensures bytes { Took (R.remaining reader.old) (R.remaining reader.new) result buffer.new }
 {
     let mut done = 0;
     while done < buffer.len() {
-        match receive(buffer, done) {
+        match receive(reader, buffer, done) {
             Input::Failed => {
                 return Input::Failed;
             }

@@ -1,9 +1,11 @@
 // Reads a binary stream of at most 8,192 bytes from standard input and writes its report, or for a longer one the single byte 01. Where
 // a read fails it writes nothing; that, and output that could not be written, is said on standard error.
+#![tactic(auto)]
+
 ghost use Rattle.std.specs.Prelude.{◌≡◌, length};
 
-use libc::{STDERR_FILENO, STDOUT_FILENO};
 use program::Input;
+use std::io::Write;
 
 // One byte more than a stream may have.
 fn space() -> [u8; 8193]
@@ -19,20 +21,20 @@ fn room() -> [u8; 49157]
     [0; 49157]
 }
 
-fn print(s: &[u8]) {
+fn print(rt: HostRuntime, s: &[u8]) {
     let mut out = room();
     let n = program::answer_binary(s, &mut out);
-    if !io::write_all(STDOUT_FILENO, &out[..n]) {
-        io::write_all(STDERR_FILENO, &program_lines::unwritten());
+    if rt.stdout().write_all(&out[..n]).is_err() {
+        let _ = rt.stderr().write_all(&program_lines::unwritten());
     }
 }
 
-fn main() {
+fn main(rt: HostRuntime) {
     let mut buffer = space();
-    match program::read_stream(&mut buffer) {
+    match program::read_stream(&mut rt.stdin(), &mut buffer) {
         Input::Failed => {
-            io::write_all(STDERR_FILENO, &program_lines::unread());
+            let _ = rt.stderr().write_all(&program_lines::unread());
         }
-        Input::Whole(n) => print(&buffer[..n]),
+        Input::Whole(n) => print(rt, &buffer[..n]),
     }
 }

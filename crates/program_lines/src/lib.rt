@@ -1,4 +1,6 @@
 // The lines for standard error where something could not be done.
+#![tactic(auto)]
+
 ghost use Rattle.std.specs.Prelude.{◌≡◌};
 ghost use Rattle.program_lines.specs.Lines.{unread_line, unwritten_line};
 

@@ -5,7 +5,7 @@ use Rattle.walk_state.specs.declared.Walk.{Walk}
 use Rattle.walk_state.specs.declared.TextStep.{TextStep}
 use Rattle.walk_state.specs.declared.BinaryStep.{BinaryStep}
 use Rattle.walk_state.specs.Walking.{text_step, binary_step}
-use Rattle.reader_place.specs.Stands.{text-stands, binary-stands}
+use Rattle.reader_place.proofs.Stands.{text-stands, binary-stands}
 use Rattle.reader.specs.declared.Reader.{Reader}
 use Rattle.reader.specs.declared.TextTaken.{TextTaken}
 use Rattle.reader.specs.declared.BinaryTaken.{BinaryTaken}

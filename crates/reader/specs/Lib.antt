@@ -1,4 +1,3 @@
 pub mod Reading
 pub mod Behind
 pub mod Claims
-pub mod Proved

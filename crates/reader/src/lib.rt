@@ -1,26 +1,28 @@
 // A reader that keeps the stream it was opened over beside its place in the walk. Its methods take it apart and call the walk's
-// by-value step; each is proved by a walk of its MIR by hand. One struct serves both forms: next_text reads the stream as text,
-// next_binary as binary. At a refusal or the end a step hands the state back as it was, so the reader handed back is the same.
+// by-value step. One struct serves both forms: next_text reads the stream as text, next_binary as binary. At a refusal or the end a
+// step hands the state back as it was, so the reader handed back is the same.
+#![tactic(auto)]
+
 ghost use Rattle.std.specs.Prelude.{◌≡◌};
 ghost use Rattle.reader.specs.Reading.{opened, resumed_at, text_taken, binary_taken};
 
 use walk_state::{BinaryItem, TextItem, Walk};
 
-#[derive(Drop)]
+#[derive(Clone, Copy)]
 pub struct Reader<'a> {
     pub src: &'a [u8],
     pub walk: Walk,
 }
 
 // What a step over a text found, and the reader behind it.
-#[derive(Drop)]
+#[derive(Clone, Copy)]
 pub struct TextTaken<'a> {
     pub reader: Reader<'a>,
     pub found: TextItem,
 }
 
 // The same of a binary.
-#[derive(Drop)]
+#[derive(Clone, Copy)]
 pub struct BinaryTaken<'a> {
     pub reader: Reader<'a>,
     pub found: BinaryItem,

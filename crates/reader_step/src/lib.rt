@@ -1,5 +1,6 @@
-// A step through a reader, for callers with plain parameters: each function is proved by a walk of its MIR by hand, and its callers need
-// none.
+// A step through a reader, for callers with plain parameters, that need no word of the reader.
+#![tactic(auto)]
+
 ghost use Rattle.std.specs.Prelude.{◌≡◌};
 ghost use Rattle.walk_state.specs.Walking.{text_step, binary_step};
 

@@ -1,5 +1,7 @@
 // Reading a single primitive at an offset of a binary: 1, 4 at or past the end, framing, 14, judging, and 3 where there is no room for a
 // text, which is copied out. Any other value is told by its place, and the part where it lies is handed back.
+#![tactic(auto)]
+
 ghost use Rattle.std.specs.Prelude.{◌≡◌, ◌+◌, ◌-◌, ◌*◌, ◌≤◌, length, take, drop};
 ghost use Rattle.format.specs.Reading.{read_binary, chars_left, part_at};
 ghost use Rattle.reading_chars.specs.Chars.{chars_into};

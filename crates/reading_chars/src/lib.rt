@@ -1,5 +1,7 @@
 // The text of a binary's item, copied out: the item's characters from one of them on, which may stand within a unit. What is said holds of
 // whole triplets within the limit; where there is no room nothing is written.
+#![tactic(auto)]
+
 ghost use Rattle.std.specs.Prelude.{◌≡◌, ◌++◌, ◌+◌, ◌-◌, ◌*◌, ◌<◌, ◌≤◌, ◌/◌, ◌%◌, length, take, drop};
 ghost use Rattle.format.specs.Units.{quadlet_of};
 ghost use Rattle.format.specs.Conversion.{to_text};
@@ -21,7 +23,7 @@ fn put_unit(item: &[u8], at: usize, within: usize, out: &mut [u8])
     ensures { out.new ≡ drop within (quadlet_of (take 3 (drop at item.now))) ++ drop (4 - within) out.old }
 {
     let q = quadlet_at(item, at);
-    bytes::copy(&q[within..], out);
+    copying::copy(&q[within..], out);
 }
 
 // The last characters of a unit, and the units behind it.

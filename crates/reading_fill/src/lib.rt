@@ -1,5 +1,7 @@
 // Where a framed primitive's text starts, behind its fill, and how long it is. No stream is looked at. What is said holds of what framing
 // gives: two header units and 1,048,576 units at most.
+#![tactic(auto)]
+
 ghost use Rattle.std.specs.Prelude.{◌≡◌, ◌-◌, ◌*◌, ◌<◌, ◌≤◌, min};
 ghost use Rattle.reading_fill.specs.Texts.{fill_by, text_start};
 

@@ -1,5 +1,7 @@
 // What stands at an offset of a binary, as a single primitive: 1, 4 at or past the end, framing, 14, judging. Room is not asked, and
 // nothing is copied out.
+#![tactic(auto)]
+
 ghost use Rattle.std.specs.Prelude.{◌≡◌, ◌≤◌, length};
 ghost use Rattle.format.specs.declared.Framed.TheVariants.{Item};
 ghost use Rattle.format.specs.Units.{binary_sextets};

@@ -1,5 +1,7 @@
 // A framed primitive in a caller's words: its code, where its raw value starts, and how many tag characters it has. No stream is looked
 // at. What is said holds of what framing gives: two header units and 1,048,576 units at most, and a variable value that ends with the item.
+#![tactic(auto)]
+
 ghost use Rattle.std.specs.Prelude.{◌≡◌, ◌-◌, ◌<◌, ◌≤◌, min};
 ghost use Rattle.format.specs.Values.{raw_start};
 ghost use Rattle.format.specs.Reading.{code_of, is_primitive, tags_of, primitive_of};

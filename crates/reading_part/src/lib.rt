@@ -1,4 +1,6 @@
 // What a part of a stream begins with, as a single primitive: framing, 14, judging. The place is in sextets from the part's start.
+#![tactic(auto)]
+
 ghost use Rattle.std.specs.Prelude.{◌≡◌};
 ghost use Rattle.format.specs.Units.{text_sextets, binary_sextets};
 ghost use Rattle.format.specs.Reading.{reading};

@@ -1,5 +1,7 @@
 // The raw value of a text's item, copied out: the item's bytes from one of them on, which may stand within a unit. What is said holds
 // of a text that is fit for conversion; where there is no room nothing is written.
+#![tactic(auto)]
+
 ghost use Rattle.std.specs.Prelude.{◌≡◌, ◌+◌, ◌-◌, ◌*◌, ◌≤◌, ◌/◌, ◌%◌, length, take, drop};
 ghost use Rattle.format.specs.Units.{triplet_of};
 ghost use Rattle.reading_raw.specs.Raw.{Fit, units_into, raw_into};

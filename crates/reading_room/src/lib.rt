@@ -1,4 +1,6 @@
 // 3: whether a buffer has no room for a value, so many raw bytes and so many characters of a text.
+#![tactic(auto)]
+
 ghost use Rattle.std.specs.Prelude.{◌≡◌, ◌+◌, ltb};
 
 pub fn lacks(room: usize, raw: usize, text: usize) -> bool

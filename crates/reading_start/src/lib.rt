@@ -1,4 +1,6 @@
 // Where a raw value starts, by its code's row: in bytes from the start of the item's binary form. No stream is looked at.
+#![tactic(auto)]
+
 ghost use Rattle.std.specs.Prelude.{◌≡◌, ◌<◌};
 ghost use Rattle.format.specs.declared.Kind.TheVariants as Kind;
 ghost use Rattle.format.specs.Values.{raw_start};

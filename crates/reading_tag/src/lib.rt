@@ -1,4 +1,6 @@
 // The tag characters of a framed primitive, by its first sextets. What is said holds of a row whose tag characters end with the item.
+#![tactic(auto)]
+
 ghost use Rattle.std.specs.Prelude.{◌≡◌, ◌+◌, ◌-◌, ◌<◌, ◌≤◌};
 ghost use Rattle.format.specs.declared.Kind.TheVariants as Kind;
 ghost use Rattle.format.specs.Values.{tag_of};

@@ -1,5 +1,7 @@
 // Reading a single primitive at an offset of a text: 1, 4 at or past the end, framing, 14, judging, and 3 where there is no room for
 // its value, raw bytes or a text, which is copied out.
+#![tactic(auto)]
+
 ghost use Rattle.std.specs.Prelude.{◌≡◌, ◌≤◌, length};
 ghost use Rattle.format.specs.declared.Framed.TheVariants.{Item};
 ghost use Rattle.format.specs.Units.{text_sextets};
@@ -20,7 +22,7 @@ fn no_text(number: u8, place: usize) -> TextRead
 }
 
 // What is told of the item that a part begins with.
-#[derive(Drop)]
+#[derive(Clone, Copy)]
 struct Told {
     item: Primitive,
     tag: [u8; 11],

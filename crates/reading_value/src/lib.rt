@@ -1,4 +1,6 @@
 // The value of a text's item, copied out: its raw bytes, and behind them its text. One of the two is empty.
+#![tactic(auto)]
+
 ghost use Rattle.std.specs.Prelude.{◌≡◌, ◌+◌, ◌-◌, ◌*◌, ◌≤◌, ◌/◌, length};
 ghost use Rattle.reading_raw.specs.Raw.{Fit};
 ghost use Rattle.reading_value.specs.Value.{value_into};
@@ -18,5 +20,5 @@ pub fn copy_value(item: &[u8], start: BinaryOffset, raw: usize, text: usize, out
     }
     reading_raw::copy_raw(item, start, out);
     let from = item.len() - text;
-    bytes::copy(&item[from..], &mut out[raw..]);
+    copying::copy(&item[from..], &mut out[raw..]);
 }

@@ -1,7 +1,25 @@
-// What the programs over recorded calls share: numbers out of a record, and how an answer is written.
-ghost use Rattle.std.specs.Prelude.{◌≡◌, ◌<◌};
+// What the programs over recorded calls share: the records from an input, numbers out of a record, and how an answer is written. Output
+// that is not taken is let go, as a comparison with what is expected tells it.
+#![tactic(auto)]
 
-use libc::STDOUT_FILENO;
+ghost use Rattle.std.specs.Prelude.{◌≡◌, ◌<◌, ◌≤◌, length, take};
+
+use std::io::{Read, Stdout};
+
+// Reads until the buffer is full, the input ends or a read fails: how many bytes stand at its start.
+pub fn read_full<R: Read>(reader: &mut R, buffer: &mut [u8]) -> usize
+    ensures within { result ≤ length buffer.new }
+    ensures taken { result ≡ length (take result buffer.new) }
+{
+    let mut done = 0;
+    while done < buffer.len() {
+        match reader.read(&mut buffer[done..]) {
+            Ok(n) if n > 0 => done += n,
+            _ => break,
+        }
+    }
+    done
+}
 
 pub fn wide(x: u8) -> usize
     ensures { (result ≡ x) × (result < 256) }
@@ -16,39 +34,38 @@ pub fn number(high: u8, low: u8) -> usize
     wide(high) * 256 + wide(low)
 }
 
-fn show_byte(b: u8) {
-    io::print_hex(STDOUT_FILENO, b as u64, 2);
+fn show_byte(stdout: Stdout, b: u8) {
+    let _ = print!(stdout; "{b:02x}");
 }
 
-pub fn show_bytes(s: &[u8]) {
-    io::write_all(STDOUT_FILENO, b" ");
+pub fn show_bytes(stdout: Stdout, s: &[u8]) {
+    let _ = print!(stdout; " ");
     let mut i = 0;
     while i < s.len() {
-        show_byte(s[i]);
+        show_byte(stdout, s[i]);
         i += 1;
     }
 }
 
-pub fn show_number(n: usize) {
-    io::write_all(STDOUT_FILENO, b" ");
-    io::print_decimal(STDOUT_FILENO, n as u64);
+pub fn show_number(stdout: Stdout, n: usize) {
+    let _ = print!(stdout; " {n}");
 }
 
-pub fn show_numbers(s: &[usize]) {
+pub fn show_numbers(stdout: Stdout, s: &[usize]) {
     let mut i = 0;
     while i < s.len() {
-        show_number(s[i]);
+        show_number(stdout, s[i]);
         i += 1;
     }
 }
 
 // The call, the number (0: accepted), the length or place.
-pub fn show_answer(call: u8, number: u8, value: usize) {
-    io::print_decimal(STDOUT_FILENO, call as u64);
-    show_number(wide(number));
-    show_number(value);
+pub fn show_answer(stdout: Stdout, call: u8, number: u8, value: usize) {
+    let _ = print!(stdout; "{call}");
+    show_number(stdout, wide(number));
+    show_number(stdout, value);
 }
 
-pub fn end_line() {
-    io::write_all(STDOUT_FILENO, b"\n");
+pub fn end_line(stdout: Stdout) {
+    let _ = println!(stdout);
 }

@@ -1,5 +1,7 @@
 // What a header's first unit says by the table that is asked, and what a group's letter says of its items: by which table they are read,
 // and whether 7 is asked of the first.
+#![tactic(auto)]
+
 ghost use Rattle.std.specs.Prelude.{◌≡◌, get_or};
 ghost use Rattle.format.specs.Registry.{is_indexed, is_overrideable, opening_by};
 

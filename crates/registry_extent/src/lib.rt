@@ -1,4 +1,6 @@
 // An item's size by what its first unit opens and by the number that its second unit stands for.
+#![tactic(auto)]
+
 ghost use Rattle.std.specs.Prelude.{◌≡◌, ◌+◌, ◌*◌, ◌<◌, get_or};
 ghost use Rattle.format.specs.Registry.{extent};
 

@@ -1,4 +1,6 @@
 // What a first unit that begins with `-` opens: a small group, a large one, or a genus/version.
+#![tactic(auto)]
+
 ghost use Rattle.std.specs.Prelude.{◌≡◌, ◌<◌};
 ghost use Rattle.registry_group.specs.Parts.{group_opening};
 

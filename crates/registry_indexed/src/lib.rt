@@ -1,4 +1,6 @@
 // What a first unit opens by the indexed table. The items of `-K` and `-L` have its codes.
+#![tactic(auto)]
+
 ghost use Rattle.std.specs.Prelude.{◌≡◌, get_or};
 ghost use Rattle.format.specs.Registry.{indexed_opening};
 

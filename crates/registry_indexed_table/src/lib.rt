@@ -1,4 +1,6 @@
 // The indexed code table of source document 003 as one fixed table, and the look-up of a code in it.
+#![tactic(auto)]
+
 ghost use Rattle.std.specs.Prelude.{◌≡◌, ◌+◌, ◌<◌, ◌≤◌};
 ghost use Rattle.format.specs.Registry.{indexed_row, indexed_by};
 ghost use Rattle.registry_indexed_table.specs.Places.{row_at, indexed_from};

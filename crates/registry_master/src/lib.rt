@@ -1,4 +1,6 @@
 // What a header's first unit says by the master table: the code that it opens, or what a second unit completes.
+#![tactic(auto)]
+
 ghost use Rattle.std.specs.Prelude.{◌≡◌, get_or};
 ghost use Rattle.format.specs.Registry.{opening};
 ghost use Rattle.registry_master.specs.Parts.{pad0_opening};

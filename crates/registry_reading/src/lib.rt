@@ -1,5 +1,7 @@
 // What is read off the registry's answers: by what a first unit opens the header's units and the item's kind, and by a fixed code's row the
 // zero bits and the prepad behind the code.
+#![tactic(auto)]
+
 ghost use Rattle.std.specs.Prelude.{◌≡◌, ◌+◌, ◌*◌, get_or};
 ghost use Rattle.format.specs.Registry.{header_units, zero_bits_of, prepad_of};
 ghost use Rattle.registry_reading.specs.Kinds.{kind_of};

@@ -1,4 +1,6 @@
 // The code registry as one fixed table of sizes, and the look-up of a fixed code in it.
+#![tactic(auto)]
+
 ghost use Rattle.std.specs.Prelude.{◌≡◌, ◌+◌, ◌<◌, ◌≤◌};
 ghost use Rattle.format.specs.Registry.{fixed};
 ghost use Rattle.registry_table.specs.Places.{row_at, fixed_from};

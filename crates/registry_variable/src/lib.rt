@@ -1,4 +1,6 @@
 // The letters of the variable types, and what the selectors `4` to `6` and `7` to `9` open.
+#![tactic(auto)]
+
 ghost use Rattle.std.specs.Prelude.{◌≡◌, ◌<◌};
 ghost use Rattle.format.specs.Registry.{is_type};
 ghost use Rattle.registry_variable.specs.Parts.{small_variable, large_variable};

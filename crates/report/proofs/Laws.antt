@@ -17,8 +17,8 @@ use Rattle.format.specs.Report.{rows_in, frame_in, judge_in, be4, row_bytes, rep
 use Rattle.laws.specs.Domains.{reader}
 use Rattle.laws.specs.Frames.{frames}
 use Rattle.claims.specs.Claims.{Demand3}
-use Rattle.claims.specs.Demand3.{text-demand3, binary-demand3}
-use Rattle.claims.specs.Room.{report-fits}
+use Rattle.claims.proofs.Demand3.{text-demand3, binary-demand3}
+use Rattle.claims.proofs.Room.{report-fits}
 use Rattle.format.specs.Alphabet.{sextet_table}
 use Rattle.runs.specs.Plain.{plain_table, class_table}
 use Rattle.runs.specs.Levels.{Clear, clear-less}

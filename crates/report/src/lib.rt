@@ -2,6 +2,8 @@
 // the items, since room is asked by them; a second stores their rows where they are to stand, by the fast way where it accepts an
 // item and else by the general way. The tables are named once and lent. Positions count units, u elements each; in text, `clean`
 // is a unit in front of which, from the present one on, all characters are known.
+#![tactic(auto)]
+
 ghost use Rattle.std.specs.Prelude.{◌≡◌, ◌+◌, ◌*◌, ◌≤◌, length};
 ghost use Rattle.format.specs.Units.{domain, text, binary};
 ghost use Rattle.format.specs.Report.{report_answer, report_left};

@@ -1,5 +1,7 @@
 // Accepted items of one size that follow one another and begin alike, of either form: each is looked at and its row stored in one loop,
 // as far as there is room. Positions count elements, which spares a multiplication a turn.
+#![tactic(auto)]
+
 ghost use Rattle.std.specs.Prelude.{◌≡◌, true, [], ◌∷◌, ◌++◌, ◌+◌, ◌*◌, ◌≤◌, ◌<◌, length, get_or};
 ghost use Rattle.base.specs.Pick.{pick};
 ghost use Rattle.std.proofs.lemmas.List.Edits.{sets};

@@ -1,12 +1,14 @@
 // How many items a stream has, of either form, since room is asked by them. Sizes are told by first units where these tell them, and
 // like items that follow one another are counted at once. The tables are lent. Positions count units; in text, `clean` is a unit in
 // front of which, from the present one on, all characters are known.
+#![tactic(auto)]
+
 ghost use Rattle.report_count.specs.Counts.{Small, Together, Next, Total};
 
 use format::Form;
 
 // Like items that are counted at once: units and items, none where nothing is framed.
-#[derive(Drop)]
+#[derive(Clone, Copy)]
 struct Step {
     units: usize,
     items: usize,

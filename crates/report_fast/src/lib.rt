@@ -1,6 +1,8 @@
 // The fast way to an accepted item, of either form and by either table: what first units tell. One-sided: a size says that the item is
 // accepted and so long, 0 says nothing, and the general way is asked. So what a refusal is, and where, is never decided here. Positions
 // count units.
+#![tactic(auto)]
+
 ghost use Rattle.std.specs.Prelude.{Bool, true, false, ℕ, ◌+◌, ◌-◌, ◌/◌, ◌≤◌, ◌<◌, length};
 ghost use Rattle.format.specs.Units.{domain};
 ghost use Rattle.format.specs.Judging.{max_depth};

@@ -1,6 +1,8 @@
 // The fast way over the items of a signature group, which are indexed items, of either form: what first units tell, and the others as the
 // general way finds them. To a small group that first units tell it is passed on from report_fast_told. One-sided, as all of the fast way:
 // true and a size say that they are accepted, false and 0 say nothing. Positions count units.
+#![tactic(auto)]
+
 ghost use Rattle.std.specs.Prelude.{true, List, ℕ, ◌-◌, ◌≤◌, ◌<◌};
 ghost use Rattle.report_fast_laws.specs.Fast.{Reach, Take, Passes};
 

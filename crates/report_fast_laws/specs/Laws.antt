@@ -20,7 +20,7 @@ use Rattle.runs.specs.Levels.{Clear, clear-less, plain-taken, small-taken, small
 use Rattle.runs_value.specs.Values.{valued_at}
 use Rattle.runs_value.specs.Taken.{valued-taken}
 use Rattle.runs_indexed.specs.Indexed.{indexed_at}
-use Rattle.runs_indexed.specs.Taken.{indexed-taken}
+use Rattle.runs_indexed.proofs.Taken.{indexed-taken}
 use Rattle.report_next.specs.Next.{is_entered, is_ruled, holds_indexed}
 use Rattle.report_found.specs.Limits.{longest}
 use Rattle.report_found.specs.Finds.{Inside, Fits, Finds}

@@ -1,6 +1,8 @@
 // The fast way where first units tell all, of either form: to a small variable value, by its header and the unit behind it, and to a small
 // signature group, by the first units of its items. One-sided, as all of the fast way: true and a size say that they are accepted, false
 // and 0 say nothing. Positions count units.
+#![tactic(auto)]
+
 ghost use Rattle.std.specs.Prelude.{Bool, true, false, ℕ, ◌-◌, ◌≤◌, ◌<◌};
 ghost use Rattle.report_fast_laws.specs.Fast.{Reach, Take, Passes};
 

@@ -20,7 +20,7 @@ use Rattle.laws.specs.Conversion.{binary-below}
 use Rattle.runs.specs.Plain.{plain_table, unit_by, sized_at, plain_at, small_at, group_at, letter_at, signed_at, marks_at, nested, nested_at, sextets_by, group_by, class_by}
 use Rattle.runs.specs.Tables.{by-table}
 use Rattle.runs.specs.Levels.{Clear, clear-below}
-use Rattle.runs.specs.Runs.{clear-from, small_by, nested-by, signed_by, marks-by, signed-at, marks-at, nested_is}
+use Rattle.runs.specs.Runs.{clear-from, small_by_lem, nested-by, signed_by, marks-by, signed-at, marks-at, nested_is}
 use Rattle.runs_value.specs.Values.{valued_at}
 use Rattle.runs_indexed.specs.Indexed.{indexed_at}
 use Rattle.report_first.specs.First.{Lent}
@@ -41,7 +41,7 @@ module _ (values classes rows s : List ℕ) (L : Lent values classes rows) (b : 
   text-indexed k q = sym (q ∙ rw (L.characters, by-table s b))
 
   pub text-small : (g : ℕ) → g ≡ group_by values classes 2 s at → small_at (text_sextets s) at ≡ g
-  text-small g q = sym (q ∙ rw (L.letters, L.characters) (small_by s b at))
+  text-small g q = sym (q ∙ rw (L.letters, L.characters) (small_by_lem s b at))
 
   pub text-signed : (m : Bool) → 0 < small_at (text_sextets s) at → m ≡ class_by classes 2 s at → m ≡ is_indexed (letter_at (text_sextets s) at)
   text-signed m p q = q ∙ rw L.letters (signed_by s b at _ refl p)

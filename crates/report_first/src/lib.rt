@@ -1,6 +1,8 @@
 // What a first unit tells, of either form, by tables that are lent: the size of an item whose header it is, whether it is a plain
 // primitive, which small groups are entered and by which table, and where indexed items stand, whether it is one; what it tells with the
 // unit behind it: a small variable value; and how far characters are known. Each answer is right where the tables are.
+#![tactic(auto)]
+
 ghost use Rattle.std.specs.Prelude.{◌≡◌, ◌-◌, ◌/◌, ◌≤◌, ◌<◌, min, length};
 ghost use Rattle.format.specs.Units.{domain};
 ghost use Rattle.format.specs.Registry.{is_indexed, is_overrideable};

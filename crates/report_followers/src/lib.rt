@@ -1,5 +1,7 @@
 // How many items of one size follow the one at a unit and begin like it, of either form: by the first element, or by the whole first
 // unit. Positions count units, but in the loop elements, which spares a multiplication a turn.
+#![tactic(auto)]
+
 ghost use Rattle.std.specs.Prelude.{◌≡◌, ◌+◌, ◌-◌, ◌*◌, ◌≤◌, ◌<◌, length};
 ghost use Rattle.format.specs.Units.{domain};
 ghost use Rattle.runs.specs.Runs.{Run};

@@ -1,5 +1,7 @@
 // The next item of a group, from a unit of a stream on, of either form: framed and judged by its own checks (report_next), with a
 // refusal's place counted from the stream's start. Positions count units, and places sextets.
+#![tactic(auto)]
+
 ghost use Rattle.std.specs.Prelude.{◌≡◌, ◌*◌, ◌<◌};
 ghost use Rattle.report_found.specs.Finds.{Here, moved, Near, Finds};
 

@@ -1,4 +1,6 @@
 // The item at a unit of a stream, of either form, framed as at top level, by the general way. Positions count units.
+#![tactic(auto)]
+
 ghost use Rattle.std.specs.Prelude.{◌≡◌, ◌*◌, drop};
 ghost use Rattle.format.specs.Units.{domain};
 ghost use Rattle.format.specs.Framing.{frame_ruled};

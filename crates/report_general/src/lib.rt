@@ -1,6 +1,8 @@
 // A turn of a report's loop by the general way, of either form: what stands at a unit is framed and judged, and its rows are stored. It
 // does so wherever the places that it is given are within the stream and the buffer is filled up to there. Positions count units, u
 // elements each.
+#![tactic(auto)]
+
 ghost use Rattle.std.specs.Prelude.{◌≡◌, ℕ, ◌-◌, ◌*◌, ◌/◌, ◌≤◌, length, drop};
 ghost use Rattle.format.specs.declared.Kind.{Kind};
 ghost use Rattle.format.specs.Units.{domain};
@@ -10,7 +12,7 @@ ghost use Rattle.report_general.specs.Turns.{Placed, Turned, Places};
 use format::{Form, Framed};
 
 // What a turn stored: rows of so many items, of which so many are refused, up to so many units further on; or nothing, for this reason.
-#[derive(Drop)]
+#[derive(Clone, Copy)]
 pub enum Turn {
     Stored {
         units: usize,

@@ -1,6 +1,8 @@
 // The fast way to an accepted small group whose items the master table frames, of either form: groups that stand one in the other are
 // entered at once, and the innermost one's items are looked at (report_fast). One-sided: true says that the group is accepted, false says
 // nothing. Positions count units.
+#![tactic(auto)]
+
 ghost use Rattle.std.specs.Prelude.{◌≡◌, true, false, ◌+◌, ◌-◌, ◌≤◌, ◌<◌, length};
 ghost use Rattle.format.specs.declared.Verdict.TheVariants.{Accepted};
 ghost use Rattle.format.specs.Units.{domain};

@@ -16,7 +16,7 @@ use Rattle.format.specs.declared.Framed.TheVariants.{Item, Unframed}
 use Rattle.format.specs.declared.Verdict.{Verdict}
 use Rattle.format.specs.declared.Verdict.TheVariants.{Accepted, Refused}
 use Rattle.format.specs.Units.{Domain, domain}
-use Rattle.format.specs.Framing.{frame, frame_ruled, frame_next, ruled}
+use Rattle.format.specs.Framing.{frame, frame_ruled, frame_next}
 use Rattle.format.specs.Judging.{shift, judge, judge_kind, group, max_depth}
 use Rattle.format.specs.Report.{placed, judge_in}
 use Rattle.laws.specs.Domains.{Reader, reader}

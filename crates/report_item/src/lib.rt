@@ -1,6 +1,8 @@
 // The verdict on the item at a unit of a stream, of either form, whatever it is. The general way: it needs no table but those of the
 // registry and the alphabet, and every other way to a verdict is proved against the same definition. Positions count units, and places
 // within the judging sextets.
+#![tactic(auto)]
+
 ghost use Rattle.std.specs.Prelude.{◌≡◌, ◌<◌};
 ghost use Rattle.format.specs.Units.{domain};
 ghost use Rattle.format.specs.Report.{placed};

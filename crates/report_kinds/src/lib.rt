@@ -1,4 +1,6 @@
 // What an item's kind says of the items in it: whether it is a group, whether 7 is asked of the first, and by which table they are framed.
+#![tactic(auto)]
+
 ghost use Rattle.std.specs.Prelude.{◌≡◌};
 ghost use Rattle.report_kinds.specs.Kinds.{is_entered, is_ruled, holds_indexed};
 

@@ -1,12 +1,14 @@
 // The last sections of a report, behind the rows of its items, whatever their width: the count of refusals, which stands in front of
 // their rows, and the remainder with its count. Of any numbers: where a buffer has no room for them, nothing is stored.
+#![tactic(auto)]
+
 ghost use Rattle.std.specs.Prelude.{◌≡◌, [], ◌∷◌, ◌++◌, ◌+◌, ◌*◌, ◌≤◌};
 ghost use Rattle.format.specs.Report.{be4};
 ghost use Rattle.report_rows.specs.Stores.{put};
 ghost use Rattle.report_last.specs.Last.{refused_of, Last, Lasts};
 
 // How the rows ended, so many items being refused: with the stream, or at an element where nothing is framed, for this reason.
-#[derive(Drop)]
+#[derive(Clone, Copy)]
 pub enum End {
     Whole {
         refused: usize,

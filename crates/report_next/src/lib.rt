@@ -1,5 +1,7 @@
 // The next item of a group or stream, framed and judged by its own checks, and how groups are entered (report_kinds). What a walk through
 // a group's contents is made of.
+#![tactic(auto)]
+
 ghost use Rattle.std.specs.Prelude.{◌≡◌};
 ghost use Rattle.format.specs.Units.{text_sextets, binary_sextets};
 ghost use Rattle.report_next.specs.Next.{next_own};

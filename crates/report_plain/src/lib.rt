@@ -1,5 +1,7 @@
 // The rows of plain primitives of one letter that follow one another, of either form, each stored as the item is looked at. The tables
 // are lent. Positions count units, the row's place bytes of the buffer.
+#![tactic(auto)]
+
 ghost use Rattle.std.specs.Prelude.{◌≡◌, List, ℕ, ◌+◌, ◌-◌, ◌*◌, ◌/◌, ◌≤◌, ◌<◌, min, length};
 ghost use Rattle.std.proofs.lemmas.List.Edits.{sets};
 ghost use Rattle.format.specs.Units.{domain};

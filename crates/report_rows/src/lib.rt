@@ -1,5 +1,7 @@
 // The bytes of a report, stored at places of a lent buffer: numbers, rows of items, refusals, the remainder. What does not fit is not
 // stored. Where each stands is the caller's, so that rows may have any width: the law in `filling` is over it.
+#![tactic(auto)]
+
 ghost use Rattle.std.specs.Prelude.{◌≡◌, [], ◌∷◌, ◌++◌, ◌+◌, ◌≤◌, ◌<◌, leb, length};
 ghost use Rattle.std.proofs.lemmas.List.Edits.{sets};
 ghost use Rattle.format.specs.Report.{be4, refusal_bytes, concat, refusal, verdict_byte};

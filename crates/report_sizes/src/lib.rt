@@ -1,5 +1,7 @@
 // The sizes of a stream's items, of either form: of the one at a unit, by its first unit where that tells, else by framing; and how
 // many that begin like it follow it, and so have its size. The tables are lent. Positions count units.
+#![tactic(auto)]
+
 ghost use Rattle.std.specs.Prelude.{◌≡◌, ◌+◌, ◌-◌, ◌*◌, ◌/◌, ◌≤◌, ◌<◌, length, get_or};
 ghost use Rattle.format.specs.Alphabet.{sextet_table};
 ghost use Rattle.format.specs.Units.{domain};

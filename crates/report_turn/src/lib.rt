@@ -2,6 +2,8 @@
 // accepts it, with the like items or the signature groups that follow it, and else by the general way. Each function does what it says
 // wherever the places that it is given are within the stream and the buffer is filled up to there. Positions count units, u elements each;
 // in text, `clean` is a unit in front of which, from the present one on, all characters are known.
+#![tactic(auto)]
+
 ghost use Rattle.std.specs.Prelude.{◌≡◌, ◌-◌, ◌*◌, ◌/◌, ◌≤◌, ◌<◌, length};
 ghost use Rattle.format.specs.Units.{domain};
 ghost use Rattle.runs.specs.Plain.{group_at};

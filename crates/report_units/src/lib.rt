@@ -1,4 +1,6 @@
 // Units of a stream, of either form: the elements to one, how many whole ones there are, and how long a stream may be.
+#![tactic(auto)]
+
 ghost use Rattle.std.specs.Prelude.{◌≡◌, ◌/◌};
 ghost use Rattle.format.specs.Units.{domain};
 

@@ -1,11 +1,3 @@
 pub mod Claims
 pub mod Rows
-pub mod Fronts
 pub mod Own
-pub mod Codes
-pub mod Reads
-pub mod Back
-pub mod Made
-pub mod Sextets
-pub mod Calls
-pub mod Proved

@@ -1,4 +1,1 @@
 pub mod Claims
-pub mod Limits
-pub mod Orders
-pub mod Proved

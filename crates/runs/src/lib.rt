@@ -1,6 +1,8 @@
 // What a first unit alone decides, as four sextets: the size of a primitive of a fixed code or of a small group, and whether the
 // primitive is accepted if its characters are known. Nothing here asks whether a character is known: the callers do, once for many
 // items. The tables are lent, since naming a constant copies it.
+#![tactic(auto)]
+
 ghost use Rattle.std.specs.Prelude.{◌≡◌, ◌+◌, ◌-◌, ◌*◌, ◌<◌};
 ghost use Rattle.runs.specs.Plain.{row_of, row_aa, typed, not_text, lettered, limited, sized_of, plain_of};
 

@@ -1,6 +1,8 @@
 // What the first unit at a position of a binary decides, sextet by sextet or byte by byte: sizes, plain primitives, small groups and
 // which table frames their items, and which of them stand one in the other; where indexed items stand, these; and what it decides with
 // the unit behind it: small variable values.
+#![tactic(auto)]
+
 ghost use Rattle.std.specs.Prelude.{◌≡◌, ℕ, ◌+◌, ◌*◌, ◌/◌, ◌%◌, ◌<◌, length, get_or};
 ghost use Rattle.format.specs.Units.{binary_sextets};
 ghost use Rattle.runs.specs.Plain.{sized_at, plain_at, small_at, group_at, signed_at, marks_at, nested_at, unit_by};
@@ -24,7 +26,7 @@ fn third(y: u8, z: u8) -> u8
 }
 
 // The four sextets of the unit at a position.
-#[derive(Drop)]
+#[derive(Clone, Copy)]
 struct Sextets {
     a: u8,
     b: u8,
@@ -90,7 +92,7 @@ fn byte(s: &[u8], i: usize) -> usize
     wide(s[i])
 }
 
-#[derive(Drop)]
+#[derive(Clone, Copy)]
 struct Triplet {
     x: usize,
     y: usize,

@@ -1,2 +1,1 @@
 pub mod Indexed
-pub mod Taken

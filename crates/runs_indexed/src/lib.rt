@@ -1,5 +1,7 @@
 // What the first unit of an indexed item decides, as four sextets: that it is accepted if its characters are known, and how long it is.
 // Nothing here asks whether a character is known.
+#![tactic(auto)]
+
 ghost use Rattle.std.specs.Prelude.{◌≡◌};
 ghost use Rattle.runs_indexed.specs.Indexed.{lettered_of, zeroed_of, indexed_of};
 

@@ -1,4 +1,6 @@
 // Whether two sextets begin a small group, and which table frames its items. Every number is answered, also one that is no sextet.
+#![tactic(auto)]
+
 ghost use Rattle.std.specs.Prelude.{◌≡◌};
 ghost use Rattle.format.specs.Registry.{is_indexed};
 ghost use Rattle.runs.specs.Plain.{small_by, opens_by};

@@ -1,4 +1,6 @@
 // The tables by which a first unit alone is told: sizes and zero bits of the fixed codes, and classes of a group's letter.
+#![tactic(auto)]
+
 ghost use Rattle.std.specs.Prelude.{◌≡◌};
 ghost use Rattle.runs.specs.Plain.{plain_table, class_table};
 

@@ -1,12 +1,14 @@
 // What the first unit at a position of a text decides, by its characters and the table lent: sizes, plain primitives, and where indexed
 // items stand, these; and what it decides with the unit behind it: small variable values. Whether a character is known is not asked.
+#![tactic(auto)]
+
 ghost use Rattle.std.specs.Prelude.{◌≡◌, ℕ, ◌/◌, ◌<◌, length};
 ghost use Rattle.runs.specs.Plain.{sized_at, plain_at, unit_by, sextets_by};
 ghost use Rattle.runs_value.specs.Values.{number_at, valued_at};
 ghost use Rattle.runs_indexed.specs.Indexed.{indexed_at};
 
 // The four sextets of the unit at a position.
-#[derive(Drop)]
+#[derive(Clone, Copy)]
 struct Sextets {
     a: u8,
     b: u8,

@@ -1,5 +1,7 @@
 // Small groups at a position of a text, by the characters of its first unit and the tables lent: their sizes, which table frames their
 // items, and which of them stand one in the other. Whether a character is known is not asked.
+#![tactic(auto)]
+
 ghost use Rattle.std.specs.Prelude.{◌≡◌, ◌/◌, ◌<◌, length};
 ghost use Rattle.runs.specs.Plain.{group_by, class_by, nested_at};
 

@@ -1,5 +1,7 @@
 // What a small variable value's header and the unit behind it decide, as sextets and a number: that it is accepted if its characters are
 // known, and how long it is. Nothing here asks whether a character is known.
+#![tactic(auto)]
+
 ghost use Rattle.std.specs.Prelude.{◌≡◌, ◌<◌};
 ghost use Rattle.runs_value.specs.Values.{unit_number, is_selector, text_fits, bytes_fit, unit_fits, value_fits, fitting, valued_of};
 

@@ -1,19 +1,19 @@
 -- Groups, whose items are judged one by one: what the steps of the cycle say, and where their places lie. Assumes nothing.
 use mathlib.Core.Path.{◌≡◌, refl, sym, ap, ◌∙◌, subst}
-use mathlib.Core.Bool.{Bool, true, false, not}
-use mathlib.Core.List.{List, [], ◌∷◌, map}
+use mathlib.Core.Bool.{Bool, true, false}
+use mathlib.Core.List.{List, [], ◌∷◌}
 use Prim.Native.Nat.{ℕ, zero, suc, ◌+◌, ◌-◌, ◌*◌, ◌/◌, ◌%◌, ◌^◌, ◌<◌, ◌≤◌}
 use native.Mathlib.Omega.{arith}
 use lib.Dec.{ltb}
 use mir.Syntax.{w64}
 use mir.Val as val
-use lib.ListN.{length, take, drop, length-map, length-drop}
-use lib.Seq.{slice, take_all, length-take-le}
+use lib.ListN.{length, take, drop, length-drop}
+use lib.Seq.{take_all, length-take-le}
 use borrow.Author.Tests.{lt-ltb, le-ltb}
 use mathlib.Core.Logic.{⊎_elim}
 use Rattle.base.specs.Cases.{lt-or-ge}
-use Rattle.base.specs.Pick.{pick, pick-by}
-use Rattle.base.specs.Lists.{map-take, map-drop}
+use Rattle.base.specs.Pick.{pick-by}
+use Rattle.base.specs.Lists.{map-take}
 use Rattle.format.specs.declared.CodeRow.{CodeRow}
 use Rattle.format.specs.declared.IndexRow.{IndexRow}
 use Rattle.format.specs.declared.Kind.{Kind}
@@ -26,7 +26,7 @@ use Rattle.format.specs.declared.Verdict.{Verdict}
 use Rattle.format.specs.declared.Verdict.TheVariants.{Accepted, Refused}
 use Rattle.format.specs.Alphabet.{sextet_of}
 use Rattle.format.specs.Units.{text_sextets}
-use Rattle.format.specs.Registry.{opening_by, is_indexed, is_overrideable}
+use Rattle.format.specs.Registry.{is_indexed, is_overrideable}
 use Rattle.format.specs.Framing.{sextet, fit, known, second, headed, frame_with, is_ours, ruled, frame_by, frame_next}
 use Rattle.format.specs.Judging.{shift, and_then, unless, is_shortest, scan, behind, judge_kind, own_check, group, judge_with, max_depth}
 use Rattle.laws.specs.Framing.{by-with}

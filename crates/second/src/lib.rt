@@ -1,6 +1,8 @@
 // A plain second judge (02 m), to be read by eye: a text is framed and judged by plain recursion over its groups, in the papers' order and by
 // their names. It shares with the first engine the tables of alphabet and registry with their look-ups; no more. Places count characters of a
 // text `t`; a start counts units.
+#![tactic(auto)]
+
 ghost use Rattle.std.specs.Prelude.{◌≡◌, ◌+◌, ◌-◌, ◌*◌, length, drop};
 ghost use Rattle.format.specs.declared.Verdict.TheVariants.{Refused};
 ghost use Rattle.format.specs.Units.{text_sextets};
@@ -11,7 +13,7 @@ use format::{Framed, Kind, Verdict};
 use second_framing::frame;
 
 // What a text begins with: an item of so many units and its verdict, or none.
-#[derive(Drop)]
+#[derive(Clone, Copy)]
 pub enum Judged {
     Item { size: usize, verdict: Verdict },
     Unframed { number: u8, place: usize },

@@ -1,5 +1,7 @@
 // The characters of a text, as the second judge reads them (02 m), to be read by eye: a place's sextet, the first one that is not below a limit, 5
 // or 19, and the characters of a genus/version. It shares with the first engine the alphabet's table; no more. `&` asks both sides.
+#![tactic(auto)]
+
 ghost use Rattle.std.specs.Prelude.{◌≡◌};
 ghost use Rattle.format.specs.Units.{text_sextets};
 ghost use Rattle.format.specs.Framing.{sextet, is_ours};

@@ -1,16 +1,13 @@
 -- Framing step by step, in the papers' order. Assumes nothing.
 use mathlib.Core.Path.{◌≡◌, refl, sym, ap, ◌∙◌, subst}
 use mathlib.Core.Bool.{Bool, true, false, not, ◌&&◌}
-use mathlib.Core.List.{List, [], ◌∷◌}
+use mathlib.Core.List.{List}
 use mathlib.Core.Logic.{⊎_elim}
 use Prim.Native.Nat.{ℕ, ◌+◌, ◌*◌, ◌/◌, ◌<◌, ◌≤◌}
 use native.Mathlib.Omega.{arith}
 use lib.Dec.{ltb}
 use lib.ListN.{length}
 use borrow.Author.Tests.{lt-ltb, le-ltb, not-true}
-use denote.Enum.Declared.{tag_of}
-use types.Run.{OneOf}
-use Rattle.format.specs.contracts.Kind.{the_type as KindType}
 use Rattle.base.specs.Pick.{pick}
 use Rattle.base.specs.Cases.{lt-or-ge}
 use Rattle.format.specs.declared.Kind.{Kind}
@@ -122,13 +119,12 @@ genus-two t s k h n e z =
     (subst (λ (j : Kind). Shaped j h n) z g.shape).0
 
 -- where an item is no genus/version
-other : (at : ℕ → ℕ) (k : Kind) (h n : ℕ) → OneOf (0 ∷ 1 ∷ 2 ∷ 4 ∷ []) (tag_of KindType k) → Item k h n ≡ ruled at (Item k h n)
+other : (at : ℕ → ℕ) (k : Kind) (h n : ℕ) → (k ≡ Genus → ⊥) → Item k h n ≡ ruled at (Item k h n)
 unfolding ruled
 other at (Fixed c) h n q = refl
 other at (Variable a b c) h n q = refl
 other at (Group l) h n q = refl
-other at Genus h n q =
-    absurd (⊎_elim (λ e. omega arith) (⊎_elim (λ e. omega arith) (⊎_elim (λ e. omega arith) (λ e. omega arith))) q)
+other at Genus h n q = absurd (q refl)
 other at (Indexed c) h n q = refl
 
 -- ---- the item that a text begins with
@@ -218,7 +214,7 @@ module _ (t asked : Bool) (s : List ℕ) where
                 by true true o q = rw (item, z, ← o)
                 by true false o q = absurd (apart (sym q))
 
-            pub item-other : OneOf (0 ∷ 1 ∷ 2 ∷ 4 ∷ []) (tag_of KindType k) → Item k h n ≡ frame_next t asked S
+            pub item-other : (k ≡ Genus → ⊥) → Item k h n ≡ frame_next t asked S
             unfolding frame_next
             item-other q = by asked
               where

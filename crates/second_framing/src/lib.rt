@@ -1,5 +1,7 @@
 // The second judge's framing (02 m), to be read by eye: the item that a text begins with, in the papers' order and by their names. It shares with
 // the first engine the tables of alphabet and registry with their look-ups; no more. Places count characters of a text `t`; `&` asks both sides.
+#![tactic(auto)]
+
 ghost use Rattle.std.specs.Prelude.{◌≡◌};
 ghost use Rattle.format.specs.declared.Framed.TheVariants.{Unframed};
 ghost use Rattle.format.specs.Units.{text_sextets};

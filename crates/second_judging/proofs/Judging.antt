@@ -1,9 +1,9 @@
 -- Judging step by step: the tests one behind the other, and what each asks. Assumes nothing.
-use mathlib.Core.Path.{◌≡◌, refl, sym, ap, ◌∙◌, subst}
+use mathlib.Core.Path.{◌≡◌, refl, sym, ap, ◌∙◌}
 use mathlib.Core.Bool.{Bool, true, false, not, ◌&&◌, ◌||◌}
 use mathlib.Core.List.{List, [], ◌∷◌}
 use mathlib.Core.Logic.{⊎_elim}
-use Prim.Native.Nat.{ℕ, zero, suc, ◌+◌, ◌-◌, ◌*◌, ◌/◌, ◌%◌, ◌^◌, ◌<◌, ◌≤◌}
+use Prim.Native.Nat.{ℕ, zero, suc, ◌+◌, ◌-◌, ◌*◌, ◌/◌, ◌^◌, ◌<◌, ◌≤◌}
 use native.Mathlib.Nat.{zero-div}
 use native.Mathlib.Omega.{arith}
 use lib.Dec.{eqb, ltb, leb}
@@ -15,16 +15,15 @@ use Rattle.base.specs.Cases.{lt-or-ge}
 use Rattle.base.specs.Digits.{onward, number_of}
 use Rattle.format.specs.declared.CodeRow.{CodeRow}
 use Rattle.format.specs.declared.IndexRow.{IndexRow}
-use Rattle.format.specs.declared.Kind.TheVariants.{Fixed, Variable, Indexed}
 use Rattle.format.specs.declared.Verdict.{Verdict}
 use Rattle.format.specs.declared.Verdict.TheVariants.{Accepted, Refused}
 use Rattle.format.specs.Units.{text_sextets}
-use Rattle.format.specs.Registry.{zero_bits_of, prepad_of, index_chars, is_text}
+use Rattle.format.specs.Registry.{zero_bits_of, prepad_of, is_text}
 use Rattle.format.specs.Framing.{sextet}
 use Rattle.format.specs.Texts.{fills, fill_of, text_right, value_right}
 use Rattle.format.specs.Values.{ondex_of}
-use Rattle.format.specs.Judging.{shift, and_then, unless, is_shortest, has_lead, behind, zero_bits, prepad_right, ondex_right, judge_kind}
-use Rattle.second_characters.specs.Found.{Below, First, Bad}
+use Rattle.format.specs.Judging.{and_then, unless, is_shortest, has_lead, behind, zero_bits, prepad_right, ondex_right, judge_kind}
+use Rattle.second_characters.specs.Found.{First, Bad}
 use Rattle.second_judging.specs.Kinds.{Behind, fixed_of, variable_of, indexed_of}
 use Rattle.second_characters.proofs.Found.{text-past, text-length, behind-is}
 

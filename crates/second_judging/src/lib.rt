@@ -1,6 +1,8 @@
 // The second judge's verdict on a primitive, on an indexed item and on a group's header (02 m), to be read by eye: in the papers' order and by their names. It shares
 // with the first engine the tables of alphabet and registry with their look-ups; no more. `t` is the item's own text, whose value begins at
 // `from`, behind a header of whole units; `|` and `&` ask both sides.
+#![tactic(auto)]
+
 ghost use Rattle.std.specs.Prelude.{◌≡◌, ℕ, ltb};
 ghost use Rattle.format.specs.Units.{text_sextets};
 ghost use Rattle.format.specs.Judging.{and_then, unless, is_shortest, zero_bits, max_depth};

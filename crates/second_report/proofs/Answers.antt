@@ -1,5 +1,5 @@
 -- The answers of the second judge's calls, and what they leave. Assumes nothing.
-use Prim.Native.Nat.{ℕ, ◌+◌, ◌*◌, ◌/◌, ◌%◌, ◌≤◌, ◌<◌}
+use Prim.Native.Nat.{ℕ, ◌*◌, ◌/◌, ◌%◌, ◌≤◌, ◌<◌}
 use mathlib.Core.Path.{◌≡◌, refl, sym, ap, ◌∙◌}
 use mathlib.Core.List.{List, [], ◌∷◌, ◌++◌, append-nil}
 use native.Mathlib.Omega.{arith}
@@ -14,7 +14,7 @@ use Rattle.format.specs.Conversion.{to_text, binary_to_text, text_left}
 use Rattle.format.specs.Report.{rows_in, report_answer, report_left}
 use Rattle.laws.specs.Conversion.{length-to-text, binary-to-text-sextets, text-joins}
 use Rattle.second_claims.specs.Second.{row_back, rows_by_text, second_binary, work_left}
-use Rattle.second_claims.specs.ByText.{rows-by-text}
+use Rattle.second_claims.proofs.ByText.{rows-by-text}
 use Rattle.second_report.specs.Reports.{form_of, Given, Answered}
 
 -- ---- a text

@@ -1,15 +1,15 @@
 -- The items of a text counted, a verdict counted back, and the stores of a row. Assumes nothing.
-use mathlib.Core.Path.{◌≡◌, refl, sym, ap, ◌∙◌}
-use mathlib.Core.Bool.{Bool, true, false}
+use mathlib.Core.Path.{◌≡◌, refl, ap, ◌∙◌}
+use mathlib.Core.Bool.{true, false}
 use mathlib.Core.List.{List, [], ◌∷◌, ◌++◌, append-nil}
 use mathlib.Core.Logic.{⊎_elim}
-use Prim.Native.Nat.{ℕ, zero, suc, ◌+◌, ◌-◌, ◌*◌, ◌/◌, ◌%◌, ◌<◌, ◌≤◌}
-use native.Mathlib.Nat.{add-mul, mul-add, mul_comm, mul-le-mul}
+use Prim.Native.Nat.{ℕ, suc, ◌+◌, ◌-◌, ◌*◌, ◌/◌, ◌%◌, ◌<◌, ◌≤◌}
+use native.Mathlib.Nat.{mul-add, mul_comm, mul-le-mul}
 use native.Mathlib.Omega.{arith}
 use mir.Syntax.{w64}
 use mir.Val as val
 use lib.ListN.{length, take, drop, set, length-drop}
-use lib.Seq.{sets, take_all, drop-drop, length-take-le}
+use lib.Seq.{sets, take_all, drop-drop}
 use borrow.Author.Tests.{eq-eqb, ne_eqb}
 use Rattle.base.specs.Cases.{lt-or-ge}
 use Rattle.format.specs.declared.Kind.{Kind}
@@ -18,7 +18,7 @@ use Rattle.format.specs.declared.Framed.TheVariants.{Item, Unframed}
 use Rattle.format.specs.declared.Verdict.{Verdict}
 use Rattle.format.specs.declared.Verdict.TheVariants.{Accepted, Refused}
 use Rattle.format.specs.Units.{text, text_sextets}
-use Rattle.format.specs.Framing.{frame, frame_ruled, frame_next, scale}
+use Rattle.format.specs.Framing.{frame_ruled, frame_next, scale}
 use Rattle.format.specs.Judging.{shift}
 use Rattle.format.specs.Report.{rows, rows_in, frame_in, placed, be4, verdict_byte, refusal, refusal_bytes, concat}
 use Rattle.laws.specs.Domains.{text-reader}
@@ -26,7 +26,6 @@ use Rattle.laws.specs.Frames.{frames}
 use Rattle.laws.specs.Items.{rows_at, rows-nil, rows-refused, rows-item}
 use Rattle.format.specs.declared.Reported.TheVariants as R
 use Rattle.filling.specs.Stores.{be4-long, sets-append}
-use Rattle.second.specs.Items.{Near}
 use Rattle.second.proofs.Groups.{near-place}
 use Rattle.second_report.specs.Reports.{Row, Put, verdict_at, item_left, end_answer, end_left, Ended}
 

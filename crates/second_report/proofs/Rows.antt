@@ -1,41 +1,37 @@
 -- A stream's rows stored one by one, over either form, by the text it is judged by. Assumes nothing.
-use Prim.Native.Nat.{ℕ, ◌+◌, ◌-◌, ◌*◌, ◌/◌, ◌%◌, ◌≤◌, ◌<◌}
+use Prim.Native.Nat.{ℕ, ◌+◌, ◌-◌, ◌*◌, ◌/◌, ◌≤◌, ◌<◌}
 use mathlib.Core.Path.{◌≡◌, refl, sym, ap, ◌∙◌}
 use mathlib.Core.Bool.{true, false}
-use mathlib.Core.List.{List, [], ◌∷◌, ◌++◌, map}
+use mathlib.Core.List.{List, [], ◌∷◌, ◌++◌}
 use native.Mathlib.Omega.{arith}
 use native.Mathlib.Nat.{add-mul, mul_comm, mul-le-mul, le-div_iff_mul-le}
 use mir.Syntax.{w64}
 use mir.Val as val
 use lib.ListN.{length, take, drop, length-drop}
-use lib.Seq.{sets, sets-eq, length-sets, take_all, length-take-le}
+use lib.Seq.{sets, sets-eq, length-sets, length-take-le}
 use borrow.Author.Tests.{lt-ltb, le-ltb}
-use Rattle.base.specs.Lists.{map-take}
 use Rattle.format.specs.declared.Form.{Form}
 use Rattle.format.specs.declared.Form.TheVariants.{Text, Binary}
-use Rattle.format.specs.declared.Kind.{Kind}
-use Rattle.format.specs.declared.Framed.{Framed}
 use Rattle.format.specs.declared.Framed.TheVariants.{Item, Unframed}
 use Rattle.format.specs.declared.Reported.{Reported}
 use Rattle.format.specs.declared.Reported.TheVariants as R
 use Rattle.format.specs.declared.Verdict.{Verdict}
-use Rattle.format.specs.Alphabet.{sextet_of}
 use Rattle.format.specs.Units.{domain, text, text_sextets}
 use Rattle.format.specs.Framing.{frame_by, frame_ruled, frame_next, scale}
-use Rattle.format.specs.Judging.{shift, judge_kind, group, judge_with}
-use Rattle.format.specs.Report.{rows_in, frame_in, judge_in, placed, be4, row_bytes, verdict_byte, refusal, refusal_bytes, concat, report, report_answer, report_left}
+use Rattle.format.specs.Judging.{shift, judge_with}
+use Rattle.format.specs.Report.{rows_in, frame_in, judge_in, placed, be4, row_bytes, report, report_answer, report_left}
 use Rattle.laws.specs.Domains.{reader}
 use Rattle.laws.specs.Frames.{frames}
 use Rattle.laws.specs.Levels.{any-item, item-sizes, judge-own}
 use Rattle.claims.specs.Claims.{Demand3}
-use Rattle.claims.specs.Demand3.{text-demand3, binary-demand3}
-use Rattle.claims.specs.Room.{report-fits}
+use Rattle.claims.proofs.Demand3.{text-demand3, binary-demand3}
+use Rattle.claims.proofs.Room.{report-fits}
 use Rattle.filling.specs.Stores.{row_with, row-long}
 use Rattle.filling.specs.Filling.{Filled, report_of, turn, refusal-few, filled-start, filled-room, filled_more, filled-few, stop-all, end-all}
 use Rattle.second_characters.proofs.Found.{text-length, text-rest}
 use Rattle.second.specs.declared.Judged.{Judged}
 use Rattle.second.specs.declared.Judged.TheVariants as J
-use Rattle.second.specs.Items.{Near, Next}
+use Rattle.second.specs.Items.{Next}
 use Rattle.second.proofs.Groups.{Found, item-is, unframed-is, near-wider, near-own}
 use Rattle.second_report.proofs.Counts.{behind4}
 use Rattle.second_report.specs.Reports.{form_of, Given, Answered, Row, Put, verdict_at, item_left, end_answer, end_left, Ended}

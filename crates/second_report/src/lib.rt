@@ -1,5 +1,7 @@
 // The second judge's report (02 m), to be read by eye: items, refusals, remainder, of a text as it is and of a binary by its text in lent working
 // room. It shares with the first engine conversion; no more. Starts count units, and a unit is so many elements of the stream.
+#![tactic(auto)]
+
 ghost use Rattle.std.specs.Prelude.{◌≡◌, [], ◌∷◌, ◌++◌, ◌+◌, ◌*◌, ◌≤◌, length};
 ghost use Rattle.std.proofs.lemmas.List.Edits.{sets};
 ghost use Rattle.format.specs.Units.{text, binary};

@@ -1,5 +1,7 @@
 // A unit by value: four characters or three bytes, and the four sextets that both are. A function that reads a table is lent it,
 // since naming a constant table copies it.
+#![tactic(auto)]
+
 ghost use Rattle.std.specs.Prelude.{◌≡◌, ◌<◌, get_or};
 ghost use Rattle.format.specs.Units.{bytes_of, sextets_of, triplet_by, quadlet_by};
 

@@ -13,68 +13,78 @@
 // To read an indexed item (call 21 of a text, 22 of a binary) the input is as for a primitive, and the line goes on with the seven numbers of
 // the item; for the buffer, which is not asked in a binary, it has the part where the raw value lies. To write one (23 to text, 24 to binary)
 // the input is selector and letter (1 byte each), index and ondex (8 bytes each, big-endian) and the raw value.
+#![tactic(auto)]
+
 ghost use Rattle.std.specs.Prelude.{◌≡◌, ◌≤◌, length};
 ghost use Rattle.exports_values.specs.Lent.{state_size};
 
 use exports_values::{INDEXED, INFO, MARK, STATE};
 use instalments::{BinaryPause, TextPause};
-use libc::STDIN_FILENO;
 use recorded::{number, wide};
+use std::io::Stdout;
 use walk_state::{BinaryItem, TextItem, Walk};
 use walk_tally::{BinaryEnd, TextEnd};
 
-fn show(call: u8, number: u8, value: usize, out: &[u8]) {
-    recorded::show_answer(call, number, value);
-    recorded::show_bytes(out);
-    recorded::end_line();
+fn show(stdout: Stdout, call: u8, number: u8, value: usize, out: &[u8]) {
+    recorded::show_answer(stdout, call, number, value);
+    recorded::show_bytes(stdout, out);
+    recorded::end_line(stdout);
 }
 
 // ---- reading
 
-fn show_read(call: u8, number: u8, value: usize, out: &[u8], tag: [u8; 11], info: [usize; INFO]) {
-    recorded::show_answer(call, number, value);
-    recorded::show_bytes(out);
-    recorded::show_bytes(&tag);
-    recorded::show_numbers(&info);
-    recorded::end_line();
+fn show_read(
+    stdout: Stdout,
+    call: u8,
+    number: u8,
+    value: usize,
+    out: &[u8],
+    tag: [u8; 11],
+    info: [usize; INFO],
+) {
+    recorded::show_answer(stdout, call, number, value);
+    recorded::show_bytes(stdout, out);
+    recorded::show_bytes(stdout, &tag);
+    recorded::show_numbers(stdout, &info);
+    recorded::end_line(stdout);
 }
 
-fn read(call: u8, stream: &[u8], at: usize, out: &mut [u8]) {
+fn read(stdout: Stdout, call: u8, stream: &[u8], at: usize, out: &mut [u8]) {
     let mut value = 0;
     let mut tag: [u8; 11] = [170; 11];
     let mut info: [usize; INFO] = [170; INFO];
     if call == 5 {
         let number = exports::cesr_read_text(stream, at, out, &mut tag, &mut info, &mut value);
-        show_read(call, number, value, out, tag, info);
+        show_read(stdout, call, number, value, out, tag, info);
         return;
     }
     let number = exports::cesr_read_binary(stream, at, out, &mut tag, &mut info, &mut value);
-    show_read(call, number, value, out, tag, info);
+    show_read(stdout, call, number, value, out, tag, info);
 }
 
-fn read_at(call: u8, src: &[u8], out: &mut [u8]) {
+fn read_at(stdout: Stdout, call: u8, src: &[u8], out: &mut [u8]) {
     let n = src.len();
     if 2 <= n {
         let at = number(src[0], src[1]);
-        read(call, &src[2..n], at, out);
+        read(stdout, call, &src[2..n], at, out);
     }
 }
 
 // ---- writing
 
-fn write(call: u8, head: [u8; 3], tag: [u8; 11], raw: &[u8], out: &mut [u8]) {
+fn write(stdout: Stdout, call: u8, head: [u8; 3], tag: [u8; 11], raw: &[u8], out: &mut [u8]) {
     let mut value = 0;
     let tags = wide(head[2]);
     if call == 7 {
         let number = exports::cesr_write_text(head[0], head[1], &tag, tags, raw, out, &mut value);
-        show(call, number, value, out);
+        show(stdout, call, number, value, out);
         return;
     }
     let number = exports::cesr_write_binary(head[0], head[1], &tag, tags, raw, out, &mut value);
-    show(call, number, value, out);
+    show(stdout, call, number, value, out);
 }
 
-fn write_from(call: u8, src: &[u8], out: &mut [u8]) {
+fn write_from(stdout: Stdout, call: u8, src: &[u8], out: &mut [u8]) {
     let n = src.len();
     if 14 <= n {
         let head = [src[0], src[1], src[2]];
@@ -82,7 +92,7 @@ fn write_from(call: u8, src: &[u8], out: &mut [u8]) {
             src[3], src[4], src[5], src[6], src[7], src[8], src[9], src[10], src[11], src[12],
             src[13],
         ];
-        write(call, head, tag, &src[14..n], out);
+        write(stdout, call, head, tag, &src[14..n], out);
     }
 }
 
@@ -91,27 +101,34 @@ fn write_from(call: u8, src: &[u8], out: &mut [u8]) {
 // What is told of one.
 const TOLD: usize = 7;
 
-fn show_indexed(call: u8, number: u8, value: usize, raw: &[u8], info: [usize; TOLD]) {
-    recorded::show_answer(call, number, value);
-    recorded::show_bytes(raw);
-    recorded::show_numbers(&info);
-    recorded::end_line();
+fn show_indexed(
+    stdout: Stdout,
+    call: u8,
+    number: u8,
+    value: usize,
+    raw: &[u8],
+    info: [usize; TOLD],
+) {
+    recorded::show_answer(stdout, call, number, value);
+    recorded::show_bytes(stdout, raw);
+    recorded::show_numbers(stdout, &info);
+    recorded::end_line(stdout);
 }
 
-fn read_indexed_text(stream: &[u8], at: usize, out: &mut [u8]) {
+fn read_indexed_text(stdout: Stdout, stream: &[u8], at: usize, out: &mut [u8]) {
     let mut value = 0;
     let mut info: [usize; TOLD] = [170; TOLD];
     let number = exports::cesr_read_indexed_text(stream, at, out, &mut info, &mut value);
-    show_indexed(21, number, value, out, info);
+    show_indexed(stdout, 21, number, value, out, info);
 }
 
 // The raw value is the part that the numbers tell, as a caller finds it.
-fn read_indexed_binary(stream: &[u8], at: usize) {
+fn read_indexed_binary(stdout: Stdout, stream: &[u8], at: usize) {
     let mut value = 0;
     let mut info: [usize; TOLD] = [170; TOLD];
     let number = exports::cesr_read_indexed_binary(stream, at, &mut info, &mut value);
     if number != 0 {
-        show_indexed(22, number, value, b"", info);
+        show_indexed(stdout, 22, number, value, b"", info);
         return;
     }
     let n = stream.len();
@@ -126,38 +143,46 @@ fn read_indexed_binary(stream: &[u8], at: usize) {
         return;
     }
     let to = from + info[4];
-    show_indexed(22, number, value, &stream[from..to], info);
+    show_indexed(stdout, 22, number, value, &stream[from..to], info);
 }
 
-fn read_indexed_at(call: u8, src: &[u8], out: &mut [u8]) {
+fn read_indexed_at(stdout: Stdout, call: u8, src: &[u8], out: &mut [u8]) {
     let n = src.len();
     if n < 2 {
         return;
     }
     let at = number(src[0], src[1]);
     if call == 21 {
-        read_indexed_text(&src[2..n], at, out);
+        read_indexed_text(stdout, &src[2..n], at, out);
         return;
     }
-    read_indexed_binary(&src[2..n], at);
+    read_indexed_binary(stdout, &src[2..n], at);
 }
 
-fn write_indexed(call: u8, code: [u8; 2], index: usize, ondex: usize, raw: &[u8], out: &mut [u8]) {
+fn write_indexed(
+    stdout: Stdout,
+    call: u8,
+    code: [u8; 2],
+    index: usize,
+    ondex: usize,
+    raw: &[u8],
+    out: &mut [u8],
+) {
     let mut value = 0;
     if call == 23 {
         let number = exports::cesr_write_indexed_text(
             code[0], code[1], index, ondex, raw, out, &mut value,
         );
-        show(call, number, value, out);
+        show(stdout, call, number, value, out);
         return;
     }
     let number = exports::cesr_write_indexed_binary(
         code[0], code[1], index, ondex, raw, out, &mut value,
     );
-    show(call, number, value, out);
+    show(stdout, call, number, value, out);
 }
 
-fn write_indexed_from(call: u8, src: &[u8], out: &mut [u8]) {
+fn write_indexed_from(stdout: Stdout, call: u8, src: &[u8], out: &mut [u8]) {
     let n = src.len();
     if 18 <= n {
         let code = [src[0], src[1]];
@@ -167,7 +192,7 @@ fn write_indexed_from(call: u8, src: &[u8], out: &mut [u8]) {
         let ondex = large([
             src[10], src[11], src[12], src[13], src[14], src[15], src[16], src[17],
         ]);
-        write_indexed(call, code, index, ondex, &src[18..n], out);
+        write_indexed(stdout, call, code, index, ondex, &src[18..n], out);
     }
 }
 
@@ -180,28 +205,35 @@ fn large(b: [u8; 8]) -> usize {
 
 // ---- a step of the walk
 
-fn show_step(call: u8, number: u8, value: usize, state: [usize; STATE], item: [usize; 6]) {
-    recorded::show_answer(call, number, value);
-    recorded::show_numbers(&state);
-    recorded::show_numbers(&item);
-    recorded::end_line();
+fn show_step(
+    stdout: Stdout,
+    call: u8,
+    number: u8,
+    value: usize,
+    state: [usize; STATE],
+    item: [usize; 6],
+) {
+    recorded::show_answer(stdout, call, number, value);
+    recorded::show_numbers(stdout, &state);
+    recorded::show_numbers(stdout, &item);
+    recorded::end_line(stdout);
 }
 
-fn step(call: u8, stream: &[u8], before: [usize; STATE]) {
+fn step(stdout: Stdout, call: u8, stream: &[u8], before: [usize; STATE]) {
     let mut value = 0;
     let mut state = before;
     let mut item: [usize; 6] = [170; 6];
     if call == 9 {
         let number = exports::cesr_walk_text(stream, &mut state, &mut item, &mut value);
-        show_step(call, number, value, state, item);
+        show_step(stdout, call, number, value, state, item);
         return;
     }
     let number = exports::cesr_walk_binary(stream, &mut state, &mut item, &mut value);
-    show_step(call, number, value, state, item);
+    show_step(stdout, call, number, value, state, item);
 }
 
 // A step of a text through a reader.
-fn read_step_text(stream: &[u8], before: Walk) {
+fn read_step_text(stdout: Stdout, stream: &[u8], before: Walk) {
     let step = reader_step::step_text(stream, before);
     let found = step.found;
     let state = exports_state::state_of(step.next);
@@ -214,15 +246,17 @@ fn read_step_text(stream: &[u8], before: Walk) {
             head,
         } => {
             let item = exports_item::item_of(offset.0, size.0, depth, kind, head);
-            show_step(11, 0, 0, state, item);
+            show_step(stdout, 11, 0, 0, state, item);
         }
-        TextItem::Refused { number, place } => show_step(11, number, place.0, state, [170; 6]),
-        TextItem::End => show_step(11, 255, 0, state, [170; 6]),
+        TextItem::Refused { number, place } => show_step(
+            stdout, 11, number, place.0, state, [170; 6],
+        ),
+        TextItem::End => show_step(stdout, 11, 255, 0, state, [170; 6]),
     }
 }
 
 // The same of a binary.
-fn read_step_binary(stream: &[u8], before: Walk) {
+fn read_step_binary(stdout: Stdout, stream: &[u8], before: Walk) {
     let step = reader_step::step_binary(stream, before);
     let found = step.found;
     let state = exports_state::state_of(step.next);
@@ -235,28 +269,30 @@ fn read_step_binary(stream: &[u8], before: Walk) {
             head,
         } => {
             let item = exports_item::item_of(offset.0, size.0, depth, kind, head);
-            show_step(12, 0, 0, state, item);
+            show_step(stdout, 12, 0, 0, state, item);
         }
-        BinaryItem::Refused { number, place } => show_step(12, number, place.0, state, [170; 6]),
-        BinaryItem::End => show_step(12, 255, 0, state, [170; 6]),
+        BinaryItem::Refused { number, place } => show_step(
+            stdout, 12, number, place.0, state, [170; 6],
+        ),
+        BinaryItem::End => show_step(stdout, 12, 255, 0, state, [170; 6]),
     }
 }
 
-fn show_count(call: u8, number: u8, value: usize, items: usize) {
-    recorded::show_answer(call, number, value);
-    recorded::show_number(items);
-    recorded::end_line();
+fn show_count(stdout: Stdout, call: u8, number: u8, value: usize, items: usize) {
+    recorded::show_answer(stdout, call, number, value);
+    recorded::show_number(stdout, items);
+    recorded::end_line(stdout);
 }
 
 // The items that are left, counted.
-fn rest(call: u8, stream: &[u8], before: Walk) {
+fn rest(stdout: Stdout, call: u8, stream: &[u8], before: Walk) {
     if call == 9 {
         let tally = walk_count::rest_text(stream, before);
         let items = tally.items;
         let end = tally.end;
         match end {
-            TextEnd::Refused { number, place } => show_count(11, number, place.0, items),
-            TextEnd::End => show_count(11, 255, 0, items),
+            TextEnd::Refused { number, place } => show_count(stdout, 11, number, place.0, items),
+            TextEnd::End => show_count(stdout, 11, 255, 0, items),
         }
         return;
     }
@@ -264,8 +300,8 @@ fn rest(call: u8, stream: &[u8], before: Walk) {
     let items = tally.items;
     let end = tally.end;
     match end {
-        BinaryEnd::Refused { number, place } => show_count(12, number, place.0, items),
-        BinaryEnd::End => show_count(12, 255, 0, items),
+        BinaryEnd::Refused { number, place } => show_count(stdout, 12, number, place.0, items),
+        BinaryEnd::End => show_count(stdout, 12, 255, 0, items),
     }
 }
 
@@ -277,17 +313,17 @@ fn is_state(before: [usize; STATE]) -> bool {
     before[INDEXED] <= 1
 }
 
-fn through_reader(call: u8, stream: &[u8], before: [usize; STATE]) {
+fn through_reader(stdout: Stdout, call: u8, stream: &[u8], before: [usize; STATE]) {
     if !is_state(before) {
         return;
     }
     let walk = exports_state::walk_of(before);
     if call == 9 {
-        read_step_text(stream, walk);
+        read_step_text(stdout, stream, walk);
     } else {
-        read_step_binary(stream, walk);
+        read_step_binary(stdout, stream, walk);
     }
-    rest(call, stream, walk);
+    rest(stdout, call, stream, walk);
 }
 
 // A walk's state, a number a byte.
@@ -303,96 +339,107 @@ fn state_from(src: &[u8]) -> [usize; STATE]
     state
 }
 
-fn step_from(call: u8, src: &[u8]) {
+fn step_from(stdout: Stdout, call: u8, src: &[u8]) {
     let n = src.len();
     if STATE <= n {
         let before = state_from(src);
         let stream = &src[STATE..n];
-        step(call, stream, before);
-        through_reader(call, stream, before);
+        step(stdout, call, stream, before);
+        through_reader(stdout, call, stream, before);
     }
 }
 
 // ---- an instalment of the walk
 
-fn show_slice(call: u8, number: u8, value: usize, items: usize, state: [usize; STATE]) {
-    recorded::show_answer(call, number, value);
-    recorded::show_number(items);
-    recorded::show_numbers(&state);
-    recorded::end_line();
+fn show_slice(
+    stdout: Stdout,
+    call: u8,
+    number: u8,
+    value: usize,
+    items: usize,
+    state: [usize; STATE],
+) {
+    recorded::show_answer(stdout, call, number, value);
+    recorded::show_number(stdout, items);
+    recorded::show_numbers(stdout, &state);
+    recorded::end_line(stdout);
 }
 
-fn walk_on(call: u8, stream: &[u8], before: [usize; STATE], budget: usize) {
+fn walk_on(stdout: Stdout, call: u8, stream: &[u8], before: [usize; STATE], budget: usize) {
     let mut value = 0;
     let mut items = 0;
     let mut state = before;
     if call == 13 {
         let number = exports::cesr_walk_on_text(stream, &mut state, budget, &mut items, &mut value);
-        show_slice(call, number, value, items, state);
+        show_slice(stdout, call, number, value, items, state);
         return;
     }
     let number = exports::cesr_walk_on_binary(stream, &mut state, budget, &mut items, &mut value);
-    show_slice(call, number, value, items, state);
+    show_slice(stdout, call, number, value, items, state);
 }
 
-fn walk_on_text(stream: &[u8], before: Walk, budget: usize) {
+fn walk_on_text(stdout: Stdout, stream: &[u8], before: Walk, budget: usize) {
     let walked = instalments_walk::walk_on_text(before, stream, budget);
     let pause = walked.pause;
     let items = walked.items;
     let state = exports_state::state_of(walked.next);
     match pause {
-        TextPause::Spent => show_slice(15, 0, 0, items, state),
-        TextPause::End => show_slice(15, 255, 0, items, state),
-        TextPause::Refused { number, place } => show_slice(15, number, place.0, items, state),
+        TextPause::Spent => show_slice(stdout, 15, 0, 0, items, state),
+        TextPause::End => show_slice(stdout, 15, 255, 0, items, state),
+        TextPause::Refused { number, place } => show_slice(
+            stdout, 15, number, place.0, items, state,
+        ),
     }
 }
 
-fn walk_on_binary(stream: &[u8], before: Walk, budget: usize) {
+fn walk_on_binary(stdout: Stdout, stream: &[u8], before: Walk, budget: usize) {
     let walked = instalments_walk::walk_on_binary(before, stream, budget);
     let pause = walked.pause;
     let items = walked.items;
     let state = exports_state::state_of(walked.next);
     match pause {
-        BinaryPause::Spent => show_slice(16, 0, 0, items, state),
-        BinaryPause::End => show_slice(16, 255, 0, items, state),
-        BinaryPause::Refused { number, place } => show_slice(16, number, place.0, items, state),
+        BinaryPause::Spent => show_slice(stdout, 16, 0, 0, items, state),
+        BinaryPause::End => show_slice(stdout, 16, 255, 0, items, state),
+        BinaryPause::Refused { number, place } => show_slice(
+            stdout, 16, number, place.0, items, state,
+        ),
     }
 }
 
-fn walk_on_from(call: u8, src: &[u8], budget: usize) {
+fn walk_on_from(stdout: Stdout, call: u8, src: &[u8], budget: usize) {
     let n = src.len();
     if n < STATE {
         return;
     }
     let before = state_from(src);
     let stream = &src[STATE..n];
-    walk_on(call, stream, before, budget);
+    walk_on(stdout, call, stream, before, budget);
     if !is_state(before) {
         return;
     }
     let walk = exports_state::walk_of(before);
     if call == 13 {
-        walk_on_text(stream, walk, budget);
+        walk_on_text(stdout, stream, walk, budget);
         return;
     }
-    walk_on_binary(stream, walk, budget);
+    walk_on_binary(stdout, stream, walk, budget);
 }
 
 // ---- expected verdicts and a report
 
-fn show_counts(number: u8, counts: [usize; 5]) {
-    recorded::show_answer(20, number, 0);
-    recorded::show_numbers(&counts);
-    recorded::end_line();
+fn show_counts(stdout: Stdout, number: u8, counts: [usize; 5]) {
+    recorded::show_answer(stdout, 20, number, 0);
+    recorded::show_numbers(stdout, &counts);
+    recorded::end_line(stdout);
 }
 
-fn compare(expected: &[u8], report: &[u8]) {
+fn compare(stdout: Stdout, expected: &[u8], report: &[u8]) {
     let mut answer: [usize; 5] = [170; 5];
     let number = exports::cesr_compare(expected, report, &mut answer);
-    show_counts(number, answer);
+    show_counts(stdout, number, answer);
 }
 
-fn compare_from(src: &[u8]) {
+fn compare_from(stdout: Stdout, src: &[u8]) {
     let n = src.len();
     if n < 2 {
         return;
@@ -402,63 +449,63 @@ fn compare_from(src: &[u8]) {
         return;
     }
     let to = 2 + length;
-    compare(&src[2..to], &src[to..n]);
+    compare(stdout, &src[2..to], &src[to..n]);
 }
 
 // ---- any call
 
-fn run(call: u8, src: &[u8], out: &mut [u8]) {
+fn run(stdout: Stdout, call: u8, src: &[u8], out: &mut [u8]) {
     if call < 5 {
-        whole(call, src, out);
+        whole(stdout, call, src, out);
         return;
     }
     if call < 7 {
-        read_at(call, src, out);
+        read_at(stdout, call, src, out);
         return;
     }
     if call < 9 {
-        write_from(call, src, out);
+        write_from(stdout, call, src, out);
         return;
     }
     if call == 20 {
-        compare_from(src);
+        compare_from(stdout, src);
         return;
     }
     if 22 < call {
-        write_indexed_from(call, src, out);
+        write_indexed_from(stdout, call, src, out);
         return;
     }
     if 20 < call {
-        read_indexed_at(call, src, out);
+        read_indexed_at(stdout, call, src, out);
         return;
     }
     if call < 13 {
-        step_from(call, src);
+        step_from(stdout, call, src);
         return;
     }
-    walk_on_from(call, src, out.len());
+    walk_on_from(stdout, call, src, out.len());
 }
 
-fn whole(call: u8, src: &[u8], out: &mut [u8]) {
+fn whole(stdout: Stdout, call: u8, src: &[u8], out: &mut [u8]) {
     let mut value = 0;
     if call == 1 {
         let number = exports::cesr_text_to_binary(src, out, &mut value);
-        show(call, number, value, out);
+        show(stdout, call, number, value, out);
         return;
     }
     if call == 2 {
         let number = exports::cesr_binary_to_text(src, out, &mut value);
-        show(call, number, value, out);
+        show(stdout, call, number, value, out);
         return;
     }
     if call == 3 {
         let number = exports::cesr_report_text(src, out, &mut value);
-        show(call, number, value, out);
+        show(stdout, call, number, value, out);
         return;
     }
     if call == 4 {
         let number = exports::cesr_report_binary(src, out, &mut value);
-        show(call, number, value, out);
+        show(stdout, call, number, value, out);
     }
 }
 
@@ -469,10 +516,10 @@ fn space() -> [u8; 4096]
     [170; 4096]
 }
 
-fn lend(call: u8, room: usize, src: &[u8]) {
+fn lend(stdout: Stdout, call: u8, room: usize, src: &[u8]) {
     let mut buffer = space();
     if room <= 4096 {
-        run(call, src, &mut buffer[..room]);
+        run(stdout, call, src, &mut buffer[..room]);
     }
 }
 
@@ -483,9 +530,9 @@ fn record_space() -> [u8; 262144]
     [0; 262144]
 }
 
-fn main() {
+fn main(rt: HostRuntime) {
     let mut records = record_space();
-    let n = io::read_full(STDIN_FILENO, &mut records);
+    let n = recorded::read_full(&mut rt.stdin(), &mut records);
     let mut at = 0;
     while at < n {
         if n - at < 5 {
@@ -499,7 +546,7 @@ fn main() {
             return;
         }
         let to = from + length;
-        lend(call, room, &records[from..to]);
+        lend(rt.stdout(), call, room, &records[from..to]);
         at = to;
     }
 }

@@ -10,12 +10,14 @@
 // stream, and the line has the seven numbers of the item and the checksum of the buffer.
 // Call 28 of a text and 29 of a binary is the report by the second judge, of a stream around the limit. Of a binary, whose text asks for more
 // than the sixteen bytes of working room that are lent, the line ends with these, which held AA before.
+#![tactic(auto)]
+
 ghost use Rattle.std.specs.Prelude.{◌≡◌, ◌<◌, length};
 
 use exports_values::INFO;
 use format::BinaryOffset;
-use libc::STDIN_FILENO;
 use recorded::{number, show_number, wide};
+use std::io::Stdout;
 
 // ---- the raw value
 
@@ -72,20 +74,21 @@ fn checksum(s: &[u8]) -> usize
 }
 
 // The first twelve bytes: code, count and where the raw value begins.
-fn show_head(out: &[u8]) {
+fn show_head(stdout: Stdout, out: &[u8]) {
     if 12 <= out.len() {
-        recorded::show_bytes(&out[0..12]);
+        recorded::show_bytes(stdout, &out[0..12]);
     }
 }
 
-fn show_written(call: u8, number: u8, value: usize, out: &[u8]) {
-    recorded::show_answer(call, number, value);
-    show_number(checksum(out));
-    show_head(out);
-    recorded::end_line();
+fn show_written(stdout: Stdout, call: u8, number: u8, value: usize, out: &[u8]) {
+    recorded::show_answer(stdout, call, number, value);
+    show_number(stdout, checksum(out));
+    show_head(stdout, out);
+    recorded::end_line(stdout);
 }
 
 fn show_read(
+    stdout: Stdout,
     call: u8,
     number: u8,
     value: usize,
@@ -94,61 +97,61 @@ fn show_read(
     letter: u8,
     seed: u8,
 ) {
-    recorded::show_answer(call, number, value);
-    recorded::show_numbers(&info);
-    show_number(raw.len());
-    show_number(agreeing(raw, letter, seed));
-    recorded::end_line();
+    recorded::show_answer(stdout, call, number, value);
+    recorded::show_numbers(stdout, &info);
+    show_number(stdout, raw.len());
+    show_number(stdout, agreeing(raw, letter, seed));
+    recorded::end_line(stdout);
 }
 
 // ---- an item read back
 
-fn read_text(item: &[u8], raw: &mut [u8], letter: u8, seed: u8) {
+fn read_text(stdout: Stdout, item: &[u8], raw: &mut [u8], letter: u8, seed: u8) {
     blank(raw);
     let mut value = 0;
     let mut tag: [u8; 11] = [170; 11];
     let mut info: [usize; INFO] = [170; INFO];
     let number = exports::cesr_read_text(item, 0, raw, &mut tag, &mut info, &mut value);
-    show_read(5, number, value, info, raw, letter, seed);
+    show_read(stdout, 5, number, value, info, raw, letter, seed);
 }
 
 // A text is copied out; any other value is the part where it lies.
-fn read_binary(item: &[u8], raw: &mut [u8], letter: u8, seed: u8) {
+fn read_binary(stdout: Stdout, item: &[u8], raw: &mut [u8], letter: u8, seed: u8) {
     blank(raw);
     let mut value = 0;
     let mut tag: [u8; 11] = [170; 11];
     let mut info: [usize; INFO] = [170; INFO];
     let number = exports::cesr_read_binary(item, 0, raw, &mut tag, &mut info, &mut value);
     if letter == 65 {
-        show_read(6, number, value, info, raw, letter, seed);
+        show_read(stdout, 6, number, value, info, raw, letter, seed);
         return;
     }
     let part = reading_binary::raw_binary(item, BinaryOffset(0));
-    show_read(6, number, value, info, part, letter, seed);
+    show_read(stdout, 6, number, value, info, part, letter, seed);
 }
 
 // ---- an item written
 
-fn write_text(chars: u8, letter: u8, raw: &mut [u8], seed: u8, out: &mut [u8]) {
+fn write_text(stdout: Stdout, chars: u8, letter: u8, raw: &mut [u8], seed: u8, out: &mut [u8]) {
     let mut value = 0;
     let tag: [u8; 11] = [33; 11];
     let number = exports::cesr_write_text(chars, letter, &tag, 0, raw, out, &mut value);
-    show_written(7, number, value, out);
+    show_written(stdout, 7, number, value, out);
     if number == 0 {
         if value <= out.len() {
-            read_text(&out[0..value], raw, letter, seed);
+            read_text(stdout, &out[0..value], raw, letter, seed);
         }
     }
 }
 
-fn write_binary(chars: u8, letter: u8, raw: &mut [u8], seed: u8, out: &mut [u8]) {
+fn write_binary(stdout: Stdout, chars: u8, letter: u8, raw: &mut [u8], seed: u8, out: &mut [u8]) {
     let mut value = 0;
     let tag: [u8; 11] = [33; 11];
     let number = exports::cesr_write_binary(chars, letter, &tag, 0, raw, out, &mut value);
-    show_written(8, number, value, out);
+    show_written(stdout, 8, number, value, out);
     if number == 0 {
         if value <= out.len() {
-            read_binary(&out[0..value], raw, letter, seed);
+            read_binary(stdout, &out[0..value], raw, letter, seed);
         }
     }
 }
@@ -158,81 +161,88 @@ fn write_binary(chars: u8, letter: u8, raw: &mut [u8], seed: u8, out: &mut [u8])
 // What is told of one.
 const TOLD: usize = 7;
 
-fn show_indexed(call: u8, number: u8, value: usize, info: [usize; TOLD], out: &[u8]) {
-    recorded::show_answer(call, number, value);
-    recorded::show_numbers(&info);
-    show_number(checksum(out));
-    recorded::end_line();
+fn show_indexed(
+    stdout: Stdout,
+    call: u8,
+    number: u8,
+    value: usize,
+    info: [usize; TOLD],
+    out: &[u8],
+) {
+    recorded::show_answer(stdout, call, number, value);
+    recorded::show_numbers(stdout, &info);
+    show_number(stdout, checksum(out));
+    recorded::end_line(stdout);
 }
 
-fn read_indexed(call: u8, stream: &[u8], out: &mut [u8]) {
+fn read_indexed(stdout: Stdout, call: u8, stream: &[u8], out: &mut [u8]) {
     let mut value = 0;
     let mut info: [usize; TOLD] = [170; TOLD];
     if call == 21 {
         let number = exports::cesr_read_indexed_text(stream, 0, out, &mut info, &mut value);
-        show_indexed(call, number, value, info, out);
+        show_indexed(stdout, call, number, value, info, out);
         return;
     }
     let number = exports::cesr_read_indexed_binary(stream, 0, &mut info, &mut value);
-    show_indexed(call, number, value, info, out);
+    show_indexed(stdout, call, number, value, info, out);
 }
 
 // ---- a report by the second judge
 
-fn second_text(call: u8, stream: &[u8], out: &mut [u8]) {
+fn second_text(stdout: Stdout, call: u8, stream: &[u8], out: &mut [u8]) {
     let mut value = 0;
     let number = exports::cesr_second_text(stream, out, &mut value);
-    show_written(call, number, value, out);
+    show_written(stdout, call, number, value, out);
 }
 
-fn second_binary(call: u8, stream: &[u8], out: &mut [u8]) {
+fn second_binary(stdout: Stdout, call: u8, stream: &[u8], out: &mut [u8]) {
     let mut value = 0;
     let mut work: [u8; 16] = [170; 16];
     let number = exports::cesr_second_binary(stream, &mut work, out, &mut value);
-    recorded::show_answer(call, number, value);
-    show_number(checksum(out));
-    recorded::show_bytes(&work);
-    recorded::end_line();
+    recorded::show_answer(stdout, call, number, value);
+    show_number(stdout, checksum(out));
+    recorded::show_bytes(stdout, &work);
+    recorded::end_line(stdout);
 }
 
 // ---- any call
 
-fn run(head: [u8; 4], raw: &mut [u8], out: &mut [u8]) {
+fn run(stdout: Stdout, head: [u8; 4], raw: &mut [u8], out: &mut [u8]) {
     let letter = head[2];
     let seed = head[3];
     fill(raw, letter, seed);
     blank(out);
     if head[0] == 28 {
-        second_text(head[0], raw, out);
+        second_text(stdout, head[0], raw, out);
         return;
     }
     if head[0] == 29 {
-        second_binary(head[0], raw, out);
+        second_binary(stdout, head[0], raw, out);
         return;
     }
     if 20 < head[0] {
-        read_indexed(head[0], raw, out);
+        read_indexed(stdout, head[0], raw, out);
         return;
     }
     if head[0] == 7 {
-        write_text(head[1], letter, raw, seed, out);
+        write_text(stdout, head[1], letter, raw, seed, out);
         return;
     }
-    write_binary(head[1], letter, raw, seed, out);
+    write_binary(stdout, head[1], letter, raw, seed, out);
 }
 
-fn lend(r: [u8; 10], raw: &mut [u8], out: &mut [u8]) {
+fn lend(stdout: Stdout, r: [u8; 10], raw: &mut [u8], out: &mut [u8]) {
     let head = [r[0], r[1], r[2], r[3]];
     let length = number(r[4], r[5]) * 65536 + number(r[6], r[7]);
     let room = number(r[8], r[9]);
     if length <= raw.len() {
         if room <= out.len() {
-            run(head, &mut raw[0..length], &mut out[0..room]);
+            run(stdout, head, &mut raw[0..length], &mut out[0..room]);
         }
     }
 }
 
-fn run_all(records: &[u8], raw: &mut [u8], out: &mut [u8]) {
+fn run_all(stdout: Stdout, records: &[u8], raw: &mut [u8], out: &mut [u8]) {
     let mut at = 0;
     while at < records.len() {
         if records.len() - at < 10 {
@@ -250,7 +260,7 @@ fn run_all(records: &[u8], raw: &mut [u8], out: &mut [u8]) {
             records[at + 8],
             records[at + 9],
         ];
-        lend(r, raw, out);
+        lend(stdout, r, raw, out);
         at += 10;
     }
 }
@@ -269,10 +279,17 @@ fn out_space() -> [u8; 16393]
     [0; 16393]
 }
 
-fn main() {
-    let mut records = io::large_buffer();
-    let n = io::read_full(STDIN_FILENO, &mut records);
+// Room for all the records.
+fn record_space() -> [u8; 65536]
+    ensures { 65536 ≡ length result }
+{
+    [0; 65536]
+}
+
+fn main(rt: HostRuntime) {
+    let mut records = record_space();
+    let n = recorded::read_full(&mut rt.stdin(), &mut records);
     let mut raw = raw_space();
     let mut out = out_space();
-    run_all(&records[..n], &mut raw, &mut out);
+    run_all(rt.stdout(), &records[..n], &mut raw, &mut out);
 }

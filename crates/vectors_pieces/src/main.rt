@@ -5,21 +5,31 @@
 // room for items, or at the end for the remainder (2 bytes, big-endian), the room for refusals (2), the piece's length (2) and the piece. The
 // state goes from record to record. A line of output, for all but the first two: the call, the number (0: taken in), the lengths written to
 // items and to refusals, or to the one buffer of the end, and the buffers in hexadecimal.
+#![tactic(auto)]
+
 ghost use Rattle.std.specs.Prelude.{◌≡◌, length};
 
 use exports_pieces_state::PIECES;
-use libc::STDIN_FILENO;
 use recorded::number;
+use std::io::Stdout;
 
-fn show_fed(call: u8, number: u8, given: [usize; 2], items: &[u8], refusals: &[u8]) {
-    recorded::show_answer(call, number, given[0]);
-    recorded::show_number(given[1]);
-    recorded::show_bytes(items);
-    recorded::show_bytes(refusals);
-    recorded::end_line();
+fn show_fed(
+    stdout: Stdout,
+    call: u8,
+    number: u8,
+    given: [usize; 2],
+    items: &[u8],
+    refusals: &[u8],
+) {
+    recorded::show_answer(stdout, call, number, given[0]);
+    recorded::show_number(stdout, given[1]);
+    recorded::show_bytes(stdout, items);
+    recorded::show_bytes(stdout, refusals);
+    recorded::end_line(stdout);
 }
 
 fn feed(
+    stdout: Stdout,
     call: u8,
     state: &mut [usize; PIECES],
     piece: &[u8],
@@ -29,28 +39,28 @@ fn feed(
     let mut given: [usize; 2] = [0; 2];
     if call == 30 {
         let number = exports::cesr_feed_text(state, piece, items, refusals, &mut given);
-        show_fed(call, number, given, items, refusals);
+        show_fed(stdout, call, number, given, items, refusals);
         return;
     }
     let number = exports::cesr_feed_binary(state, piece, items, refusals, &mut given);
-    show_fed(call, number, given, items, refusals);
+    show_fed(stdout, call, number, given, items, refusals);
 }
 
-fn show_ended(call: u8, number: u8, value: usize, out: &[u8]) {
-    recorded::show_answer(call, number, value);
-    recorded::show_bytes(out);
-    recorded::end_line();
+fn show_ended(stdout: Stdout, call: u8, number: u8, value: usize, out: &[u8]) {
+    recorded::show_answer(stdout, call, number, value);
+    recorded::show_bytes(stdout, out);
+    recorded::end_line(stdout);
 }
 
-fn end(call: u8, state: &mut [usize; PIECES], out: &mut [u8]) {
+fn end(stdout: Stdout, call: u8, state: &mut [usize; PIECES], out: &mut [u8]) {
     let mut value = 0;
     if call == 32 {
         let number = exports::cesr_end_text(state, out, &mut value);
-        show_ended(call, number, value, out);
+        show_ended(stdout, call, number, value, out);
         return;
     }
     let number = exports::cesr_end_binary(state, out, &mut value);
-    show_ended(call, number, value, out);
+    show_ended(stdout, call, number, value, out);
 }
 
 // Room for the longest rows, which hold AA.
@@ -60,12 +70,20 @@ fn space() -> [u8; 4096]
     [170; 4096]
 }
 
-fn lend_two(call: u8, state: &mut [usize; PIECES], room: usize, more: usize, piece: &[u8]) {
+fn lend_two(
+    stdout: Stdout,
+    call: u8,
+    state: &mut [usize; PIECES],
+    room: usize,
+    more: usize,
+    piece: &[u8],
+) {
     let mut items = space();
     let mut refusals = space();
     if room <= 4096 {
         if more <= 4096 {
             feed(
+                stdout,
                 call,
                 state,
                 piece,
@@ -76,10 +94,10 @@ fn lend_two(call: u8, state: &mut [usize; PIECES], room: usize, more: usize, pie
     }
 }
 
-fn lend_one(call: u8, state: &mut [usize; PIECES], room: usize) {
+fn lend_one(stdout: Stdout, call: u8, state: &mut [usize; PIECES], room: usize) {
     let mut out = space();
     if room <= 4096 {
-        end(call, state, &mut out[..room]);
+        end(stdout, call, state, &mut out[..room]);
     }
 }
 
@@ -95,7 +113,7 @@ fn begun(call: u8) -> [usize; PIECES] {
 }
 
 // A record's numbers, and the call on its piece.
-fn run(state: &mut [usize; PIECES], record: &[u8]) {
+fn run(stdout: Stdout, state: &mut [usize; PIECES], record: &[u8]) {
     let n = record.len();
     if 7 <= n {
         let call = record[0];
@@ -105,10 +123,11 @@ fn run(state: &mut [usize; PIECES], record: &[u8]) {
             return;
         }
         if 32 <= call {
-            lend_one(call, state, room);
+            lend_one(stdout, call, state, room);
             return;
         }
         lend_two(
+            stdout,
             call,
             state,
             room,
@@ -125,9 +144,9 @@ fn record_space() -> [u8; 262144]
     [0; 262144]
 }
 
-fn main() {
+fn main(rt: HostRuntime) {
     let mut records = record_space();
-    let n = io::read_full(STDIN_FILENO, &mut records);
+    let n = recorded::read_full(&mut rt.stdin(), &mut records);
     let mut state = begun(28);
     let mut at = 0;
     while at < n {
@@ -139,7 +158,7 @@ fn main() {
             return;
         }
         let to = at + length;
-        run(&mut state, &records[at..to]);
+        run(rt.stdout(), &mut state, &records[at..to]);
         at = to;
     }
 }

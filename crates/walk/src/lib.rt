@@ -1,5 +1,7 @@
 // The walk: items at all depths, outer before inner, one a step. A step frames and judges the next item and gives the state behind it.
 // One code serves both forms: a Form goes with the stream, and only what reads a unit looks at it.
+#![tactic(auto)]
+
 ghost use Rattle.std.specs.Prelude.{◌≡◌, ◌+◌, ◌-◌, ◌*◌, ◌/◌, ◌%◌, ◌≤◌, length};
 ghost use Rattle.base.specs.Pick.{pick};
 ghost use Rattle.format.specs.Units.{domain};
@@ -16,7 +18,7 @@ use judging::MAX_DEPTH;
 use walk_state::{BinaryStep, Found, Place, Stepped, TextStep, Walk};
 
 // Where a step in lent slots leads, and what it finds.
-#[derive(Drop)]
+#[derive(Clone, Copy)]
 pub struct Moved {
     pub place: Place,
     pub found: Found,

@@ -10,15 +10,14 @@ use Rattle.format.specs.declared.Form.TheVariants.{Text, Binary}
 use Rattle.format.specs.Units.{Domain, domain}
 use Rattle.format.specs.Judging.{max_depth}
 use Rattle.walk_state.specs.declared.Walk.{Walk}
-use Rattle.walk_state.specs.declared.Found.{Found}
 use Rattle.walk_state.specs.declared.Stepped.{Stepped}
 use Rattle.walk_state.specs.Walking.{step_in}
 use Rattle.walk_claims.specs.Words.{units_in, Yields, Stops}
 use Rattle.walk_claims.specs.Claims.{StreamClaims}
-use Rattle.walk_claims.specs.Yielding.{of-form, yields-full}
+use Rattle.walk_claims.proofs.Yielding.{of-form, yields-full}
 use Rattle.walk_tally.specs.declared.Tally.{Tally}
 use Rattle.walk_tally.specs.Counting.{plus, run_in, rest_in}
-use Rattle.walk_tally.specs.Runs.{run-stopped, run-yields, yields_inside}
+use Rattle.walk_tally.proofs.Runs.{run-stopped, run-yields, yields_inside}
 
 few : (form : Form) (xs : List ℕ) → units_in (domain form) xs ≤ length xs
 few Text xs = omega arith

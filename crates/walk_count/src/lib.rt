@@ -1,4 +1,6 @@
 // A walk counted: how many items are left from a state on, and what stops it. One loop serves both forms.
+#![tactic(auto)]
+
 ghost use Rattle.std.specs.Prelude.{◌≡◌};
 ghost use Rattle.format.specs.Units.{domain, text, binary};
 ghost use Rattle.walk_state.specs.Walking.{start};

@@ -1,5 +1,7 @@
 // How far a stream reaches: whether it passes its form's limit, its whole units and what stands behind them; and whether the next item of a
 // state can be looked for in it, which is asked of a state that is known to fit.
+#![tactic(auto)]
+
 ghost use Rattle.std.specs.Prelude.{◌≡◌, ◌≤◌, length};
 ghost use Rattle.format.specs.Judging.{max_depth};
 ghost use Rattle.walk_state.specs.Lent.{walk_at};
@@ -15,7 +17,7 @@ const MAX_CHARACTERS: usize = 4194304;
 const MAX_BYTES: usize = 3145728;
 
 // What a stream's length says: whether it passes the form's limit, its whole units, and whether elements stand behind them.
-#[derive(Drop)]
+#[derive(Clone, Copy)]
 pub struct Extent {
     pub over: bool,
     pub units: usize,

@@ -1,4 +1,6 @@
 // Questions to a state of the walk whose ends are lent: whether it fits a stream, 13, and where its innermost group ends.
+#![tactic(auto)]
+
 ghost use Rattle.std.specs.Prelude.{◌≡◌, ◌<◌, ◌≤◌, length};
 ghost use Rattle.format.specs.Judging.{max_depth};
 ghost use Rattle.walk_state.specs.Walking.{all_below, slot_fits, is_fit, stop_of};

@@ -1,4 +1,6 @@
 // What a step found in a form's own offsets, which the types keep apart. Nothing is decided here.
+#![tactic(auto)]
+
 ghost use Rattle.std.specs.Prelude.{◌≡◌};
 ghost use Rattle.walk_state.specs.Walking.{text_item, binary_item};
 

@@ -1,5 +1,7 @@
 // The walk's state, a value, and what a step of the walk finds. Positions, ends and sizes in the state count units, which both forms
 // share, so that no offset of one form can be taken for the other's.
+#![tactic(auto)]
+
 ghost use Rattle.std.specs.Prelude.{◌≡◌, ◌≤◌, length};
 ghost use Rattle.format.specs.Judging.{max_depth};
 ghost use Rattle.walk_state.specs.Walking.{start};
@@ -11,7 +13,7 @@ use nesting::MAX_DEPTH;
 
 // ends: the ends of the open groups, outermost first, unused slots 0; depth: how many are open; at: the position; first: whether
 // the next item is first in an overrideable group; indexed: whether the innermost open group holds indexed items.
-#[derive(Drop)]
+#[derive(Clone, Copy)]
 pub struct Walk {
     pub ends: [usize; MAX_DEPTH],
     pub depth: usize,
@@ -21,7 +23,7 @@ pub struct Walk {
 }
 
 // The state but the ends, which who has them lends: the first MAX_DEPTH numbers of a slice. So a step copies none of them.
-#[derive(Drop)]
+#[derive(Clone, Copy)]
 pub struct Place {
     pub depth: usize,
     pub at: usize,
@@ -31,7 +33,7 @@ pub struct Place {
 
 // What a step finds. The code is the kind with the header's units, which tell small from large. Offset and size count units or, as
 // the definition says, elements of the stream.
-#[derive(Drop)]
+#[derive(Clone, Copy)]
 pub enum Found {
     Item {
         offset: usize,
@@ -47,14 +49,14 @@ pub enum Found {
     End,
 }
 
-#[derive(Drop)]
+#[derive(Clone, Copy)]
 pub struct Stepped {
     pub next: Walk,
     pub found: Found,
 }
 
 // The same in a text.
-#[derive(Drop)]
+#[derive(Clone, Copy)]
 pub enum TextItem {
     Item {
         offset: TextOffset,
@@ -70,14 +72,14 @@ pub enum TextItem {
     End,
 }
 
-#[derive(Drop)]
+#[derive(Clone, Copy)]
 pub struct TextStep {
     pub next: Walk,
     pub found: TextItem,
 }
 
 // The same in a binary.
-#[derive(Drop)]
+#[derive(Clone, Copy)]
 pub enum BinaryItem {
     Item {
         offset: BinaryOffset,
@@ -93,7 +95,7 @@ pub enum BinaryItem {
     End,
 }
 
-#[derive(Drop)]
+#[derive(Clone, Copy)]
 pub struct BinaryStep {
     pub next: Walk,
     pub found: BinaryItem,

@@ -1,5 +1,2 @@
 pub mod Counting
-pub mod Numbers
 pub mod Claims
-pub mod Runs
-pub mod Proved

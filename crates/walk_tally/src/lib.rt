@@ -1,5 +1,7 @@
 // What a counted walk gives: how many items, and what stopped it, in the stream's elements or in a form's own offsets. Its definition and what
 // is claimed of it stand in specs/; the loop is in walk_count.
+#![tactic(auto)]
+
 ghost use Rattle.std.specs.Prelude.{◌≡◌};
 ghost use Rattle.walk_tally.specs.Counting.{text_end, binary_end};
 
@@ -7,20 +9,20 @@ use format::{BinaryOffset, TextOffset};
 use walk_state::Found;
 
 // last: what the step behind the items finds, which is none.
-#[derive(Drop)]
+#[derive(Clone, Copy)]
 pub struct Tally {
     pub items: usize,
     pub last: Found,
 }
 
 // How a walk over a text ended.
-#[derive(Drop)]
+#[derive(Clone, Copy)]
 pub enum TextEnd {
     End,
     Refused { number: u8, place: TextOffset },
 }
 
-#[derive(Drop)]
+#[derive(Clone, Copy)]
 pub struct TextTally {
     pub items: usize,
     pub end: TextEnd,
@@ -47,13 +49,13 @@ pub fn text_end(last: Found) -> TextEnd
 }
 
 // How a walk over a binary ended.
-#[derive(Drop)]
+#[derive(Clone, Copy)]
 pub enum BinaryEnd {
     End,
     Refused { number: u8, place: BinaryOffset },
 }
 
-#[derive(Drop)]
+#[derive(Clone, Copy)]
 pub struct BinaryTally {
     pub items: usize,
     pub end: BinaryEnd,

@@ -1,4 +1,6 @@
 // A byte as a wider number, which it equals.
+#![tactic(auto)]
+
 ghost use Rattle.std.specs.Prelude.{◌≡◌, ◌<◌};
 
 pub fn wide(x: u8) -> usize

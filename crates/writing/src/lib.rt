@@ -1,6 +1,8 @@
 // Writing a single primitive as text or as binary into a lent buffer: 6, 12, 18, 5 or 19, 16, 3. A refused call writes nothing, exact
 // room suffices, and bytes behind the item stay. What is to be written is planned first, for either form: the item's size and first bytes,
 // or a refusal, whose order `writing_order` knows; room is asked last.
+#![tactic(auto)]
+
 ghost use Rattle.std.specs.Prelude.{◌≡◌, length};
 ghost use Rattle.format.specs.Writing.{named, units_of, write_text, text_item_left, write_binary, binary_item_left};
 ghost use Rattle.writing_code.specs.Names.{as_named};
@@ -10,7 +12,7 @@ use format::{BinaryWritten, Code, TextWritten};
 use writing_code::Named;
 
 // What is written, or a number and a place.
-#[derive(Drop)]
+#[derive(Clone, Copy)]
 pub enum Planned {
     Refused(u8, usize),
     // an item of so many units that a raw value ends
@@ -20,7 +22,7 @@ pub enum Planned {
 }
 
 // The same with the item's first bytes: what stands before the raw value or the text, and then zeros.
-#[derive(Drop)]
+#[derive(Clone, Copy)]
 pub struct Plan {
     pub planned: Planned,
     pub head: [u8; 9],

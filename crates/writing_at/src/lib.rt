@@ -1,5 +1,7 @@
 // A following item: a primitive written behind what stands before a cursor, into the part of the buffer from there on. The length
 // written is the next cursor. A refused call writes nothing.
+#![tactic(auto)]
+
 ghost use Rattle.std.specs.Prelude.{◌≡◌};
 ghost use Rattle.writing_at.specs.Cursor.{write_text_at, text_left_at, write_binary_at, binary_left_at};
 

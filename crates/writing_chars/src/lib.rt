@@ -1,4 +1,6 @@
 // 5 or 19, and 16, of a text that is to be written: its first character outside the alphabet, and an `A` in front.
+#![tactic(auto)]
+
 ghost use Rattle.std.specs.Prelude.{◌≡◌};
 ghost use Rattle.format.specs.Units.{text_sextets};
 ghost use Rattle.format.specs.Texts.{fills};

@@ -1,5 +1,7 @@
 // The code that a caller names, whether tag characters and a raw value or a text fit it, and how large its item is: what 6 and 12
 // ask. A text's characters stand where the raw value does.
+#![tactic(auto)]
+
 ghost use Rattle.std.specs.Prelude.{◌≡◌, ◌<◌};
 ghost use Rattle.format.specs.Alphabet.{sextet_of};
 ghost use Rattle.format.specs.Writing.{named, named_fixed, named_variable, is_named, is_fit, raw_size, units_of};
@@ -8,7 +10,7 @@ ghost use Rattle.writing_code.specs.Names.{as_named};
 use format::{Code, CodeRow, Kind, Opening, TextOffset};
 
 // A code that is a primitive's, or none.
-#[derive(Drop)]
+#[derive(Clone, Copy)]
 pub enum Named {
     Unknown,
     Row(CodeRow),

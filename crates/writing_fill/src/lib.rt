@@ -1,4 +1,6 @@
 // The unit in which a text's fill ends: `A`s, and then the characters that are no whole units. What a text with its fill is, is in specs/.
+#![tactic(auto)]
+
 ghost use Rattle.std.specs.Prelude.{◌≡◌, ◌-◌, ◌%◌, length, replicate};
 ghost use Rattle.std.proofs.Math.Seq.{paste};
 

@@ -1,5 +1,7 @@
 // What stands before the raw value or the text of an item, as its first nine bytes: code, prepad and tag characters, or selector, type
 // and count. Then zeros. Of a code that the lengths do not fit nothing is said.
+#![tactic(auto)]
+
 ghost use Rattle.std.specs.Prelude.{◌≡◌, map, ◌+◌, ◌<◌, ◌≤◌, ◌%◌, eqb, take};
 ghost use Rattle.std.proofs.Math.Seq.{paste};
 ghost use Rattle.base.specs.Pick.{pick};

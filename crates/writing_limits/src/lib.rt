@@ -1,4 +1,6 @@
 // How much a variable code holds, by its header's units: what 12 asks of a raw value's length, and of a text's with its fill.
+#![tactic(auto)]
+
 ghost use Rattle.std.specs.Prelude.{◌≡◌, ◌+◌, ◌≤◌, leb};
 ghost use Rattle.format.specs.Texts.{fill_for};
 ghost use Rattle.format.specs.Writing.{raw_limit, text_limit};

@@ -1,4 +1,6 @@
 // Why nothing is written: the one function that knows the refusals before 3 and their order.
+#![tactic(auto)]
+
 ghost use Rattle.std.specs.Prelude.{◌≡◌};
 ghost use Rattle.writing_code.specs.Names.{as_named};
 ghost use Rattle.writing_refusal.specs.Refusals.{chars_refusal, refusal_of};

@@ -1,5 +1,7 @@
 // A text's item in a buffer of binary: its header, and then its characters with their fill in front. The fill and the first characters
 // make a unit, and the other characters are whole units: there is no buffer between.
+#![tactic(auto)]
+
 ghost use Rattle.std.specs.Prelude.{◌≡◌, ◌++◌, ◌+◌, ◌*◌, ◌/◌, ◌%◌, ◌≤◌, length, take, drop};
 ghost use Rattle.format.specs.Texts.{fill_for, text_count};
 ghost use Rattle.format.specs.Conversion.{to_binary, first_stranger};
@@ -39,7 +41,7 @@ fn put_binary(header: usize, head: [u8; 9], chars: &[u8], out: &mut [u8])
     ensures { length chars.now ≤ 4194304 → length chars.now ≤ first_stranger chars.now → out.new ≡ take (header * 3) head ++ to_binary (filled_text chars.now) ++ drop (header * 3 + 3 * text_count (length chars.now)) out.old }
 {
     let start = header * 3;
-    bytes::copy(&head[..start], out);
+    copying::copy(&head[..start], out);
     put_packed(chars, &mut out[start..]);
 }
 

@@ -1,5 +1,7 @@
 // An item that a raw value ends, put into its buffer: what stands before the raw value, as nine bytes at most, and the raw value. Of
 // primitives and of indexed items alike. Exact room suffices, less is 3 and writes nothing, and bytes behind the item stay.
+#![tactic(auto)]
+
 ghost use Rattle.std.specs.Prelude.{◌≡◌, true, false, ◌++◌, ◌+◌, ◌*◌, ◌≤◌, ◌/◌, ◌%◌, length, take, drop};
 ghost use Rattle.std.proofs.Math.Seq.{paste};
 ghost use Rattle.format.specs.Conversion.{to_text};
@@ -14,8 +16,8 @@ fn put_binary(head: [u8; 9], start: usize, raw: &[u8], out: &mut [u8])
     requires { (start ≤ 9) × (start + length raw.now ≤ length out.old) }
     ensures { out.new ≡ take start head ++ raw.now ++ drop (start + length raw.now) out.old }
 {
-    bytes::copy(&head[..start], out);
-    bytes::copy(raw, &mut out[start..]);
+    copying::copy(&head[..start], out);
+    copying::copy(raw, &mut out[start..]);
 }
 
 // The raw bytes that fill the unit in which the others end.

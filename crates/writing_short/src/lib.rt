@@ -1,4 +1,6 @@
 // 18: a large code for a value that the small one holds.
+#![tactic(auto)]
+
 ghost use Rattle.std.specs.Prelude.{◌≡◌};
 ghost use Rattle.format.specs.Writing.{is_short};
 ghost use Rattle.writing_code.specs.Names.{as_named};

@@ -1,4 +1,6 @@
 // How a value fills its units, by its length: the lead bytes and triplets of a raw value, the `A`s, lead and quadlets of a text.
+#![tactic(auto)]
+
 ghost use Rattle.std.specs.Prelude.{◌≡◌, ◌+◌, ◌*◌, ◌<◌};
 ghost use Rattle.format.specs.Texts.{fill_for, text_lead, text_count};
 ghost use Rattle.format.specs.Writing.{lead_for, count_for};

@@ -1,4 +1,6 @@
 // 5 or 19 of the tag characters that are to be written: the first that is outside the alphabet.
+#![tactic(auto)]
+
 ghost use Rattle.std.specs.Prelude.{◌≡◌, take};
 ghost use Rattle.format.specs.Conversion.{first_stranger};
 ghost use Rattle.writing_refusal.specs.Refusals.{tag_refusal};

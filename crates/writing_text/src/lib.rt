@@ -1,4 +1,6 @@
 // A text's item in a buffer of text: its header, and then its characters with their fill in front.
+#![tactic(auto)]
+
 ghost use Rattle.std.specs.Prelude.{◌≡◌, ◌++◌, ◌+◌, ◌*◌, ◌≤◌, length, take, drop};
 ghost use Rattle.format.specs.Texts.{text_count};
 ghost use Rattle.format.specs.Conversion.{to_text, first_stranger};
@@ -17,8 +19,8 @@ fn put_chars(chars: &[u8], out: &mut [u8])
 {
     let fill = [b'A'; 3];
     let n = writing_sizes::fill_for(chars.len());
-    bytes::copy(&fill[..n], out);
-    bytes::copy(chars, &mut out[n..]);
+    copying::copy(&fill[..n], out);
+    copying::copy(chars, &mut out[n..]);
 }
 
 // ---- behind the header

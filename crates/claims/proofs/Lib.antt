@@ -1,0 +1,10 @@
+pub mod Aligned
+pub mod Numbers
+pub mod Ratio
+pub mod Parts
+pub mod Demand1
+pub mod Room
+pub mod Proved
+pub mod Demand3
+pub mod Demand2
+pub mod Header

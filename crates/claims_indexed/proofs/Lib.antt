@@ -1,0 +1,4 @@
+pub mod Opened
+pub mod Signatures
+pub mod Proved
+pub mod IndexedCalls

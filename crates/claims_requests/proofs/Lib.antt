@@ -1,0 +1,5 @@
+pub mod Short
+pub mod Lookup
+pub mod Text
+pub mod Proved
+pub mod Deeper

@@ -1,9 +1,0 @@
--- The claims hold. Assumes nothing.
-use Rattle.claims_requests.specs.Claims.{Claims}
-use Rattle.claims_requests.specs.Lookup.{lookup-claims}
-use Rattle.claims_requests.specs.Deeper.{deeper-claims}
-use Rattle.claims_requests.specs.Short.{short-form}
-use Rattle.claims_requests.specs.Text.{text-claims}
-
-pub proved : Claims
-proved = record { lookup = lookup-claims; deeper = deeper-claims; short-form = short-form; texts = text-claims }

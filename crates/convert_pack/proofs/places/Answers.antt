@@ -1,0 +1,10 @@
+-- `places` meets its contract. Assumes nothing.
+use Rattle.convert_pack.proofs.Pairs.{known, places-least, places-found}
+use borrow.Author.Rules.{rules}
+use Rattle.convert_pack.proofs.places.Goals as goal
+
+pub overflow_sub-result : goal.overflow_sub-result
+overflow_sub-result c = places-least (known c.args.q (search rules) c.requires) c.wide.ensures.0 c.wide-2.ensures.0 c.wide-3.ensures.0 c.wide-4.ensures.0
+
+pub returns : goal.returns
+returns c = places-found (known c.args.q (search rules) c.requires) c.wide.ensures.0 c.wide-2.ensures.0 c.wide-3.ensures.0 c.wide-4.ensures.0

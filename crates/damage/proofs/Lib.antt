@@ -1,0 +1,4 @@
+pub mod Choose
+pub mod Cuts
+pub mod Counts
+pub mod Damage

@@ -1,0 +1,6 @@
+pub mod Own
+pub mod Sections
+pub mod Malformed
+pub mod Proved
+pub mod Answers
+pub mod Passed

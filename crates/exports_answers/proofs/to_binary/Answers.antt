@@ -1,0 +1,15 @@
+-- `exports_answers::to_binary` meets its contract. Assumes nothing.
+use Rattle.format.specs.Conversion.{to_binary_number, to_binary_value}
+use Rattle.exports_answers.proofs.to_binary.Goals as goal
+
+pub returns-in-Written : goal.returns-in-Written
+unfolding to_binary_number to_binary_value
+returns-in-Written c =
+    let g = c.in-Written.is in
+    record { value = rw g; answer_after = rw g }
+
+pub returns-in-Refused : goal.returns-in-Refused
+unfolding to_binary_number to_binary_value
+returns-in-Refused c =
+    let g = c.in-Refused.is in
+    record { value = rw g; answer_after = rw g }

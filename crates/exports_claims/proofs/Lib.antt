@@ -1,0 +1,5 @@
+pub mod Told
+pub mod Numbers
+pub mod Lent
+pub mod Proved
+pub mod Comparison

@@ -1,0 +1,39 @@
+-- `indexed_raw::raw_indexed_binary` meets its contract: the part lies in the stream. Assumes nothing.
+use mathlib.Core.Path.{◌≡◌, ap, sym, ◌∙◌}
+use Prim.Native.Nat.{ℕ, ◌+◌, ◌-◌}
+use native.Mathlib.Nat.{zero-add}
+use native.Mathlib.Omega.{arith}
+use Rattle.format.specs.Indexed.{indexed_part}
+use Rattle.indexed_raw.specs.Part.{part_start}
+use Rattle.indexed_binary.proofs.Answers.{found_inside}
+use Rattle.indexed_raw.proofs.raw_indexed_binary.Goals as goal
+
+pub overflow_add-start : goal.overflow_add-start
+overflow_add-start c =
+    let a = c.args in
+    omega (arith, found_inside a.s.now a.at.0 _ (sym c.read_indexed_binary-read.ensures ∙ c.in-Found.is))
+
+pub overflow_add-end : goal.overflow_add-end
+overflow_add-end c =
+    let a = c.args in
+    omega (arith, found_inside a.s.now a.at.0 _ (sym c.read_indexed_binary-read.ensures ∙ c.in-Found.is))
+
+pub slice_bounds-result-end-in-Found : goal.slice_bounds-result-end-in-Found
+slice_bounds-result-end-in-Found c =
+    let a = c.args in
+    omega (arith, found_inside a.s.now a.at.0 _ (sym c.read_indexed_binary-read.ensures ∙ c.in-Found.is))
+
+pub returns-in-Refused : goal.returns-in-Refused
+unfolding indexed_part part_start
+returns-in-Refused c =
+    let e = sym c.read_indexed_binary-read.ensures ∙ c.in-Refused.is in
+    record { result_value = rw e; ref_ptr_value = rw e (ap (λ (n : ℕ). (c.args.s.ref_ptr.0, n)) (sym (zero-add _))) }
+
+pub returns-in-Found : goal.returns-in-Found
+unfolding indexed_part part_start
+returns-in-Found c =
+    let a = c.args in
+    let p = c.in-Found.p in
+    let z : a.at.0 + p.start.0 + p.raw - (a.at.0 + p.start.0) ≡ p.raw = omega arith in
+    let e = sym c.read_indexed_binary-read.ensures ∙ c.in-Found.is in
+    record { result_value = rw (z, e); ref_ptr_value = rw e }

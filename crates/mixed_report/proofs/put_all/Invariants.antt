@@ -1,0 +1,10 @@
+use Prim.Native.Nat.{◌-◌}
+use lib.ListN.{length}
+use Rattle.mixed_report.proofs.Laws.{Reached}
+use Rattle.mixed_report.proofs.put_all.Given as goal
+
+abbrev pub invariant-loop-at : goal.invariant-loop-at
+invariant-loop-at l = Reached l.values l.classes l.rows l.s l.known l.n l.initial.out l.out l.to l.at l.i l.k
+
+abbrev pub decreases-loop-at : goal.decreases-loop-at
+decreases-loop-at l = length l.s - l.at

@@ -1,0 +1,10 @@
+pub mod Reports
+pub mod Judged
+pub mod Calls
+pub mod Marks
+pub mod IndexedReads
+pub mod Exact
+pub mod Proved
+pub mod Places
+pub mod Framed
+pub mod Walks

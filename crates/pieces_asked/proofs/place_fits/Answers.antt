@@ -1,0 +1,9 @@
+-- `pieces_asked::place_fits` meets its contract. Assumes nothing.
+use borrow.Author.Tests.{lt-ltb, le-ltb}
+use Rattle.pieces_asked.proofs.place_fits.Goals as goal
+
+pub returns-then-k-count : goal.returns-then-k-count
+returns-then-k-count c = rw (lt-ltb _ _ c.if-k-count.true)
+
+pub returns-else-k-count : goal.returns-else-k-count
+returns-else-k-count c = rw (le-ltb _ _ c.if-k-count.false)

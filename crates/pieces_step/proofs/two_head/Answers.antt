@@ -1,0 +1,7 @@
+-- `pieces_step::two_head` meets its contract. Assumes nothing.
+use Rattle.pieces_step.proofs.Laws.{two-head}
+use borrow.Author.Rules.{rules}
+use Rattle.pieces_step.proofs.two_head.Goals as goal
+
+pub returns : goal.returns
+returns c = (two-head c.args.a c.args.q (search rules) (search rules), search rules)

@@ -1,0 +1,8 @@
+-- `pieces_units::left` meets its contract. Assumes nothing.
+use Rattle.pieces_units.proofs.left.Goals as goal
+
+pub returns-in-Text : goal.returns-in-Text
+returns-in-Text c = rw c.in-Text.is
+
+pub returns-in-Binary : goal.returns-in-Binary
+returns-in-Binary c = rw c.in-Binary.is

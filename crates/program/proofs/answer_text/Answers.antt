@@ -1,0 +1,27 @@
+use native.Mathlib.Omega.{arith}
+use Rattle.format.specs.Units.{text}
+use Rattle.laws.specs.Domains.{text-reader}
+use Rattle.claims.proofs.Demand3.{text-demand3}
+use Rattle.program.proofs.Laws.{prints, never, prints-none, prints-one}
+use borrow.Author.Rules.{rules}
+use Rattle.program.proofs.answer_text.Goals as goal
+
+pub returns-then-out-lt-ROOM : goal.returns-then-out-lt-ROOM
+returns-then-out-lt-ROOM c =
+    let told = prints-none text c.args.s.now c.args.out.now (search rules) in
+    record { value = told.0; out_after = told.1.0; prefix_len = told.1.1 }
+
+pub returns-then-s-gt-LONGEST : goal.returns-then-s-gt-LONGEST
+returns-then-s-gt-LONGEST c =
+    let told = prints-one text text-reader c.args.s.now c.args.out.now (search rules) (search rules) in
+    record { value = told.0; out_after = told.1.0; prefix_len = told.1.1 }
+
+pub returns-in-Written : goal.returns-in-Written
+returns-in-Written c =
+    let told = prints text text-reader text-demand3 (omega arith) (omega arith) c.args.s.now c.args.out.now (search rules) (search rules) _ c.report_text.ensures.value _ c.report_text.ensures.out_after _ c.in-Written.is in
+    record { value = told.0; out_after = told.1.0; prefix_len = told.1.1 }
+
+pub returns-in-Refused : goal.returns-in-Refused
+returns-in-Refused c =
+    let z = never text text-reader text-demand3 (omega arith) (omega arith) c.args.s.now c.args.out.now (search rules) (search rules) _ c.report_text.ensures.value _ _ c.in-Refused.is in
+    absurd (omega arith)

@@ -1,0 +1,7 @@
+use mathlib.Core.Path.{refl}
+use Rattle.format.specs.Reading.{no_tag}
+use Rattle.reading_text.proofs.no_text.Goals as goal
+
+pub returns : goal.returns
+unfolding no_tag
+returns c = refl

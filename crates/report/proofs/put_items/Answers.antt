@@ -1,0 +1,8 @@
+use Rattle.report.proofs.Laws.{begun, ended}
+use Rattle.report.proofs.put_items.Goals as goal
+
+pub put_all-requires : goal.put_all-requires
+put_all-requires c = search begun
+
+pub returns : goal.returns
+returns c = search ended

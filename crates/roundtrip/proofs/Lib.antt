@@ -1,0 +1,5 @@
+pub mod Sextets
+pub mod Parts
+pub mod Calls
+pub mod Proved
+pub mod Spelling

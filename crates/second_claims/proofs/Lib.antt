@@ -1,0 +1,2 @@
+pub mod ByText
+pub mod Proved

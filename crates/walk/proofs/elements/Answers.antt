@@ -1,0 +1,8 @@
+-- `walk::elements` meets its contract. Assumes nothing.
+use Rattle.walk.proofs.elements.Goals as goal
+
+pub returns-in-Text : goal.returns-in-Text
+returns-in-Text c = rw c.in-Text.is
+
+pub returns-in-Binary : goal.returns-in-Binary
+returns-in-Binary c = rw c.in-Binary.is

@@ -1,0 +1,16 @@
+pub mod Behind
+pub mod Firsts
+pub mod Fitting
+pub mod Forms
+pub mod Innermost
+pub mod Keeps
+pub mod Numbers
+pub mod Orders
+pub mod Outer
+pub mod Proved
+pub mod Reported
+pub mod Rest
+pub mod Runs
+pub mod Steps
+pub mod Streams
+pub mod Yielding

@@ -1,0 +1,11 @@
+use Rattle.writing_at.proofs.Cursors.{text-fits, text-behind, text-at-refused, text-at-written}
+use Rattle.writing_at.proofs.write_text_at.Goals as goal
+
+pub overflow_add-result : goal.overflow_add-result
+overflow_add-result c = search text-fits
+
+pub returns-in-Refused : goal.returns-in-Refused
+returns-in-Refused c = record { value = search text-at-refused; out_after = search text-behind }
+
+pub returns-in-Written : goal.returns-in-Written
+returns-in-Written c = record { value = search text-at-written; out_after = search text-behind }
