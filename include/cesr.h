@@ -1,4 +1,4 @@
-/* CESR streams, judged: the calls of the proved library (crates/exports), and readers of its report and words beside it (c/), which decide
+/* CESR streams, judged: the calls of the proved library (crates/exports_c), and readers of its report and words beside it (c/), which decide
  * nothing.
  *
  * Terms. T is text, in characters of URL-safe Base64; B is binary, in bytes. A unit is 4 characters in T, 3 bytes in B. Every proved call

@@ -9,34 +9,45 @@ rust=$(realpath "${1:-$top/rust}")
 mkdir -p "${2:-$top/target/fuzz}"
 out=$(realpath "${2:-$top/target/fuzz}")
 module=$top/target/fuzz/module.bc
+mkdir -p "$top/target/fuzz"
 archive=$top/target/staticlib/libexports.a
-home=${RATTLE_HOME:-$(dirname "$(dirname "$(readlink -f "$(command -v rt)")")")}
-machine=$(uname -m)
-tools=$home/on/$machine/toolchain/bin
+home=$(dirname "$(dirname "$(readlink -f "$(command -v rt)")")")
+tools=$home/toolchain/bin
 
-# The proved library's LLVM module: rt builds the archive with a clang that keeps a copy of what it is given.
+# The proved library's LLVM module, and how it is compiled: rt builds the archive with a clang that keeps a copy of what it is given. rt goes by
+# where it lies, so it is copied; the rest of the kit is links, which rt would refuse in the project.
 keep_module() {
-  local kit=$top/target/fuzz/kit
-  rm -rf "$kit" "$module"
-  mkdir -p "$kit/on/$machine/toolchain/bin"
-  # Links to all of the kit, but for the folders just made and the clang in the last.
-  for folder in . "on/$machine" "on/$machine/toolchain" "on/$machine/toolchain/bin"; do
+  local place
+  "$top/tools/library" | tail -n 1
+  place=$(mktemp -d)
+  mkdir -p "$place/kit/bin" "$place/kit/toolchain/bin"
+  cp "$home/bin/rt" "$home/bin/rtlib.py" "$place/kit/bin"
+  rm -f "$module" "$module.words"
+  printf '#!/bin/sh\nfor word; do case $word in *.bc) cp "$word" %q && printf "%%s\\n" "$@" > %q ;; esac; done\nexec %q "$@"\n' \
+    "$module" "$module.words" "$tools/clang" >"$place/kit/toolchain/bin/clang"
+  chmod +x "$place/kit/toolchain/bin/clang"
+  for folder in . bin toolchain toolchain/bin; do
     for entry in "$home/$folder"/*; do
-      [ -e "$kit/$folder/${entry##*/}" ] || ln -s "$entry" "$kit/$folder/"
+      [ -e "$place/kit/$folder/${entry##*/}" ] || ln -s "$entry" "$place/kit/$folder/"
     done
   done
-  rm "$kit/on/$machine/toolchain/bin/clang"
-  printf '#!/bin/sh\nfor word; do case $word in *.bc) cp "$word" %q ;; esac; done\nexec %q "$@"\n' "$module" "$tools/clang" \
-    >"$kit/on/$machine/toolchain/bin/clang"
-  chmod +x "$kit/on/$machine/toolchain/bin/clang"
-  (cd "$top" && RATTLE_HOME=$kit rt staticlib exports | tail -n 1)
+  (cd "$top/crates/exports_c" && "$place/kit/bin/rt" lib | tail -n 1)
+  rm -rf "$place"
   touch "$module"
 }
 
 # The same module, compiled as the archive is, with coverage counters.
 instrument() {
-  "$tools/clang" --target=x86_64-unknown-linux-gnu -march=x86-64 -ffunction-sections -fdata-sections \
-    -mllvm -trap-unreachable -mllvm -no-trap-after-noreturn -O3 -fPIC -fsanitize=fuzzer-no-link -c -x ir "$module" -o "$out/proved.o"
+  local words=() word
+  while IFS= read -r word; do
+    case $word in
+    *.bc) words+=("$module") ;;
+    *.o) words+=("$out/proved.o") ;;
+    --sysroot=*) ;;
+    *) words+=("$word") ;;
+    esac
+  done <"$module.words"
+  "$tools/clang" "${words[@]}" -fsanitize=fuzzer-no-link
 }
 
 # The Rust side as an archive; `counted` has counters in the oracle and nowhere else. The wrapper is called with rustc and its words.
@@ -57,8 +68,8 @@ END
 printf '#!/bin/sh\nexec "$@"\n' >"$out/plain-rustc"
 chmod +x "$out/counted-rustc" "$out/plain-rustc"
 
-if [ ! -f "$module" ] || [ ! -f "$archive" ] || [ "$archive" -nt "$module" ] ||
-  [ -n "$(find "$top/crates" -newer "$module" -print -quit)" ]; then
+if [ ! -f "$module.words" ] || [ ! -f "$archive" ] || [ "$archive" -nt "$module" ] ||
+  [ -n "$(cd "$top" && find crates -type d -path 'crates/*/out' -prune -o -newer "$module" ! \( -type d -path 'crates/*' ! -path 'crates/*/*' \) -print -quit)" ]; then
   keep_module
 fi
 instrument

@@ -7,7 +7,9 @@ seconds=${1:-300}
 top=$(cd "$(dirname "${BASH_SOURCE[0]}")/../.." && pwd)
 cd "$top"
 (cd rust && cargo build --offline --quiet --release -j "${JOBS:-1}" -p fuzz)
-work=$top/target/fuzz/faults
+# Outside of the project, where rt refuses links.
+work=$(mktemp -d)
+trap 'rm -rf "$work"' EXIT
 mkdir -p "$work/target"
 ln -sfn "$top/target/staticlib" "$work/target/staticlib"
 ln -sfn "$top/crates.txt" "$work/crates.txt"

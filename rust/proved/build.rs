@@ -1,6 +1,6 @@
 //! Links the proved library. Where the project or a release stands around this
-//! crate it is theirs: `proof/` has it in a release, and `rt staticlib exports`
-//! writes it in the project. Elsewhere it is the installed one: in the folder
+//! crate it is theirs: `proof/` has it in a release, and `tools/library` writes
+//! it in the project. Elsewhere it is the installed one: in the folder
 //! that `CESR_LIB_DIR` names, or where pkg-config finds `cesr`.
 
 use std::env;
@@ -36,7 +36,7 @@ fn around(top: &Path) -> PathBuf {
     if !built.join("libexports.a").exists() {
         fail(
             "The proved library is missing: target/staticlib/libexports.a.\n\
-             Run `rt staticlib exports` at the repository's top first.",
+             Run `tools/library` at the repository's top first.",
         );
     }
     built

@@ -4,7 +4,7 @@
 set -euo pipefail
 cd "$(dirname "${BASH_SOURCE[0]}")/../.."
 if [ ! -f target/staticlib/libexports.a ]; then
-  rt staticlib exports
+  tools/library
 fi
 mkdir -p target/c
 build() { # NAME FLAGS...

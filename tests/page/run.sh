@@ -11,7 +11,7 @@ if [ -z "${browser:-}" ]; then
   exit 0
 fi
 if [ ! -f target/staticlib/libexports.a ]; then
-  rt staticlib exports
+  tools/library
 fi
 (cd rust && cargo build --offline --quiet --release -p command)
 exec python3 -B tests/page/look.py "$browser" rust/target/release/cesr target/page

@@ -2,7 +2,7 @@
 //! the tables: `cargo run --release --offline -p bench`. Words behind it choose the
 //! tables with all of them in their title: `-- Mixed '3 MiB'`.
 //!
-//! The library is the archive that `rt staticlib exports` writes.
+//! The library is the archive that `tools/library` writes.
 
 mod conversion;
 mod engines;

@@ -39,8 +39,8 @@
 //!
 //! The library keeps nothing between calls and allocates nothing; all calls
 //! may be made from many threads at once. Where it is found, the crate `proved`
-//! says: in the project it is built by `rt staticlib exports`, a release has
-//! it, and outside of both it is the one that is installed.
+//! says: in the project it is built by `tools/library`, a release has it, and
+//! outside of both it is the one that is installed.
 //!
 //! ```
 //! use cesr::{judge, Form, Number};

@@ -14,10 +14,10 @@ use std::thread;
 /// system's.
 fn prepared(programs: &[(&str, &str)]) -> Folder {
     let folder = Folder::new();
-    for made in ["bin", "crates", "tools"] {
-        fs::create_dir(folder.path().join(made)).expect("a folder");
+    for made in ["bin", "crates/exports_c", "tools"] {
+        fs::create_dir_all(folder.path().join(made)).expect("a folder");
     }
-    for name in ["cesr", "tools/scratch"] {
+    for name in ["cesr", "tools/library"] {
         let script = fs::read(top().join(name)).expect("the script");
         let path = folder.file(name, &script);
         fs::set_permissions(path, Permissions::from_mode(0o755)).expect("a program");
@@ -43,10 +43,11 @@ fn call(folder: &Folder) -> Ran {
     called(folder, &folder.path().join("cesr"))
 }
 
-/// Both would read all of standard input.
+/// Both would read all of standard input. The prover is called in the folder of
+/// the library's last crate.
 const PROVER: &str = "#!/bin/sh
 cat > /dev/null
-mkdir -p target/staticlib && touch target/staticlib/libexports.a && echo rt: proved \"$1\"
+mkdir -p out && touch out/libexports_c.a && echo rt: proved \"$1\"
 ";
 const BUILDER: &str = "#!/bin/sh
 cat > /dev/null
@@ -60,7 +61,7 @@ fn the_first_command_fails_where_nothing_can_be_built() {
     let fails = "#!/bin/sh\nexit 1\n";
     for (programs, said) in [
         (&[][..], "cesr: rt is not installed: the library could not"),
-        (&[("rt", fails)], "the library could not be built; run rt"),
+        (&[("rt", fails)], "the library could not be built; tools"),
         (&[("rt", "#!/bin/sh\necho rt: done\n")], "is missing"),
         (
             &[("rt", PROVER), ("cargo", fails)],
@@ -80,7 +81,7 @@ fn a_stream_reaches_the_command_on_first_use() {
     let folder = prepared(&[("rt", PROVER), ("cargo", BUILDER)]);
     let ran = call(&folder);
     assert_eq!((ran.status, ran.text().as_str()), (0, "MAAB"));
-    let said = "\nrt: proved check\nrt: proved staticlib\n";
+    let said = "\nrt: proved all\nrt: proved lib\n";
     assert!(ran.err.ends_with(said), "{}", ran.err);
     let ran = call(&folder);
     assert_eq!((ran.text().as_str(), ran.err.as_str()), ("MAAB", ""));
@@ -88,16 +89,31 @@ fn a_stream_reaches_the_command_on_first_use() {
 
 /// A prover that takes its time over the last of three crates.
 const STEPS: &str = "#!/bin/sh
-mkdir -p target/staticlib && touch target/staticlib/libexports.a
+mkdir -p out && touch out/libexports_c.a
 case $1 in
-check) echo 'rt: base proved (1 s)'; echo 'logic=proved'; echo 'rt: report proved (unchanged since it was last proved)' ;;
-*) echo 'rt: base proved (unchanged since it was last proved)'; sleep \"${PAUSE:-0}\"; echo 'rt: target/staticlib/libexports.a has the functions' ;;
+all) echo '== base'; echo 'logic=proved'; echo '== report'; echo 'rt: report: begins with what a check kept elsewhere'
+  sleep \"${PAUSE:-0}\"; echo '== exports_c'; echo '== summary'; echo 'base: ok' ;;
+*) echo 'rt: chose --jobs 2 for exports_c'; echo 'logic=proved' ;;
 esac
 ";
 
 /// Three crates, and one that the library does not rest on.
 const THREE: &[u8] =
-    b"# The crates\nbase:\nreport: base\nother: base\n\nexports: base report bytes\n";
+    b"# The crates\nbase:\nreport: base\nother: base\n\nexports_c staticlib: base report bytes\n";
+
+/// A crate that is refused is named.
+#[test]
+fn a_crate_that_is_refused_is_named() {
+    let prover = "#!/bin/sh
+echo '== base'; echo '== report'; echo '== summary'
+echo 'base: ok'; echo 'report: failed (1)'; echo 'exports_c: not run, since report failed'; exit 1
+";
+    let folder = prepared(&[("rt", prover), ("cargo", BUILDER)]);
+    let ran = call(&folder);
+    assert_eq!((ran.status, ran.text()), (2, String::new()));
+    let said = "\nreport: failed (1)\nexports_c: not run, since report failed\n";
+    assert!(ran.err.contains(said), "{}", ran.err);
+}
 
 /// While it proves it says how many crates of how many are proved, each once,
 /// and for how long it has been at it.
@@ -154,10 +170,10 @@ print(child.wait(), len(lines), sorted(set(told)), len(times) > 1)
 #[test]
 fn the_library_is_built_once() {
     let prover = "#!/bin/sh
-mkdir target/proving || exit 1
+mkdir ../../target/proving || exit 1
 sleep 0.3
-mkdir -p target/staticlib && touch target/staticlib/libexports.a && echo rt: proved
-rmdir target/proving
+mkdir -p out && touch out/libexports_c.a && echo rt: proved
+rmdir ../../target/proving
 ";
     let folder = prepared(&[("rt", prover), ("cargo", BUILDER)]);
     let calls: Vec<Ran> = thread::scope(|scope| {
@@ -178,15 +194,16 @@ rmdir target/proving
 #[test]
 fn a_source_that_changes_meanwhile_is_built_too() {
     let prover = "#!/bin/sh
-mkdir -p target/staticlib && ls crates > target/staticlib/libexports.a && echo rt: proved
-test \"$1\" = check || test -e crates/late || { sleep 0.05; touch crates/late; }
+mkdir -p out && ls .. > out/libexports_c.a && echo rt: proved
+test \"$1\" = all || test -e ../late || { sleep 0.05; touch ../late; }
 ";
     let folder = prepared(&[("rt", prover), ("cargo", BUILDER)]);
     let ran = call(&folder);
     assert_eq!((ran.status, ran.text().as_str()), (0, "MAAB"));
     assert!(ran.err.contains("once more"), "{}", ran.err);
     let archive = folder.path().join("target/staticlib/libexports.a");
-    assert_eq!(fs::read(archive).expect("the library"), b"late\n");
+    let built = fs::read(archive).expect("the library");
+    assert_eq!(built, b"exports_c\nlate\n");
     assert_eq!(call(&folder).err, "");
     // Changed after that it is built again.
     let late = fs::File::options()
@@ -201,8 +218,8 @@ test \"$1\" = check || test -e crates/late || { sleep 0.05; touch crates/late; }
 #[test]
 fn sources_that_always_change_are_an_error() {
     let prover = "#!/bin/sh
-mkdir -p target/staticlib && touch target/staticlib/libexports.a && echo rt: proved
-sleep 0.05; touch crates/late
+mkdir -p out && touch out/libexports_c.a && echo rt: proved
+sleep 0.05; touch ../late
 ";
     let ran = call(&prepared(&[("rt", prover), ("cargo", BUILDER)]));
     assert_eq!((ran.status, ran.text()), (2, String::new()));

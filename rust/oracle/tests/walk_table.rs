@@ -108,16 +108,16 @@ fn terms<'a>(words: &mut impl Iterator<Item = &'a str>) -> Vec<Term> {
 /// What stands before the letter of an indexed code.
 fn selector_of(sort: &str) -> &str {
     match sort {
-        "letterIndexed" => "",
-        "zeroIndexed" => "0",
-        "twoIndexed" => "2",
-        "threeIndexed" => "3",
+        "letter_indexed" => "",
+        "zero_indexed" => "0",
+        "two_indexed" => "2",
+        "three_indexed" => "3",
         other => panic!("no sort of indexed codes: {other}"),
     }
 }
 
 /// A code as the table tells it: `Group 3`, `Genus`, `Fixed ROW`, `Variable
-/// LETTER LEAD COUNT`, `Indexed (twoIndexed LETTER CURRENT)`, of an item of so
+/// LETTER LEAD COUNT`, `Indexed (two_indexed LETTER CURRENT)`, of an item of so
 /// many units.
 fn is_told(kind: &Term, head: usize, units: usize, code: Code) -> bool {
     let letter = |l: usize| b'A' + u8::try_from(l).expect("a letter");

@@ -2,7 +2,8 @@
 //! standard output, or the single byte 01 for a longer stream; and on standard
 //! error what they could not do.
 //!
-//! They are built by `rt check program_text program_binary program_mixed`; then:
+//! `rt ci` builds them, and so does `rt run < /dev/null` in the folder of each,
+//! `crates/program_text`, `program_binary` and `program_mixed`; then:
 //! `cargo test --release --test programs -- --ignored`
 
 use oracle::report::write_report;
@@ -28,8 +29,8 @@ fn program(kind: Kind) -> Command {
         Kind::Of(Form::Binary) => "program_binary",
         Kind::Mixed => "program_mixed",
     };
-    let folder = Path::new(env!("CARGO_MANIFEST_DIR")).join("../../target/bin");
-    Command::new(folder.join(name))
+    let crates = Path::new(env!("CARGO_MANIFEST_DIR")).join("../../crates");
+    Command::new(crates.join(name).join("out").join(name))
 }
 
 /// What the program writes for a stream.
@@ -38,7 +39,7 @@ fn judged(kind: Kind, stream: &[u8]) -> Vec<u8> {
         .stdin(Stdio::piped())
         .stdout(Stdio::piped())
         .spawn()
-        .expect("the program, built by rt check");
+        .expect("the program, built by rt");
     let mut input = child.stdin.take().unwrap();
     // It may end before it has read a stream that is too long.
     let _ = input.write_all(stream);
@@ -63,7 +64,7 @@ fn told(kind: Kind, stream: &[u8]) -> Vec<u8> {
 const LENGTHS: [usize; 11] = [0, 1, 4, 8188, 8189, 8190, 8191, 8192, 8193, 8196, 20_000];
 
 #[test]
-#[ignore = "needs the programs in target/bin"]
+#[ignore = "needs the programs in crates/program_*/out"]
 fn lengths_around_8192() {
     let mut random = Random::new(0x8192);
     for maker in [decks::digests, decks::nests, decks::all_codes, units] {
@@ -86,7 +87,7 @@ fn around_the_limit(kind: Kind, made: &[u8]) {
 /// Events with signatures in either form, groups in both, and empty groups in
 /// binary: the most rows a mixed report can have.
 #[test]
-#[ignore = "needs the programs in target/bin"]
+#[ignore = "needs the programs in crates/program_*/out"]
 fn mixed_streams_around_8192() {
     let mut random = Random::new(0x8193);
     for form in FORMS {
@@ -101,14 +102,14 @@ fn mixed_streams_around_8192() {
 
 fn ended(mut program: Command) -> Output {
     let program = program.stderr(Stdio::piped());
-    let child = program.spawn().expect("the program, built by rt check");
+    let child = program.spawn().expect("the program, built by rt");
     child.wait_with_output().expect("an end")
 }
 
 /// A folder can't be read, a full device takes nothing. The exit status is 0
-/// all the same: the language has no other.
+/// all the same.
 #[test]
-#[ignore = "needs the programs in target/bin"]
+#[ignore = "needs the programs in crates/program_*/out"]
 fn what_could_not_be_done_is_said() {
     for kind in KINDS {
         let mut unread = program(kind);
