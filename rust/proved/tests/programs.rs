@@ -106,8 +106,7 @@ fn ended(mut program: Command) -> Output {
     child.wait_with_output().expect("an end")
 }
 
-/// A folder can't be read, a full device takes nothing. The exit status is 0
-/// all the same.
+/// A folder can't be read, a full device takes nothing.
 #[test]
 #[ignore = "needs the programs in crates/program_*/out"]
 fn what_could_not_be_done_is_said() {
@@ -116,16 +115,36 @@ fn what_could_not_be_done_is_said() {
         unread
             .stdout(Stdio::piped())
             .stdin(File::open("/").expect("a folder"));
-        let Output { stdout, stderr, .. } = ended(unread);
+        let told = ended(unread);
         let said = "cesr: standard input could not be read: nothing was judged\n";
-        assert_eq!((stdout, stderr), (vec![], said.as_bytes().to_vec()));
+        assert_eq!((told.status.code(), told.stdout), (Some(1), vec![]));
+        assert_eq!(told.stderr, said.as_bytes());
         let mut unwritten = program(kind);
         let full = File::options().write(true).open("/dev/full");
         unwritten
             .stdin(Stdio::null())
             .stdout(full.expect("a device"));
-        let said = "cesr: standard output could not be written: the report is not whole\n";
-        assert_eq!(ended(unwritten).stderr, said.as_bytes());
+        unwritten_is_said(ended(unwritten));
+    }
+}
+
+fn unwritten_is_said(told: Output) {
+    let said = "cesr: standard output could not be written: the report is not whole\n";
+    assert_eq!((told.status.code(), told.stderr), (Some(1), said.into()));
+}
+
+/// The pipe is closed before the program has read its input to the end.
+#[test]
+#[ignore = "needs the programs in crates/program_*/out"]
+fn a_pipe_that_nobody_reads_is_said() {
+    for kind in KINDS {
+        let mut program = program(kind);
+        let program = program.stdin(Stdio::piped()).stdout(Stdio::piped());
+        let child = program.stderr(Stdio::piped()).spawn();
+        let mut child = child.expect("the program, built by rt");
+        drop(child.stdout.take());
+        drop(child.stdin.take());
+        unwritten_is_said(child.wait_with_output().expect("an end"));
     }
 }
 
