@@ -52,7 +52,7 @@ pub fn value(values: &[u8; 256], c: u8) -> u8
     ensures value { result ≡ get_or values.now c 0 }
     ensures value_2 { values.now ≡ sextet_table → result ≡ sextet_of c }
 {
-    values[c as usize]
+    values[usize::from(c)]
 }
 
 // The value of one character, or its mark.
@@ -69,7 +69,7 @@ pub fn character(v: u8) -> u8
 {
     if v < 64 {
         let chars = characters();
-        chars[v as usize]
+        chars[usize::from(v)]
     } else {
         0
     }

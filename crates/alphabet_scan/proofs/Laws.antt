@@ -1,5 +1,5 @@
 -- The distances of the scan: 0 exactly for a character of the alphabet, by a test of every byte. Assumes nothing.
-use Rattle.std.proofs.Common.{◌≡◌, ℕ, ◌+◌, ◌-◌, ◌%◌, ◌<◌, min, Bool, true, false, T, eqb, ltb, refl, arith}
+use Rattle.std.proofs.Common.{◌≡◌, ℕ, ◌+◌, ◌-◌, ◌%◌, ◌<◌, min, Bool, true, false, T, eqb, ltb, refl}
 use lib.Bits.{bit_and, bit_xor}
 use Rattle.base.specs.Below.{below}
 use Rattle.format.specs.Alphabet.{sextet_of}
@@ -22,14 +22,6 @@ distance c = min (min ((bit_and c 223 + 191) % 256 - 25) ((c + 208) % 256 - 9)) 
 is_right : ℕ → Bool
 is_right c = same (eqb (distance c) 0) (ltb (sextet_of c) 64)
 
-distance-right : (c : ℕ) → c < 256 → eqb (distance c) 0 ≡ ltb (sextet_of c) 64
+pub distance-right : (c : ℕ) → c < 256 → eqb (distance c) 0 ≡ ltb (sextet_of c) 64
 unfolding is_right sextet_of
 distance-right c h = same-eq (eqb (distance c) 0) (ltb (sextet_of c) 64) (below is_right 256 tt c h)
-
--- what the code computes: w and v are the wrapped differences to `A` and `0`
-pub scanned : (c w v r : ℕ) → c < 256 → w < 256 → v < 256 → (w + 65) % 256 ≡ bit_and c 223 → (v + 48) % 256 ≡ c
-    → r ≡ min (min (w - 25) (v - 9)) (min (bit_xor c 45) (bit_xor c 95)) → eqb r 0 ≡ ltb (sextet_of c) 64
-scanned c w v r hc hw hv letter digit e =
-    let ew : w ≡ (bit_and c 223 + 191) % 256 = omega arith in
-    let ev : v ≡ (c + 208) % 256 = omega arith in
-    rw (e, ew, ev) (distance-right c hc)

@@ -10,11 +10,8 @@ fn strangers(s: &[u8], at: usize) -> u8
     ensures { eqb result 0 ≡ leb 64 (first_stranger (drop at s.now)) }
 {
     let mut bad: u8 = 0;
-    let mut j: usize = 0;
-    while j < 64 {
-        let x = alphabet_scan::stranger(s[at + j]);
-        bad = bad | x;
-        j = j + 1;
+    for j in 0..64 {
+        bad |= alphabet_scan::stranger(s[at + j]);
     }
     bad
 }
@@ -25,14 +22,12 @@ fn stranger_from(s: &[u8], from: usize) -> usize
     ensures { result ≡ from + first_stranger (drop from s.now) }
 {
     let values = alphabet::sextets();
-    let mut i = from;
-    while i < s.len() {
+    for i in from..s.len() {
         if 63 < alphabet::value(&values, s[i]) {
             return i;
         }
-        i = i + 1;
     }
-    i
+    s.len()
 }
 
 // The same from the start: whole blocks while they are clean, then character by character.
@@ -47,7 +42,7 @@ pub fn first_stranger(s: &[u8]) -> usize
         if strangers(s, i) != 0 {
             break;
         }
-        i = i + 64;
+        i += 64;
     }
     stranger_from(s, i)
 }

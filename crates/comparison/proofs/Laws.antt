@@ -1,9 +1,9 @@
 -- Laws of the count of passes and of the call, one for each way through the code. Assumes nothing.
-use Prim.Native.Nat.{ℕ, zero, suc, ◌+◌, ◌-◌, ◌*◌, ◌≤◌, ◌<◌}
+use Prim.Native.Nat.{ℕ, zero, suc, ◌+◌, ◌-◌, ◌*◌, ◌≤◌, ◌<◌, min}
 use mathlib.Core.Path.{◌≡◌, refl, sym, ap, ◌∙◌, subst}
 use mathlib.Core.List.{List}
 use mathlib.Core.Bool.{Bool, true, false, not}
-use mathlib.Core.Logic.{◌⊎◌, inl, inr, ⊎_elim}
+use mathlib.Core.Logic.{⊎_elim}
 use native.Mathlib.Omega.{arith}
 use lib.ListN.{length, get_or, drop}
 use lib.Seq.{get_or-drop}
@@ -18,7 +18,7 @@ use Rattle.expectation.specs.Expectation.{expected, reported}
 use Rattle.comparison.specs.Comparing.{passed, failed, agree, counted, refused, compared_by, compared}
 use Rattle.comparison.specs.Words.{count, passes}
 use Rattle.expectation.specs.Bytes.{number_if, Says}
-use Rattle.comparison.specs.Passing.{alike, Passing, Least}
+use Rattle.comparison.specs.Passing.{alike, Passing}
 use Rattle.comparison.proofs.Counting.{passes-are, sum, column-length}
 
 -- ---- columns
@@ -75,7 +75,7 @@ count-upto p q b (suc n) l f g =
     same zero e = rw (e 0 (omega arith))
     same (suc m) e = rw (e (suc m) (omega arith), same m (λ i h. e i (omega arith)))
 
-module _ (file rep : List ℕ) (n m b k : ℕ) (w : Least n m b) (e : (k ≡ count (alike file rep) b) × (k ≤ b)) where
+module _ (file rep : List ℕ) (n m b k : ℕ) (w : b ≡ min n m) (e : (k ≡ count (alike file rep) b) × (k ≤ b)) where
   abbrev es : List ℕ
   es = column 1 0 n (drop 4 file)
 
@@ -91,31 +91,30 @@ module _ (file rep : List ℕ) (n m b k : ℕ) (w : Least n m b) (e : (k ≡ cou
   hit : (i : ℕ) → i < b → passes es vs i ≡ alike file rep i
   hit i l =
       let p : get_or es i 0 ≡ get_or file (4 + i) 0 =
-      column-at 1 0 n (drop 4 file) i (omega (arith, w.first)) ∙ get_or-drop 4 file (1 * i + 0) 0 ∙ ap (λ (j : ℕ). get_or file j 0) (omega arith) in
+      column-at 1 0 n (drop 4 file) i (omega arith) ∙ get_or-drop 4 file (1 * i + 0) 0 ∙ ap (λ (j : ℕ). get_or file j 0) (omega arith) in
       let q : get_or vs i 0 ≡ get_or rep (12 + 9 * i) 0 =
-      column-at 9 8 m (drop 4 rep) i (omega (arith, w.second)) ∙ get_or-drop 4 rep (9 * i + 8) 0 ∙ ap (λ (j : ℕ). get_or rep j 0) (omega arith) in
-      rw (lt-ltb i (length vs) (omega (arith, vs-length, w.second)), p, q)
+      column-at 9 8 m (drop 4 rep) i (omega arith) ∙ get_or-drop 4 rep (9 * i + 8) 0 ∙ ap (λ (j : ℕ). get_or rep j 0) (omega arith) in
+      rw (lt-ltb i (length vs) (omega (arith, vs-length)), p, q)
 
   miss : (i : ℕ) → b ≤ i → i < n → passes es vs i ≡ false
-  miss i h l =
-      ⊎_elim (λ q. absurd (omega arith)) (λ q. rw (le-ltb i (length vs) (omega (arith, vs-length)))) w.one
+  miss i h l = rw (le-ltb i (length vs) (omega (arith, vs-length)))
 
   passed_is : passed es vs ≡ k
   passed_is =
-      passes-are es vs ∙ ap (count (passes es vs)) es-length ∙ count-upto (passes es vs) (alike file rep) b n w.first hit miss ∙ sym e.0
+      passes-are es vs ∙ ap (count (passes es vs)) es-length ∙ count-upto (passes es vs) (alike file rep) b n (omega arith) hit miss ∙ sym e.0
 
-  both_is : (b ≡ n) ⊎ (b ≡ m) → (n - m ≡ n - b) × (m - n ≡ m - b)
-  both_is (inl q) = (omega (arith, w.first, w.second), omega (arith, w.first, w.second))
-  both_is (inr q) = (omega (arith, w.first, w.second), omega (arith, w.first, w.second))
+  unreached-is : n - m ≡ n - b
+  unreached-is = omega arith
+
+  beyond-is : m - n ≡ m - b
+  beyond-is = omega arith
 
   failed-is : failed es vs ≡ b - k
-  failed-is = let q = both_is w.one in omega (arith, sum es vs, passed_is, es-length, vs-length, q.0, w.first)
+  failed-is = omega (arith, sum es vs, passed_is, es-length, vs-length, unreached-is)
 
   pub counts-are : (g : Bool)
       → record { number = 0; place = 0; passed = k; failed = b - k; unreached = n - b; beyond = m - b; agree = g } ≡ counted es vs g
-  counts-are g =
-      let q = both_is w.one in
-      rw (passed_is, failed-is, es-length, vs-length, q.0, q.1)
+  counts-are g = rw (passed_is, failed-is, es-length, vs-length, unreached-is, beyond-is)
 
 -- ---- remainders, and the call
 

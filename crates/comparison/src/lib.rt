@@ -6,7 +6,7 @@ ghost use Rattle.expectation.specs.Expectation.{column};
 ghost use Rattle.comparison.specs.Comparing.{agree, counted, refused, compared};
 ghost use Rattle.comparison.specs.Words.{count};
 ghost use Rattle.expectation.specs.Bytes.{number_if};
-ghost use Rattle.comparison.specs.Passing.{alike, Least};
+ghost use Rattle.comparison.specs.Passing.{alike};
 
 use expectation::Said;
 
@@ -28,13 +28,11 @@ fn passes(file: &[u8], report: &[u8], n: usize) -> usize
     requires { (4 + n ≤ length file.now) × (4 + 9 * n ≤ length report.now) }
     ensures { (result ≡ count (alike file.now report.now) n) × (result ≤ n) }
 {
-    let mut i: usize = 0;
     let mut k: usize = 0;
-    while i < n {
+    for i in 0..n {
         if file[4 + i] == report[12 + 9 * i] {
-            k = k + 1;
+            k += 1;
         }
-        i = i + 1;
     }
     k
 }
@@ -51,21 +49,12 @@ fn agreed(left: bool, number: u8, over: bool, found: u8) -> bool
     !over
 }
 
-fn least(x: usize, y: usize) -> usize
-    ensures { Least x y result }
-{
-    if x < y {
-        return x;
-    }
-    y
-}
-
 // Verdicts compared: so many expected and so many reported, and whether the remainders agree.
 fn counts(file: &[u8], report: &[u8], items: usize, there: usize, agree: bool) -> Compared
     requires { (4 + 1 * items ≤ length file.now) × (4 + 9 * there ≤ length report.now) }
     ensures { result ≡ counted (column 1 0 items (drop 4 file.now)) (column 9 8 there (drop 4 report.now)) agree }
 {
-    let both = least(items, there);
+    let both = items.min(there);
     let passed = passes(file, report, both);
     Compared {
         number: 0,

@@ -1,5 +1,5 @@
 -- Two characters a look-up: where they stand in the table, what is found there, and the three bytes that two pairs are. Assumes nothing.
-use mathlib.Core.Path.{◌≡◌, refl, ap, sym, ◌∙◌}
+use mathlib.Core.Path.{◌≡◌, ap, sym, ◌∙◌}
 use mathlib.Core.Bool.{Bool}
 use mathlib.Core.List.{List, [], ◌∷◌, map}
 use mathlib.Core.Logic.{⊎_elim}
@@ -98,9 +98,6 @@ module _ {q : List ℕ} {p : ℕ} (at : Places q p) where
     high-found = rw at.high (pair_found table t _ _ at.known.third at.known.fourth)
 
     module _ {v w : ℕ} (e : v ≡ get_or table (p % 65536) 0) (f : w ≡ get_or table (p / 65536) 0) where
-      pub number_fits : (v < 4096) × (w < 4096)
-      number_fits = (omega (arith, low-found, at.known.first, at.known.second), omega (arith, high-found, at.known.third, at.known.fourth))
-
       number_is : v * 4096 + w ≡ number_of 64 (map sextet_of q)
       number_is =
           let g = low-found in

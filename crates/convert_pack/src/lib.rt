@@ -12,14 +12,6 @@ ghost use Rattle.convert_pairs.specs.Pairs.{SextetPairs};
 ghost use Rattle.convert_pack.specs.Left.{Packed, packed_left};
 ghost use Rattle.convert_pack.specs.Places.{Places};
 
-use widening::to_u32::wide;
-
-fn wider(x: u16) -> u32
-    ensures { result ≡ x }
-{
-    x as u32
-}
-
 // ---- the leaf of long streams
 
 // The places of two pairs of characters in the table, the first pair's in the low half. `-`, 45, is the least character of the
@@ -28,7 +20,8 @@ fn places(q: [u8; 4]) -> u32
     requires { Below 64 (map sextet_of q) }
     ensures { Places q result }
 {
-    wide(q[0]) + wide(q[1]) * 256 + wide(q[2]) * 65536 + wide(q[3]) * 16777216 - 757935405
+    u32::from(q[0]) + u32::from(q[1]) * 256 + u32::from(q[2]) * 65536 + u32::from(q[3]) * 16777216
+        - 757935405
 }
 
 // Four characters as three bytes.
@@ -37,8 +30,8 @@ fn triplet(table: &[u16; 19790], q: [u8; 4]) -> [u8; 3]
     ensures { result ≡ triplet_of q }
 {
     let p = places(q);
-    let first = wider(table[(p % 65536) as usize]);
-    let second = wider(table[(p / 65536) as usize]);
+    let first = u32::from(table[(p % 65536) as usize]);
+    let second = u32::from(table[(p / 65536) as usize]);
     let n = first * 4096 + second;
     [
         (n / 65536 % 256) as u8,
@@ -128,10 +121,8 @@ fn pack_rest(src: &[u8], dst: &mut [u8], done: usize, n: usize)
     ensures { (o : List ℕ) → Packed done src.now o dst.old → Packed n src.now o dst.new }
 {
     let values = alphabet::sextets();
-    let mut i = done;
-    while i < n {
+    for i in done..n {
         put_by_values(&values, src, dst, i);
-        i += 1;
     }
 }
 

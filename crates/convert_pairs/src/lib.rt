@@ -6,15 +6,13 @@ ghost use Rattle.std.specs.Prelude.{◌≡◌, ◌+◌, ◌*◌, ◌≤◌, ◌<
 ghost use Rattle.convert_pairs.specs.Rows.{RowPut};
 ghost use Rattle.convert_pairs.specs.Pairs.{SextetPairs, CharacterPairs};
 
-use widening::to_u16::wide;
-
 // ---- two characters to twelve bits
 
 fn twelve(high: u8, low: u16) -> u16
     requires { low < 256 }
     ensures { result ≡ high * 64 + low }
 {
-    wide(high) * 64 + low
+    u16::from(high) * 64 + low
 }
 
 // The pairs whose second character has the value `low`; the first is one of the 78 characters from `-`, 45, to `z`.
@@ -22,10 +20,8 @@ fn put_row(table: &mut [u16; 19790], values: &[u8; 256], at: usize, low: u16)
     requires { (length table.old ≡ 19790) × (at + 78 ≤ 19790) × (low < 256) }
     ensures { RowPut 19790 at 78 (λ i. get_or values.now (i + 45) 0 * 64 + low) table.old table.new }
 {
-    let mut i = 0;
-    while i < 78 {
+    for i in 0..78 {
         table[at + i] = twelve(values[i + 45], low);
-        i += 1;
     }
 }
 
@@ -35,11 +31,9 @@ pub fn sextet_pairs() -> [u16; 19790]
 {
     let values = alphabet::sextets();
     let mut table = [0u16; 19790];
-    let mut j = 0;
-    while j < 78 {
-        let low = wide(values[j + 45]);
+    for j in 0..78 {
+        let low = u16::from(values[j + 45]);
         put_row(&mut table, &values, 256 * j, low);
-        j += 1;
     }
     table
 }
@@ -51,7 +45,7 @@ fn pair(first: u16, second: u8) -> u16
     requires { first < 256 }
     ensures { result ≡ first + second * 256 }
 {
-    first + wide(second) * 256
+    first + u16::from(second) * 256
 }
 
 // The pairs whose first character is `first`.
@@ -59,10 +53,8 @@ fn put_characters(table: &mut [u16; 4096], characters: &[u8; 64], at: usize, fir
     requires { (length table.old ≡ 4096) × (at + 64 ≤ 4096) × (first < 256) }
     ensures { RowPut 4096 at 64 (λ j. first + get_or characters.now j 0 * 256) table.old table.new }
 {
-    let mut j = 0;
-    while j < 64 {
+    for j in 0..64 {
         table[at + j] = pair(first, characters[j]);
-        j += 1;
     }
 }
 
@@ -71,11 +63,9 @@ pub fn character_pairs() -> [u16; 4096]
 {
     let characters = alphabet::characters();
     let mut table = [0u16; 4096];
-    let mut i = 0;
-    while i < 64 {
-        let first = wide(characters[i]);
+    for i in 0..64 {
+        let first = u16::from(characters[i]);
         put_characters(&mut table, &characters, 64 * i, first);
-        i += 1;
     }
     table
 }

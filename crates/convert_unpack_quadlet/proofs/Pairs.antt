@@ -1,11 +1,10 @@
 -- Two sextets a look-up: what is found in the table, and the four characters that two pairs are. Assumes nothing.
-use mathlib.Core.Path.{◌≡◌, ap, sym, ◌∙◌}
+use mathlib.Core.Path.{◌≡◌, ap, ◌∙◌}
 use mathlib.Core.List.{List, [], ◌∷◌, map}
-use Prim.Native.Nat.{ℕ, ◌+◌, ◌*◌, ◌/◌, ◌%◌, ◌<◌}
+use Prim.Native.Nat.{ℕ, ◌/◌, ◌%◌, ◌<◌}
 use native.Mathlib.Omega.{arith}
-use lib.ListN.{length, get_or}
+use lib.ListN.{get_or}
 use Rattle.base.specs.Digits.{number_of, digits_of}
-use Rattle.base.specs.Lists.{list3}
 use Rattle.format.specs.Alphabet.{char_of}
 use Rattle.format.specs.Units.{sextets_of, quadlet_of}
 use Rattle.laws.specs.Alphabet.{char-low}
@@ -13,11 +12,6 @@ use Rattle.convert_pairs.specs.Pairs.{CharacterPairs}
 
 four : {a b c d x y z w : ℕ} → a ≡ x → b ≡ y → c ≡ z → d ≡ w → a ∷ b ∷ c ∷ d ∷ [] ≡ x ∷ y ∷ z ∷ w ∷ []
 four p q r s = cc
-
-pub number-of : (t : List ℕ) → length t ≡ 3 → {a b c : ℕ} → a ≡ get_or t 0 0 → b ≡ get_or t 1 0 → c ≡ get_or t 2 0 → (a * 256 + b) * 256 + c ≡ number_of 256 t
-number-of t e {a} {b} {c} f g h =
-    let n : (a * 256 + b) * 256 + c ≡ number_of 256 (get_or t 0 0 ∷ get_or t 1 0 ∷ get_or t 2 0 ∷ []) = omega arith in
-    n ∙ ap (number_of 256) (sym (list3 t e))
 
 -- ---- two pairs of characters
 

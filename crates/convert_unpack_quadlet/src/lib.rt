@@ -6,8 +6,6 @@ ghost use Rattle.base.specs.Digits.{number_of};
 ghost use Rattle.format.specs.Units.{quadlet_of};
 ghost use Rattle.convert_pairs.specs.Pairs.{CharacterPairs};
 
-use widening::to_u64::wide;
-
 // The second character of a pair.
 fn high(x: u16) -> u8
     ensures { result ≡ x / 256 }
@@ -18,7 +16,7 @@ fn high(x: u16) -> u8
 fn number(t: [u8; 3]) -> u64
     ensures { (result ≡ number_of 256 t) × (result < 16777216) }
 {
-    (wide(t[0]) * 256 + wide(t[1])) * 256 + wide(t[2])
+    (u64::from(t[0]) * 256 + u64::from(t[1])) * 256 + u64::from(t[2])
 }
 
 pub fn quadlet(table: &[u16; 4096], t: [u8; 3]) -> [u8; 4]

@@ -1,5 +1,5 @@
 -- Which units two numbers of twelve bytes are. Assumes nothing.
-use mathlib.Core.Path.{◌≡◌, refl}
+use mathlib.Core.Path.{◌≡◌}
 use mathlib.Core.List.{List, [], ◌∷◌}
 use Prim.Native.Nat.{ℕ, ◌+◌, ◌*◌, ◌/◌, ◌%◌, ◌<◌, ◌≤◌}
 use native.Mathlib.Omega.{arith}
@@ -10,11 +10,6 @@ use Rattle.convert_unpack_units.specs.Numbers.{four_at, Twelve}
 
 three : {a b c x y z : ℕ} → a ≡ x → b ≡ y → c ≡ z → a ∷ b ∷ c ∷ [] ≡ x ∷ y ∷ z ∷ []
 three p q r = cc
-
--- ---- a number's three bytes
-
-pub three-bytes : (n : ℕ) → n / 65536 % 256 ∷ n / 256 % 256 ∷ n % 256 ∷ [] ≡ digits_of 256 3 n
-three-bytes n = three refl refl (omega arith)
 
 -- ---- twelve bytes as two numbers, and their four units
 

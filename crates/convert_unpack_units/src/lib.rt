@@ -11,8 +11,6 @@ ghost use Rattle.convert_pairs.specs.Pairs.{CharacterPairs};
 ghost use Rattle.convert_unpack_units.specs.Numbers.{four_at, Twelve};
 ghost use Rattle.convert_unpack_units.specs.First.{Unpacked, unpacked_first};
 
-use widening::to_u64::wide;
-
 // ---- a unit read, and written
 
 fn triplet_at(s: &[u8], at: usize) -> [u8; 3]
@@ -38,7 +36,8 @@ fn four_bytes(s: &[u8], at: usize) -> u64
     requires { at + 4 ≤ length s.now }
     ensures { (result ≡ four_at s.now at) × (result < 4294967296) }
 {
-    ((wide(s[at]) * 256 + wide(s[at + 1])) * 256 + wide(s[at + 2])) * 256 + wide(s[at + 3])
+    ((u64::from(s[at]) * 256 + u64::from(s[at + 1])) * 256 + u64::from(s[at + 2])) * 256
+        + u64::from(s[at + 3])
 }
 
 fn eight_bytes(s: &[u8], at: usize) -> u64
@@ -125,10 +124,8 @@ fn unpack_rest(src: &[u8], dst: &mut [u8], done: usize, n: usize)
     ensures { (o : List ℕ) → Unpacked done src.now o dst.old → Unpacked n src.now o dst.new }
 {
     let characters = alphabet::characters();
-    let mut i = done;
-    while i < n {
+    for i in done..n {
         put_by_characters(&characters, src, dst, i);
-        i += 1;
     }
 }
 

@@ -6,8 +6,6 @@ ghost use Rattle.base.specs.Digits.{number_of};
 ghost use Rattle.expectation.specs.Expectation.{count_at, expected, reported};
 ghost use Rattle.expectation.specs.Bytes.{At, EndAt, Says};
 
-use widening::wide;
-
 // ---- sections
 
 // How many rows a section has, and where it ends.
@@ -21,7 +19,7 @@ enum Laid {
 fn quad(a: u8, b: u8, c: u8, d: u8) -> usize
     ensures { (result ≡ number_of 256 (a ∷ b ∷ c ∷ d ∷ [])) × (result < 4294967296) }
 {
-    ((wide(a) * 256 + wide(b)) * 256 + wide(c)) * 256 + wide(d)
+    ((usize::from(a) * 256 + usize::from(b)) * 256 + usize::from(c)) * 256 + usize::from(d)
 }
 
 fn count_at(s: &[u8], at: usize) -> usize

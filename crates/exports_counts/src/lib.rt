@@ -8,6 +8,7 @@ ghost use Rattle.exports_values.specs.Counts.{counts_of};
 use comparison::Compared;
 use passing::Outcome;
 
+#[tactic(auto, unfolding(exports_values::specs::Counts::counts_of))]
 fn counts_of(c: Compared) -> [usize; 5]
     ensures { result ≡ counts_of c }
 {

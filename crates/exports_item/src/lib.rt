@@ -16,14 +16,12 @@ fn sized(head: usize, small: usize, large: usize) -> usize
     if head == 1 { small } else { large }
 }
 
+#[tactic(auto, unfolding(exports_values::specs::Lent::sort_of))]
 fn sort_of(kind: Kind, head: usize) -> usize
     ensures { result ≡ sort_of kind head }
 {
     match kind {
-        Kind::Fixed(c) => {
-            let chars = c.chars;
-            exports_values::wide(chars)
-        }
+        Kind::Fixed(c) => usize::from(c.chars),
         Kind::Variable {
             letter: _,
             lead: _,
@@ -38,10 +36,10 @@ fn sort_of(kind: Kind, head: usize) -> usize
 fn character_of(letter: u8) -> usize
     ensures { result ≡ char_of letter }
 {
-    let c = alphabet::character(letter);
-    exports_values::wide(c)
+    usize::from(alphabet::character(letter))
 }
 
+#[tactic(auto, unfolding(exports_values::specs::Lent::sign_of, format::specs::Indexed::code_of_row))]
 fn sign_of(kind: Kind) -> usize
     ensures { result ≡ sign_of kind }
 {
@@ -65,6 +63,7 @@ fn sign_of(kind: Kind) -> usize
 }
 
 // 0 where the letter stands alone
+#[tactic(auto, unfolding(format::specs::Indexed::code_of_row))]
 fn selector_of(c: IndexRow) -> usize
     ensures { result ≡ (code_of_row c).selector }
 {
@@ -75,6 +74,7 @@ fn selector_of(c: IndexRow) -> usize
     character_of(selector)
 }
 
+#[tactic(auto, unfolding(exports_values::specs::Lent::lead_of))]
 fn lead_of(kind: Kind) -> usize
     ensures { result ≡ lead_of kind }
 {
@@ -84,13 +84,14 @@ fn lead_of(kind: Kind) -> usize
             letter: _,
             lead,
             count: _,
-        } => exports_values::wide(lead),
+        } => usize::from(lead),
         Kind::Group { letter: _ } => 0,
         Kind::Genus => 0,
         Kind::Indexed(c) => selector_of(c),
     }
 }
 
+#[tactic(auto, unfolding(exports_values::specs::Lent::item_of))]
 pub fn item_of(offset: usize, size: usize, depth: usize, kind: Kind, head: usize) -> [usize; 6]
     ensures { result ≡ item_of offset size depth kind head }
 {

@@ -12,6 +12,7 @@ use exports_values::STATE;
 use instalments::Pause;
 use walk_state::Place;
 
+#[tactic(auto, unfolding(instalments::specs::Numbers::pause_number))]
 pub fn number_of(pause: Pause) -> u8
     ensures { result ≡ pause_number pause }
 {
@@ -22,6 +23,7 @@ pub fn number_of(pause: Pause) -> u8
     }
 }
 
+#[tactic(auto, unfolding(instalments::specs::Numbers::pause_place))]
 pub fn place_of(pause: Pause) -> usize
     ensures { result ≡ pause_place pause }
 {

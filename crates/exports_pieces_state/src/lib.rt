@@ -1,11 +1,10 @@
 // A state of pieces (02 f) that C lends, by value: to a state, and back. Nothing is decided here.
 #![tactic(auto)]
 
-ghost use Rattle.std.specs.Prelude.{◌≡◌, [], ◌∷◌, ◌+◌, ◌%◌, ◌≤◌, ◌<◌, length, get_or};
-ghost use Rattle.std.proofs.lemmas.List.Edits.{sets};
+ghost use Rattle.std.specs.Prelude.{◌≡◌, [], ◌∷◌, ◌%◌, length};
 ghost use Rattle.format.specs.Judging.{max_depth};
-ghost use Rattle.exports_values.specs.Lent.{state_size, state_of};
-ghost use Rattle.exports_pieces_state.specs.Numbers.{rest_size, pieces_size, all_under, is_narrow, phase_in, progress_in, pieces_with, pieces_in, phase_number, rest_of, numbers_of};
+ghost use Rattle.exports_values.specs.Lent.{state_of};
+ghost use Rattle.exports_pieces_state.specs.Numbers.{all_under, is_narrow, phase_in, progress_in, pieces_with, pieces_in, phase_number, rest_of, numbers_of};
 ghost use Rattle.exports_pieces_state.specs.Back.{Bytes, Typed};
 
 use exports_values::STATE;
@@ -20,37 +19,6 @@ pub const PIECES: usize = STATE + 19;
 // Where they begin.
 const BEHIND: usize = STATE + 1;
 
-// Stored from a place on.
-fn fill(to: &mut [usize], at: usize, from: &[usize])
-    requires { at + length from.now ≤ length to.old }
-    ensures { to.new ≡ sets to.old at from.now }
-{
-    let mut k: usize = 0;
-    while k < from.len() {
-        to[at + k] = from[k];
-        k = k + 1;
-    }
-}
-
-// Room for a state, for its walk, and for what stands behind that.
-fn no_state() -> [usize; PIECES]
-    ensures { length result ≡ pieces_size }
-{
-    [0; PIECES]
-}
-
-fn no_walk() -> [usize; STATE]
-    ensures { length result ≡ state_size }
-{
-    [0; STATE]
-}
-
-fn no_rest() -> [usize; REST]
-    ensures { length result ≡ rest_size }
-{
-    [0; REST]
-}
-
 // ---- from numbers to a state
 
 fn byte(x: usize) -> u8
@@ -59,6 +27,7 @@ fn byte(x: usize) -> u8
     (x % 256) as u8
 }
 
+#[tactic(auto, unfolding(crate::specs::Numbers::all_under))]
 fn are_under(m: usize, a: usize, b: usize, c: usize, d: usize) -> bool
     ensures { result ≡ all_under m (a ∷ b ∷ c ∷ d ∷ []) }
 {
@@ -75,6 +44,7 @@ fn are_under(m: usize, a: usize, b: usize, c: usize, d: usize) -> bool
 }
 
 // What is a mark is 0 or 1, and what is a number of 8 bits is below 256.
+#[tactic(auto, unfolding(crate::specs::Numbers::is_narrow))]
 fn is_narrow(t: [usize; REST]) -> bool
     ensures { result ≡ is_narrow t }
 {
@@ -94,6 +64,7 @@ fn is_narrow(t: [usize; REST]) -> bool
 }
 
 // Numbers that are no state's are read as a state after the end.
+#[tactic(auto, unfolding(crate::specs::Numbers::phase_in))]
 fn phase_in(t: [usize; REST]) -> Phase
     ensures { result ≡ phase_in t }
 {
@@ -109,6 +80,7 @@ fn phase_in(t: [usize; REST]) -> Phase
     Phase::Ended
 }
 
+#[tactic(auto, unfolding(crate::specs::Numbers::progress_in))]
 fn progress_in(walk: Walk, t: [usize; REST]) -> Progress
     ensures { result ≡ progress_in walk t }
 {
@@ -129,6 +101,7 @@ fn progress_in(walk: Walk, t: [usize; REST]) -> Progress
     }
 }
 
+#[tactic(auto, unfolding(crate::specs::Numbers::pieces_with))]
 fn pieces_with(unit: usize, walk: Walk, t: [usize; REST]) -> Pieces
     ensures { result ≡ pieces_with unit walk t }
 {
@@ -142,26 +115,21 @@ fn pieces_with(unit: usize, walk: Walk, t: [usize; REST]) -> Pieces
     }
 }
 
-// The first number.
-fn unit_in(s: [usize; PIECES]) -> usize
-    ensures { (result ≡ get_or s 0 0) × (length s ≡ pieces_size) }
-{
-    s[0]
-}
-
+#[tactic(auto, unfolding(crate::specs::Numbers::pieces_in))]
 pub fn pieces_of(s: [usize; PIECES]) -> Pieces
     ensures { result ≡ pieces_in s }
 {
-    let mut w = no_walk();
-    let mut t = no_rest();
-    fill(&mut w, 0, &s[1..BEHIND]);
-    fill(&mut t, 0, &s[BEHIND..PIECES]);
+    let mut w = [0; STATE];
+    let mut t = [0; REST];
+    w.copy_from_slice(&s[1..BEHIND]);
+    t.copy_from_slice(&s[BEHIND..]);
     let walk = exports_state::walk_of(w);
-    pieces_with(unit_in(s), walk, t)
+    pieces_with(s[0], walk, t)
 }
 
 // ---- and back
 
+#[tactic(auto, unfolding(crate::specs::Numbers::phase_number))]
 fn phase_number(phase: Phase) -> usize
     ensures { result ≡ phase_number phase }
 {
@@ -172,16 +140,10 @@ fn phase_number(phase: Phase) -> usize
     }
 }
 
-fn wide(x: u8) -> usize
-    ensures { (result ≡ x) × (x < 256) }
-{
-    x as usize
-}
-
 fn four(h: [u8; 4]) -> [usize; 4]
     ensures { (result ≡ h) × Bytes h }
 {
-    [wide(h[0]), wide(h[1]), wide(h[2]), wide(h[3])]
+    h.map(usize::from)
 }
 
 fn rest_of(p: Progress, held: [u8; 4], count: usize) -> [usize; REST]
@@ -198,9 +160,9 @@ fn rest_of(p: Progress, held: [u8; 4], count: usize) -> [usize; REST]
         h[2],
         h[3],
         exports_values::mark_of(p.scans),
-        p.lead as usize,
+        usize::from(p.lead),
         exports_values::mark_of(p.text),
-        p.number as usize,
+        usize::from(p.number),
         p.place,
         p.start,
         p.items,
@@ -228,9 +190,9 @@ pub fn numbers_of(st: Pieces) -> [usize; PIECES]
     let held = st.held;
     let w = walk_numbers(walk);
     let t = rest_of(p, held, st.count);
-    let mut s = no_state();
+    let mut s = [0; PIECES];
     s[0] = st.unit;
-    fill(&mut s, 1, &w);
-    fill(&mut s, BEHIND, &t);
+    s[1..BEHIND].copy_from_slice(&w);
+    s[BEHIND..].copy_from_slice(&t);
     s
 }

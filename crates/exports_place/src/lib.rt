@@ -20,6 +20,7 @@ fn open_of(depth: usize, mark: usize) -> usize
     if 1 < mark { TOO_MANY } else { depth }
 }
 
+#[tactic(auto, unfolding(exports_values::specs::Lent::place_in))]
 pub fn place_of(s: &[usize; STATE]) -> Place
     ensures { result ≡ place_in s.now }
 {

@@ -33,5 +33,5 @@ pub fn wide(x: u8) -> usize
 pub fn mark_of(yes: bool) -> usize
     ensures { result ≡ pick yes 1 0 }
 {
-    if yes { 1 } else { 0 }
+    usize::from(yes)
 }

@@ -1,9 +1,9 @@
 -- Arrays of a stream's first sextets, of either form, and cut to an item. Assumes nothing.
 use mathlib.Core.Path.{◌≡◌, refl, sym, ap, ◌∙◌}
 use mathlib.Core.List.{List, [], ◌∷◌, ◌++◌, map}
-use Prim.Native.Nat.{ℕ, ◌+◌, ◌*◌, ◌/◌, ◌<◌, ◌≤◌, ◌-◌}
+use Prim.Native.Nat.{ℕ, ◌+◌, ◌*◌, ◌/◌, ◌<◌, ◌≤◌}
 use native.Mathlib.Omega.{arith}
-use lib.ListN.{length, get_or, length-map, get_or-eq_default, take, drop, length-take, length-drop}
+use lib.ListN.{length, get_or, length-map, get_or-eq_default, take, drop, length-drop}
 use Rattle.base.specs.Lists.{list4, get_or-table, same-table}
 use Rattle.base.specs.Each.{each, length-each}
 use Rattle.format.specs.Alphabet.{sextet_of, sextet_table}

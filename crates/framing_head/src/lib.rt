@@ -22,8 +22,7 @@ fn text_sextet(values: &[u8; 256], s: &[u8], i: usize) -> u8
     ensures { result ≡ get_or (text_sextets s.now) i 0 }
 {
     if i < s.len() {
-        let c = s[i];
-        values[c as usize]
+        values[usize::from(s[i])]
     } else {
         0
     }

@@ -1,12 +1,11 @@
 -- What a group and its header leave in the buffer. Assumes nothing.
 use Prim.Native.Nat.{ℕ, ◌+◌, ◌-◌, ◌*◌, ◌/◌, ◌≤◌, ◌<◌}
-use mathlib.Core.Path.{◌≡◌, refl, sym, ap, ◌∙◌}
-use mathlib.Core.List.{List, [], ◌∷◌, ◌++◌, reverse, reverse-cons, reverse-append, append_assoc}
+use mathlib.Core.Path.{◌≡◌, sym, ◌∙◌}
+use mathlib.Core.List.{List, ◌++◌}
 use native.Mathlib.Omega.{arith}
-use lib.ListN.{length, take, drop, replicate, length-drop, length-append, length-reverse, take-append-drop}
-use lib.Seq.{take_at, drop_at, length-take-le, take-take, take-length}
+use lib.ListN.{length, take, drop, replicate}
+use lib.Seq.{take_at, length-take-le, take-take}
 use borrow.Author.Tests.{lt-ltb, le-ltb}
-use Rattle.copying.specs.Copying.{turned, part}
 use Rattle.format.specs.declared.Form.{Form}
 use Rattle.format.specs.Units.{domain}
 use Rattle.groups.specs.Grouping.{head_units, head_sextets, spelled, group_of, group_size}
@@ -14,48 +13,6 @@ use Rattle.groups_claims.proofs.Heads.{head-length}
 use Rattle.groups_claims.proofs.Calls.{spelled-length}
 use Rattle.groups_header.specs.Header.{head_bytes}
 use Rattle.groups_put.specs.Put.{put_group}
-
--- ---- the body moved on, and the header before it
-
-rev-rev : (l : List ℕ) → reverse (reverse l) ≡ l
-rev-rev [] = refl
-rev-rev (x ∷ l) = ap reverse (reverse-cons x l) ∙ reverse-append (reverse l) (x ∷ []) ∙ rw (rev-rev l)
-
-module _ (b head : List ℕ) (h s : ℕ) (few : h ≤ 8) (inside : h ≤ s) (room : s ≤ length b) (eight : length head ≡ 8) where
-  abbrev W : List ℕ
-  W = take s b
-
-  T-long : length W ≡ s
-  T-long = length-take-le s b room
-
-  G-long : length (drop (s - h) W) ≡ h
-  G-long = length-drop (s - h) W ∙ omega (arith, T-long)
-
-  T-split : W ≡ take (s - h) b ++ drop (s - h) W
-  T-split = sym (take-append-drop (s - h) W) ∙ ap (λ (l : List ℕ). l ++ drop (s - h) W) (take-take (s - h) s b (omega arith))
-
-  split-turned : reverse W ≡ reverse (drop (s - h) W) ++ reverse (take (s - h) b)
-  split-turned = ap reverse T-split ∙ reverse-append (take (s - h) b) (drop (s - h) W)
-
-  turned-drop : drop h (reverse W) ≡ reverse (take (s - h) b)
-  turned-drop =
-      ap (drop h) split-turned
-      ∙ drop_at (reverse (drop (s - h) W)) (reverse (take (s - h) b)) h (length-reverse (drop (s - h) W) ∙ G-long)
-
-  pub fronted : (x y z : List ℕ) → x ≡ take 0 b ++ (turned (part 0 s b) ++ drop s b) → y ≡ take h x ++ (turned (part h s x) ++ drop s x)
-      → z ≡ take (length (take h head)) (take h head) ++ drop (length (take h head)) y → z ≡ (take h head ++ take (s - h) b) ++ drop s b
-  unfolding turned part
-  fronted x y z ex ey ez =
-      let rs : length (reverse W) ≡ s = length-reverse W ∙ T-long in
-      let x1 : x ≡ reverse W ++ drop s b = ex in
-      let tx : take s x ≡ reverse W = ap (take s) x1 ∙ take_at (reverse W) (drop s b) s rs in
-      let dx : drop s x ≡ drop s b = ap (drop s) x1 ∙ drop_at (reverse W) (drop s b) s rs in
-      let lx : length x ≡ s + length (drop s b) = ap length x1 ∙ length-append (reverse W) (drop s b) ∙ rw rs in
-      let hx : length (take h x) ≡ h = length-take-le h x (omega arith) in
-      let y1 : y ≡ take h x ++ (take (s - h) b ++ drop s b) = ey ∙ rw (tx, turned-drop, rev-rev (take (s - h) b), dx) in
-      let dy : drop h y ≡ take (s - h) b ++ drop s b = ap (drop h) y1 ∙ drop_at (take h x) (take (s - h) b ++ drop s b) h hx in
-      let lh : length (take h head) ≡ h = length-take-le h head (omega arith) in
-      ez ∙ rw (take-length (take h head), lh, dy) (sym (append_assoc (take h head) (take (s - h) b) (drop s b)))
 
 -- ---- a group around a body of this length
 

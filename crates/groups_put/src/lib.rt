@@ -7,14 +7,13 @@ ghost use Rattle.groups_put.specs.Put.{put_group};
 
 use format::Form;
 
-// The first size - h bytes moved on by h, and the header put before them: all turned round, and the body back again.
+// The first size - h bytes moved on by h, and the header put before them.
 fn put_front(buf: &mut [u8], head: [u8; 8], h: usize, size: usize)
     requires { (h ≤ 8) × (h ≤ size) × (size ≤ length buf.old) }
     ensures { buf.new ≡ (take h head ++ take (size - h) buf.old) ++ drop size buf.old }
 {
-    copying::reverse(buf, 0, size);
-    copying::reverse(buf, h, size);
-    copying::copy(&head[..h], buf);
+    buf.copy_within(..size - h, h);
+    buf[..h].copy_from_slice(&head[..h]);
 }
 
 // A group around the first len elements, if it has room; its letter is a sextet.

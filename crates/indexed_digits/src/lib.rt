@@ -7,22 +7,15 @@ ghost use Rattle.format.specs.Values.{index_of, ondex_of};
 ghost use Rattle.indexed_digits.specs.Placed.{Placed};
 
 use format::IndexRow;
-use widening::wide;
-
-fn at_most(x: usize, most: usize) -> usize
-    ensures { (x ≤ most → result ≡ x) × (result ≤ most) }
-{
-    if x < most { x } else { most }
-}
 
 // The number of so many digits from a place of the first sextets on, most significant first. Of more than three nothing is said.
 fn number(cs: [u8; 12], from: usize, count: u8) -> usize
     requires { from ≤ 9 }
     ensures { count ≤ 3 → result ≡ number_of 64 (take count (drop from cs)) }
 {
-    let a = wide(cs[from]);
-    let b = wide(cs[from + 1]);
-    let d = wide(cs[from + 2]);
+    let a = usize::from(cs[from]);
+    let b = usize::from(cs[from + 1]);
+    let d = usize::from(cs[from + 2]);
     if count == 0 {
         return 0;
     }
@@ -39,7 +32,7 @@ fn number(cs: [u8; 12], from: usize, count: u8) -> usize
 pub fn index_of(c: IndexRow, cs: [u8; 12]) -> usize
     ensures { Placed c → result ≡ index_of c cs }
 {
-    let from = at_most(wide(c.chars), 9);
+    let from = usize::from(c.chars).min(9);
     number(cs, from, c.index)
 }
 
@@ -47,6 +40,6 @@ pub fn index_of(c: IndexRow, cs: [u8; 12]) -> usize
 pub fn ondex_of(c: IndexRow, cs: [u8; 12]) -> usize
     ensures { Placed c → result ≡ ondex_of c cs }
 {
-    let from = at_most(wide(c.chars) + wide(c.index), 9);
+    let from = (usize::from(c.chars) + usize::from(c.index)).min(9);
     number(cs, from, c.ondex)
 }

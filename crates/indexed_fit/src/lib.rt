@@ -7,13 +7,12 @@ ghost use Rattle.format.specs.Indexed.{indexed_raw_size, fits_indexed};
 ghost use Rattle.indexed_fit.specs.Digits.{Few};
 
 use format::IndexRow;
-use widening::wide;
 
 // The full size in units.
 pub fn units_of(c: IndexRow) -> usize
     ensures { (result ≡ c.size / 4) × (result < 64) }
 {
-    wide(c.size) / 4
+    usize::from(c.size) / 4
 }
 
 fn raw_size(c: IndexRow) -> usize
@@ -21,7 +20,7 @@ fn raw_size(c: IndexRow) -> usize
 {
     let start = reading_start::indexed_start(c).0;
     let full = units_of(c) * 3;
-    if start < full { full - start } else { 0 }
+    full.saturating_sub(start)
 }
 
 // What so many digits do not reach: 1 without digits, which leaves 0 alone. Of more than three nothing is said.

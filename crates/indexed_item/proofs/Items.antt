@@ -17,7 +17,6 @@ use Rattle.format.specs.Indexed.{indexed_of, reading_indexed}
 use Rattle.framing_head.specs.Heads.{head_of}
 use Rattle.framing_head.proofs.Laws.{part-head, within-head}
 use Rattle.roundtrip_indexed.specs.Rows.{Spread, whole, half, Facts}
-use Rattle.roundtrip_indexed.specs.Own.{Own}
 use Rattle.roundtrip_indexed.proofs.Reading.{Read, read-own}
 use Rattle.reading_part.specs.Outcome.{outcome}
 use Rattle.reading_part.proofs.Answers.{is_found}

@@ -10,12 +10,6 @@ ghost use Rattle.indexed_item.specs.Items.{PlacedIn};
 
 use format::{BinaryOffset, IndexCode, IndexRow, IndexedItem, Kind};
 
-fn at_most(x: usize, most: usize) -> usize
-    ensures { (x ≤ most → result ≡ x) × (result ≤ most) }
-{
-    if x < most { x } else { most }
-}
-
 fn code_of(c: IndexRow) -> IndexCode
     ensures { result ≡ code_of_row c }
 {
@@ -34,8 +28,8 @@ fn code_of(c: IndexRow) -> IndexCode
 fn raw_size(n: usize, start: usize) -> usize
     ensures { n ≤ 1048576 → result ≡ 3 * n - start }
 {
-    let total = 3 * at_most(n, 1048576);
-    if start <= total { total - start } else { 0 }
+    let total = 3 * n.min(1048576);
+    total.saturating_sub(start)
 }
 
 // An item of n units, whose first sextets are given.

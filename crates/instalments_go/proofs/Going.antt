@@ -65,11 +65,12 @@ module _ (form : Form) (xs : List ℕ) (budget : ℕ) (before : List ℕ) (p : P
   unfolding unspent
   unbarred = rw (le-ltb d.limit (length xs) g.fits.few, g.fits.fit)
 
-  pub spent_all : budget ≤ n → Goes before now (record { place = q; items = n; pause = P.Spent }) (walk_on d xs budget (walk_at before p))
+  pub spent_all : n ≡ budget → Goes before now (record { place = q; items = budget; pause = P.Spent }) (walk_on d xs budget (walk_at before p))
   unfolding walk_on
   spent_all h =
-      let z : budget - n ≡ 0 = omega (arith, g.few) in
-      stands (g.whole ∙ ap (λ (k : ℕ). plus n (walk_on d xs k w)) z ∙ rw (add-zero, unbarred)) refl
+      let z : budget - n ≡ 0 = omega arith in
+      subst (λ (k : ℕ). Goes before now (record { place = q; items = k; pause = P.Spent }) (walk_on d xs budget (walk_at before p))) h
+      (stands (g.whole ∙ ap (λ (k : ℕ). plus n (walk_on d xs k w)) z ∙ rw (add-zero, unbarred)) refl)
 
   module _ (h : n < budget) {after : List ℕ} {m : Moved} (t : Steps now after m (step_in d xs w)) where
     left_is : budget - n ≡ suc (budget - (n + 1))

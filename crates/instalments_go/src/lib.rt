@@ -18,8 +18,7 @@ pub fn go(slots: &mut [usize], p: Place, form: Form, s: &[u8], budget: usize) ->
     ensures { max_depth ≤ length slots.old → Fits form s.now (walk_at slots.old p) → Goes slots.old slots.new result (walk_on (domain form) s.now budget (walk_at slots.old p)) }
 {
     let mut q = p;
-    let mut items: usize = 0;
-    while items < budget {
+    for items in 0..budget {
         let m = walk::move_fit(slots, q, form, s);
         let found = m.found;
         match found {
@@ -46,11 +45,10 @@ pub fn go(slots: &mut [usize], p: Place, form: Form, s: &[u8], budget: usize) ->
             }
         }
         q = m.place;
-        items = items + 1;
     }
     Went {
         place: q,
-        items,
+        items: budget,
         pause: Pause::Spent,
     }
 }

@@ -2,21 +2,13 @@
 // its end and past those that are held.
 #![tactic(auto)]
 
-ghost use Rattle.std.specs.Prelude.{◌≡◌, ◌-◌, ◌<◌, ◌≤◌, get_or};
+ghost use Rattle.std.specs.Prelude.{◌≡◌, get_or};
 ghost use Rattle.format.specs.Judging.{zero_bits};
-
-use widening::to_u32::wide;
 
 pub fn sextet_at(cs: [u8; 12], i: usize) -> u8
     ensures { result ≡ get_or cs i 0 }
 {
     if i < 12 { cs[i] } else { 0 }
-}
-
-fn shift_for(z: u32) -> u32
-    ensures { (result ≡ 18 - z) × (result ≤ 18) }
-{
-    if z < 18 { 18 - z } else { 0 }
 }
 
 pub fn zero_bits(cs: [u8; 12], i: usize, z: u32) -> bool
@@ -25,9 +17,9 @@ pub fn zero_bits(cs: [u8; 12], i: usize, z: u32) -> bool
     if 12 <= i {
         return true;
     }
-    let a = wide(sextet_at(cs, i));
-    let b = wide(sextet_at(cs, i + 1));
-    let c = wide(sextet_at(cs, i + 2));
-    let k = shift_for(z);
+    let a = u32::from(sextet_at(cs, i));
+    let b = u32::from(sextet_at(cs, i + 1));
+    let c = u32::from(sextet_at(cs, i + 2));
+    let k = 18u32.saturating_sub(z);
     ((a * 64 + b) * 64 + c) >> k == 0
 }

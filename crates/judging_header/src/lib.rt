@@ -2,23 +2,20 @@
 // behind a group's header, and a group's 11 and 18.
 #![tactic(auto)]
 
-ghost use Rattle.std.specs.Prelude.{◌≡◌, ◌-◌, ◌<◌};
+ghost use Rattle.std.specs.Prelude.{◌≡◌, ◌-◌};
 ghost use Rattle.format.specs.Registry.{zero_bits_of, prepad_of};
 ghost use Rattle.format.specs.Judging.{is_shortest};
 ghost use Rattle.judging_header.specs.Checks.{group_checks};
 
 use format::{CodeRow, Verdict};
-use widening::to_u32::wide;
 
 // ---- a fixed code's row: how many bits behind it are zero, and how many sextets stand before a tag
 
 pub fn zeros_of(c: CodeRow) -> u32
     ensures { result ≡ zero_bits_of c }
 {
-    let pad = c.pad;
-    let lead = c.lead;
     if c.tag == 0 {
-        2 * wide(pad) + 8 * wide(lead)
+        2 * u32::from(c.pad) + 8 * u32::from(c.lead)
     } else {
         0
     }
@@ -30,12 +27,8 @@ pub fn prepad_of(c: CodeRow) -> u32
     if c.tag == 0 {
         return 0;
     }
-    let chars = c.chars;
-    let tag = c.tag;
-    let size = c.size;
-    let used = wide(chars) + wide(tag);
-    let full = wide(size);
-    if used < full { full - used } else { 0 }
+    let used = u32::from(c.chars) + u32::from(c.tag);
+    u32::from(c.size).saturating_sub(used)
 }
 
 // ---- 18: a large header where a small one counts the units behind it
@@ -52,7 +45,7 @@ pub fn is_shortest(h: usize, count: usize) -> bool
 pub fn units_behind(n: usize, h: usize) -> usize
     ensures { result ≡ n - h }
 {
-    if h <= n { n - h } else { 0 }
+    n.saturating_sub(h)
 }
 
 pub fn group_checks(h: usize, units: usize, levels: usize) -> Verdict

@@ -1,7 +1,7 @@
 // What the header and first sextets of an indexed item decide: 8 and 15. The sextets are the item's own, 0 past its end.
 #![tactic(auto)]
 
-ghost use Rattle.std.specs.Prelude.{◌≡◌, ◌<◌, ◌≤◌, eqb, take, drop};
+ghost use Rattle.std.specs.Prelude.{◌≡◌, ◌≤◌, eqb, take, drop};
 ghost use Rattle.base.specs.Digits.{number_of};
 ghost use Rattle.format.specs.Registry.{index_chars};
 ghost use Rattle.format.specs.Values.{ondex_of};
@@ -9,19 +9,16 @@ ghost use Rattle.format.specs.Judging.{ondex_right};
 ghost use Rattle.judging_indexed.specs.Checks.{indexed_checks};
 
 use format::{IndexRow, Verdict};
-use widening::to_u32::wide;
 
 // Whether so many digits from a sextet on are zero.
 fn digits_zero(cs: [u8; 12], from: usize, count: usize) -> bool
     requires { (from ≤ 510) × (count ≤ 255) }
     ensures { result ≡ eqb (number_of 64 (take count (drop from cs))) 0 }
 {
-    let mut i = 0;
-    while i < count {
+    for i in 0..count {
         if judging_bits::sextet_at(cs, from + i) != 0 {
             return false;
         }
-        i += 1;
     }
     true
 }
@@ -33,29 +30,22 @@ fn ondex_right(c: IndexRow, cs: [u8; 12]) -> bool
     if c.current == 0 {
         return true;
     }
-    let chars = c.chars;
-    let index = c.index;
-    let ondex = c.ondex;
-    let from = wide(chars) + wide(index);
-    digits_zero(cs, from as usize, wide(ondex) as usize)
+    let from = usize::from(c.chars) + usize::from(c.index);
+    digits_zero(cs, from, usize::from(c.ondex))
 }
 
 // The characters of code, index and ondex.
 fn index_chars(c: IndexRow) -> usize
     ensures { result ≡ index_chars c }
 {
-    let chars = c.chars;
-    let index = c.index;
-    let ondex = c.ondex;
-    (wide(chars) + wide(index) + wide(ondex)) as usize
+    usize::from(c.chars) + usize::from(c.index) + usize::from(c.ondex)
 }
 
 pub fn indexed_checks(c: IndexRow, cs: [u8; 12]) -> Verdict
     ensures { result ≡ indexed_checks c cs }
 {
     let i = index_chars(c);
-    let zeros = c.zeros;
-    if !judging_bits::zero_bits(cs, i, wide(zeros)) {
+    if !judging_bits::zero_bits(cs, i, u32::from(c.zeros)) {
         return Verdict::Refused {
             number: 8,
             place: 0,

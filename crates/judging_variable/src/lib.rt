@@ -1,12 +1,11 @@
 // What the header and first sextets of a variable value decide: 18, 9, 8 and 16. The sextets are the item's own, 0 past its end.
 #![tactic(auto)]
 
-ghost use Rattle.std.specs.Prelude.{◌≡◌, ◌*◌, ◌<◌};
+ghost use Rattle.std.specs.Prelude.{◌≡◌, ◌*◌};
 ghost use Rattle.format.specs.Judging.{has_lead, zero_bits};
 ghost use Rattle.judging_variable.specs.Checks.{variable_checks};
 
 use format::Verdict;
-use widening::to_u32::wide;
 
 fn has_lead(lead: u8, count: usize) -> bool
     ensures { result ≡ has_lead lead count }
@@ -18,7 +17,7 @@ fn lead_zero(cs: [u8; 12], h: usize, lead: u8) -> bool
     ensures { result ≡ zero_bits cs (4 * h) (8 * lead) }
 {
     if h <= 2 {
-        judging_bits::zero_bits(cs, 4 * h, 8 * wide(lead))
+        judging_bits::zero_bits(cs, 4 * h, 8 * u32::from(lead))
     } else {
         true
     }

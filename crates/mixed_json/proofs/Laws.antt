@@ -1,14 +1,14 @@
 -- Laws of a JSON header, one for each way through the code. Assumes nothing.
 use Prim.Native.Nat.{ℕ, suc, ◌+◌, ◌-◌, ◌*◌, ◌≤◌, ◌<◌}
 use mathlib.Core.Path.{◌≡◌, refl, sym, ◌∙◌}
-use mathlib.Core.List.{List}
-use mathlib.Core.Bool.{Bool, true, false}
+use mathlib.Core.List.{List, [], ◌∷◌}
+use mathlib.Core.Bool.{Bool, true, false, ◌&&◌}
 use native.Mathlib.Omega.{arith}
 use lib.Dec.{leb, ltb, eqb}
 use lib.ListN.{length, get_or, drop}
 use lib.Seq.{drop-cons}
-use borrow.Author.Tests.{le-leb, lt-leb, lt-ltb, le-ltb, eq-eqb, ne_eqb, not-true, not-false}
-use mathlib.Core.Bool.{not}
+use borrow.Author.Tests.{le-leb, lt-leb, lt-ltb, le-ltb, eq-eqb, ne_eqb}
+use Rattle.std.specs.List.{list_all, zip}
 use Rattle.base.specs.Pick.{pick}
 use Rattle.format.specs.declared.Kind.{Kind}
 use Rattle.format.specs.declared.Framed.{Framed}
@@ -22,17 +22,17 @@ module _ (c : ℕ) where
   unfolding hex_of
   below-digits h = (rw (lt-leb 48 c h, lt-leb 97 c (omega arith)), omega arith)
 
-  pub digit : 48 ≤ c → c ≤ 57 → (c - 48 ≡ hex_of c) × (c - 48 ≤ 16)
+  pub digit : 48 ≤ c → c ≤ 57 → (v : ℕ) → v ≡ c - 48 → (v ≡ hex_of c) × (v ≤ 16)
   unfolding hex_of
-  digit l h = (rw (le-leb 48 c l, le-leb c 57 h), omega arith)
+  digit l h v e = (rw (le-leb 48 c l, le-leb c 57 h, e), omega arith)
 
   pub between : 57 < c → c < 97 → (16 ≡ hex_of c) × (16 ≤ 16)
   unfolding hex_of
   between l h = (rw (le-leb 48 c (omega arith), lt-leb c 57 l, lt-leb 97 c h), omega arith)
 
-  pub letter : 97 ≤ c → c ≤ 102 → (c - 87 ≡ hex_of c) × (c - 87 ≤ 16)
+  pub letter : 97 ≤ c → c ≤ 102 → (v : ℕ) → v ≡ c - 87 → (v ≡ hex_of c) × (v ≤ 16)
   unfolding hex_of
-  letter l h = (rw (le-leb 48 c (omega arith), lt-leb c 57 (omega arith), le-leb 97 c l, le-leb c 102 h) (omega arith), omega arith)
+  letter l h v e = (rw (le-leb 48 c (omega arith), lt-leb c 57 (omega arith), le-leb 97 c l, le-leb c 102 h) (omega arith), omega arith)
 
   pub past : 102 < c → (16 ≡ hex_of c) × (16 ≤ 16)
   unfolding hex_of
@@ -59,35 +59,16 @@ module _ (p c : ℕ) where
 
 -- ---- the header
 
-pattern-long : length pattern ≡ 23
-unfolding pattern
-pattern-long = refl
+pick-and : (a b : Bool) → a && b ≡ pick a b false
+pick-and true b = refl
+pick-and false b = refl
 
-pass_step : (s : List ℕ) (i : ℕ) → i < 23
-    → passes (drop i pattern) i s ≡ pick (meets (get_or pattern i 0) (get_or s i 0)) (passes (drop (suc i) pattern) (suc i) s) false
+-- a pattern against the bytes from i on, pair by pair
+pub passes-paired : (ps : List ℕ) (i : ℕ) (s : List ℕ) → i + length ps ≤ length s → list_all (λ q. meets q.0 q.1) (zip ps (drop i s)) ≡ passes ps i s
 unfolding passes
-pass_step s i h = rw (drop-cons pattern i 0 (omega (arith, pattern-long)))
-
--- the bytes in front of i are as they should be, those from i on are left to look at
-pub record Passed (s : List ℕ) (i : ℕ) : Type 0 where
-  pub few : i ≤ 23
-  pub left : passes pattern 0 s ≡ passes (drop i pattern) i s
-
-pub start : (s : List ℕ) → Passed s 0
-start s = record { few = omega arith; left = refl }
-
-module _ (s : List ℕ) (i : ℕ) (P : Passed s i) where
-  pub on : (b : Bool) → b ≡ meets (get_or pattern i 0) (get_or s i 0) → not b ≡ false → i < 23 → Passed s (i + 1)
-  on b e t h =
-      let z : i + 1 ≡ suc i = omega arith in
-      record { few = omega arith; left = rw z (P.left ∙ pass_step s i h ∙ rw (sym e ∙ not-false b t)) }
-
-  pub off : (b : Bool) → b ≡ meets (get_or pattern i 0) (get_or s i 0) → not b ≡ true → i < 23 → false ≡ passes pattern 0 s
-  off b e t h = sym (P.left ∙ pass_step s i h ∙ rw (sym e ∙ not-true b t))
-
-  pub ended : 23 ≤ i → true ≡ passes pattern 0 s
-  unfolding passes pattern
-  ended h = let z : i ≡ 23 = omega (arith, P.few) in sym (P.left ∙ rw z)
+passes-paired [] i s h = refl
+passes-paired (p ∷ ps) i s h =
+    rw (drop-cons s i 0 (omega arith), passes-paired ps (suc i) s (omega arith)) (pick-and (meets p (get_or s i 0)) (passes ps (suc i) s))
 
 -- ---- the length
 

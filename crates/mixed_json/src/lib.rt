@@ -19,13 +19,13 @@ fn hex(c: u8) -> usize
         return 16;
     }
     if c <= 57 {
-        return (c - 48) as usize;
+        return usize::from(c - 48);
     }
     if c < 97 {
         return 16;
     }
     if c <= 102 {
-        return (c - 87) as usize;
+        return usize::from(c - 87);
     }
     16
 }
@@ -48,32 +48,11 @@ fn is_met(p: u8, c: u8) -> bool
     c == p
 }
 
-fn asked(i: usize) -> u8
-    requires { i < 23 }
-    ensures { result ≡ get_or pattern i 0 }
-{
-    PATTERN[i]
-}
-
-fn is_met_at(s: &[u8], i: usize) -> bool
-    requires { (i < 23) × (23 ≤ length s.now) }
-    ensures { result ≡ meets (get_or pattern i 0) (get_or s.now i 0) }
-{
-    is_met(asked(i), s[i])
-}
-
 fn is_header(s: &[u8]) -> bool
     requires { 23 ≤ length s.now }
     ensures { result ≡ passes pattern 0 s.now }
 {
-    let mut i: usize = 0;
-    while i < 23 {
-        if !is_met_at(s, i) {
-            return false;
-        }
-        i = i + 1;
-    }
-    true
+    PATTERN.iter().zip(s).all(|(p, c)| is_met(*p, *c))
 }
 
 // ---- the total length

@@ -1,5 +1,5 @@
 -- Characters up to the first stranger are known, and make known units. Assumes nothing.
-use Prim.Native.Nat.{ℕ, zero, suc, ◌+◌, ◌-◌, ◌*◌, ◌/◌, ◌^◌, ◌≤◌, ◌<◌}
+use Prim.Native.Nat.{ℕ, zero, suc, ◌+◌, ◌-◌, ◌*◌, ◌^◌, ◌≤◌, ◌<◌}
 use mathlib.Core.Path.{◌≡◌}
 use mathlib.Core.List.{List, [], ◌∷◌}
 use mathlib.Core.Logic.{⊎_elim}
@@ -61,8 +61,8 @@ text-clear s at to r h K i p q =
     (lt-or-ge i (length (drop at s)))
 
 module _ (f : Form) (s : List ℕ) (at to r : ℕ) where
-  pub clean-text : f ≡ Text → Known s at to → Clear ((domain f).sextets (drop at s)) 0 ((to - at) / 4)
-  clean-text e K = rw e (text-clear s at to ((to - at) / 4) (omega arith) K)
+  pub clean-text : f ≡ Text → 4 * r ≤ to - at → Known s at to → Clear ((domain f).sextets (drop at s)) 0 r
+  clean-text e h K = rw e (text-clear s at to r h K)
 
   pub clean-binary : f ≡ Binary → Known s at to → Clear ((domain f).sextets (drop at s)) 0 r
   clean-binary e K = rw e (clear-below (binary_sextets (drop at s)) 0 r (binary-below (drop at s)))

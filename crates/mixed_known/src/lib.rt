@@ -38,12 +38,7 @@ pub fn clean(form: Form, s: &[u8], at: usize, to: usize) -> usize
     ensures { Known s.now at to → Clear ((domain form).sextets (drop at s.now)) 0 result }
 {
     match form {
-        Form::Text => {
-            if to < at {
-                return 0;
-            }
-            (to - at) / 4
-        }
+        Form::Text => to.saturating_sub(at) / 4,
         Form::Binary => s.len() / 3,
     }
 }

@@ -19,12 +19,10 @@ fn are_accepted(report: &[u8], n: usize) -> bool
     requires { 4 + 9 * n ≤ length report.now }
     ensures { result ≡ are_accepted (column 9 8 n (drop 4 report.now)) }
 {
-    let mut i: usize = 0;
-    while i < n {
+    for i in 0..n {
         if report[12 + 9 * i] != 0 {
             return false;
         }
-        i = i + 1;
     }
     true
 }

@@ -1,5 +1,5 @@
 -- All units one behind the other. Assumes nothing.
-use Prim.Native.Nat.{ℕ, zero, suc, ◌+◌, ◌-◌, ◌*◌, ◌/◌, ◌≤◌, ◌<◌}
+use Prim.Native.Nat.{ℕ, zero, suc, ◌+◌, ◌*◌, ◌/◌, ◌≤◌, ◌<◌}
 use mathlib.Core.Path.{◌≡◌, refl, sym, ap, ◌∙◌, subst}
 use mathlib.Core.Bool.{Bool, true, false}
 use mathlib.Core.List.{List, [], ◌∷◌, ◌++◌, append-nil, append_assoc}
@@ -8,8 +8,7 @@ use native.Mathlib.Omega.{arith}
 use native.Mathlib.Nat.{le-div_iff_mul-le}
 use lib.ListN.{length, get_or, take, drop, length-append}
 use lib.Seq.{sets}
-use Rattle.base.specs.Pick.{pick, pick-by}
-use Rattle.base.specs.Cases.{lt-or-ge, whether}
+use Rattle.base.specs.Cases.{whether}
 use Rattle.format.specs.declared.Form.{Form}
 use Rattle.format.specs.declared.Form.TheVariants.{Text, Binary}
 use Rattle.format.specs.declared.Verdict.{Verdict}

@@ -37,15 +37,12 @@ pub fn run(
     let mut stage = g;
     let mut i: usize = 0;
     let mut j: usize = 0;
-    let mut k: usize = 0;
-    while k < n {
+    for k in 0..n {
         let q = pieces_units::unit_at(form, held, count, piece, k);
         let r = pieces_turn::turn(u, slots, stage, q, items, refusals, i, j);
-        let next = r.stage;
-        stage = next;
+        stage = r.stage;
         i = r.items;
         j = r.refusals;
-        k = k + 1;
     }
     Ran {
         stage,

@@ -1,36 +1,34 @@
--- Slots that are cleared one by one, and the definitions case by case, as the code's answers cite them. Assumes nothing.
-use Prim.Native.Nat.{ℕ, suc, ◌+◌, ◌-◌, ◌≤◌, ◌<◌}
+-- The definitions case by case, as the code's answers cite them. Assumes nothing.
+use Prim.Native.Nat.{ℕ, ◌+◌, ◌-◌, ◌≤◌, ◌<◌}
 use mathlib.Core.Path.{◌≡◌, refl, sym, ap, ◌∙◌}
 use mathlib.Core.Bool.{Bool, true, false}
-use mathlib.Core.List.{List, [], ◌∷◌, ◌++◌}
+use mathlib.Core.List.{List, ◌++◌}
 use native.Mathlib.Omega.{arith}
-use native.Mathlib.Numerals.{add-one}
-use lib.Dec.{ltb, eqb}
-use lib.ListN.{length, get_or, set, take, drop, replicate, replicate-append-replicate}
-use lib.Seq.{take-suc-set, drop-set-lt}
+use lib.Dec.{ltb}
+use lib.ListN.{length, get_or, take, drop, replicate}
+use lib.Seq.{take-append_seam, drop-append_seam, length-take-le}
 use borrow.Author.Tests.{lt-ltb, le-ltb, eq-eqb, ne_eqb}
-use Rattle.base.specs.Pick.{pick}
 use Rattle.format.specs.Judging.{max_depth}
 use Rattle.walk_state.specs.declared.Place.{Place}
 use Rattle.walk_state.specs.Lent.{walk_at}
 use Rattle.walk_state.proofs.Lent.{slot_at}
-use Rattle.pieces.specs.declared.Phase.{Phase}
 use Rattle.pieces.specs.declared.Phase.TheVariants as P
-use Rattle.pieces.specs.declared.Progress.{Progress}
 use Rattle.pieces.specs.Headers.{endless, room_of}
-use Rattle.pieces.specs.Steps.{clear, end_of, made, refused, settled, is_whole_by, is_whole}
+use Rattle.pieces.specs.Steps.{end_of, refused, settled, is_whole_by, is_whole}
 use Rattle.pieces_stage.specs.declared.Stage.{Stage}
 use Rattle.pieces_stage.specs.Stages.{progress_at, Becomes, Cleared, made_stage, whole_stage}
 
 -- ---- the slots
 
-pub clearing-more : (k : ℕ) (l : List ℕ) → k < length l → take k l ≡ replicate k 0 → take (k + 1) (set l k 0) ≡ replicate (k + 1) 0
-clearing-more k l h e =
-    ap (λ (n : ℕ). take n (set l k 0)) (add-one k) ∙ take-suc-set l k 0 h ∙ ap (λ (x : List ℕ). x ++ (0 ∷ [])) e
-    ∙ replicate-append-replicate k 1 0
+fronted : (f d : List ℕ) (m : ℕ) → m ≡ length f → (take m (f ++ d) ≡ f) × (drop m (f ++ d) ≡ d)
+fronted f d m e = rw e (take-append_seam f d, drop-append_seam f d)
 
-pub clearing-behind : (k : ℕ) (l l₀ : List ℕ) → k < max_depth → drop max_depth l ≡ drop max_depth l₀ → drop max_depth (set l k 0) ≡ drop max_depth l₀
-clearing-behind k l l₀ h e = drop-set-lt max_depth l k 0 h ∙ e
+pub cleared : (l f : List ℕ) → max_depth ≤ length l → length f ≡ length (take max_depth l) → f ≡ replicate (length (take max_depth l)) 0
+    → Cleared l (f ++ drop max_depth l)
+cleared l f h n e =
+    let z : length (take max_depth l) ≡ max_depth = length-take-le max_depth l h in
+    let t = fronted f (drop max_depth l) max_depth (sym (n ∙ z)) in
+    record { slots = t.0 ∙ e ∙ ap (λ k. replicate k 0) z; behind = t.1 }
 
 -- ---- questions to the walk's place
 
@@ -40,12 +38,9 @@ module _ (slots : List ℕ) (p : Place) where
   room-top e = rw (eq-eqb p.depth 0 e)
 
   module _ (inside : p.depth ≡ 0 → ⊥) (few : p.depth ≤ max_depth) where
-    pub room-inner : get_or slots (p.depth - 1) 0 - p.at ≡ room_of (walk_at slots p)
+    pub room-inner : (r : ℕ) → r ≡ get_or slots (p.depth - 1) 0 - p.at → r ≡ room_of (walk_at slots p)
     unfolding room_of
-    room-inner = rw (ne_eqb p.depth 0 inside, slot_at slots (p.depth - 1) (omega arith))
-
-    pub room-none : get_or slots (p.depth - 1) 0 < p.at → 0 ≡ room_of (walk_at slots p)
-    room-none l = (omega arith) ∙ room-inner
+    room-inner r e = rw (ne_eqb p.depth 0 inside, slot_at slots (p.depth - 1) (omega arith)) e
 
   pub end-top : p.depth ≡ 0 → p.at ≡ end_of (walk_at slots p)
   unfolding end_of
@@ -56,19 +51,6 @@ module _ (slots : List ℕ) (p : Place) where
   end-inner e = rw (ne_eqb p.depth 0 e, slot_at slots 0 (omega arith))
 
 -- ---- one unit more
-
--- none open, at a unit
-abbrev nowhere : ℕ → Place
-nowhere at = record { depth = 0; at = at; first = false; indexed = false }
-
-pub cleared-becomes : (before after : List ℕ) (g : Stage) (end n i : ℕ) → Cleared before after
-    → Becomes before after (made_stage g (nowhere end) false 0 false n i) (made (progress_at before g) (clear end) false 0 false n i)
-cleared-becomes before after g end n i c = record { state = rw c.slots; behind = c.behind }
-
-pub refused-becomes : (before after : List ℕ) (g r : Stage) (w : Place) (end n i : ℕ) → end ≡ end_of (walk_at before w)
-    → Becomes before after r (made (progress_at before g) (clear end) false 0 false n i)
-    → Becomes before after r (refused (progress_at before g) (walk_at before w) n i)
-refused-becomes before after g r w end n i e b = record { state = b.state ∙ rw e; behind = b.behind }
 
 module _ (slots : List ℕ) (g r : Stage) (w : Place) (lead : ℕ) (text : Bool) (n i : ℕ) where
   pub settled_on : g.read + 1 < w.at → r ≡ made_stage g w true lead text n i

@@ -49,8 +49,7 @@ pub fn room_of(slots: &[usize], p: Place) -> usize
     if slots.len() < MAX_DEPTH {
         return 0;
     }
-    let end = slots[depth - 1];
-    if end < p.at { 0 } else { end - p.at }
+    slots[depth - 1].saturating_sub(p.at)
 }
 
 // Where the top-level item ends that the walk stands in, or behind.
@@ -90,11 +89,7 @@ fn clear(slots: &mut [usize])
     requires { max_depth ≤ length slots.old }
     ensures { Cleared slots.old slots.new }
 {
-    let mut k = 0;
-    while k < MAX_DEPTH {
-        slots[k] = 0;
-        k = k + 1;
-    }
+    slots[..MAX_DEPTH].fill(0);
 }
 
 // Refused: none open, at the top-level item's end.

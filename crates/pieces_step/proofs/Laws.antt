@@ -1,12 +1,13 @@
 -- A header's sextets as arrays hold them, and the definitions case by case, as the code's answers cite them. Assumes nothing.
-use Prim.Native.Nat.{ℕ, suc, ◌+◌, ◌-◌, ◌*◌, ◌≤◌, ◌<◌}
-use mathlib.Core.Path.{◌≡◌, refl, sym, ap, ◌∙◌, subst}
+use Prim.Native.Nat.{ℕ, ◌+◌, ◌-◌, ◌*◌, ◌≤◌, ◌<◌}
+use mathlib.Core.Path.{◌≡◌, refl, sym, ap, ap₂, ◌∙◌, subst}
 use mathlib.Core.Bool.{Bool, true, false}
 use mathlib.Core.List.{List, [], ◌∷◌, ◌++◌}
 use native.Mathlib.Omega.{arith}
 use lib.Dec.{ltb, eqb}
-use lib.ListN.{length, get_or, take, drop, length-append, get_or-eq_default}
+use lib.ListN.{length, get_or, length-append, get_or-eq_default}
 use mathlib.Core.Logic.{⊎_elim}
+use borrow.Rule.Slice.PartMut.{put_mid}
 use borrow.Author.Tests.{lt-ltb, le-ltb, eq-eqb, ne_eqb, eqb-false}
 use Rattle.base.specs.Cases.{lt-or-ge}
 use Rattle.base.specs.Pick.{pick, pick-by}
@@ -45,7 +46,7 @@ use Rattle.pieces.specs.declared.Phase.TheVariants as P
 use Rattle.pieces.specs.Headers.{is_long, room_of, asks7, framed_by, group_number, head_number, lead_of, opens_text, value_number}
 use Rattle.pieces.specs.Steps.{refused, settled, headed, at_first, at_second, valued, passed, step_by, unit_step}
 use Rattle.pieces_headers.specs.Headers.{opens, Opened, long-made}
-use Rattle.pieces_headers.specs.Wide.{framed, framed-opened}
+use Rattle.pieces_headers.specs.Wide.{framed-opened}
 use Rattle.pieces_fit.specs.Sound.{Placed, header-placed}
 use Rattle.pieces_inside.specs.Ends.{scan-refused}
 use Rattle.pieces_inside.specs.Inside.{group-open}
@@ -55,16 +56,17 @@ use Rattle.pieces_step.specs.Ready.{Ready, Bounded, Near}
 
 -- ---- heads
 
-pub one-head : (q : List ℕ) → length q ≡ 4 → get_or q 0 0 ∷ get_or q 1 0 ∷ get_or q 2 0 ∷ get_or q 3 0 ∷ 0 ∷ 0 ∷ 0 ∷ 0 ∷ 0 ∷ 0 ∷ 0 ∷ 0 ∷ [] ≡ head_of q
-unfolding head_of
-one-head q e = sym (ap head_of (list4 q e))
+abbrev zeros8 : List ℕ
+zeros8 = 0 ∷ 0 ∷ 0 ∷ 0 ∷ 0 ∷ 0 ∷ 0 ∷ 0 ∷ []
 
-pub two-head : (p q : List ℕ) → length p ≡ 4 → length q ≡ 4
-    → get_or p 0 0 ∷ get_or p 1 0 ∷ get_or p 2 0 ∷ get_or p 3 0 ∷ get_or q 0 0 ∷ get_or q 1 0 ∷ get_or q 2 0 ∷ get_or q 3 0 ∷ 0 ∷ 0 ∷ 0 ∷ 0 ∷ [] ≡ head_of (p ++ q)
+pub one-head : (q : List ℕ) → length q ≡ 4 → q ++ zeros8 ≡ head_of q
+unfolding head_of
+one-head q e = ap (λ x. x ++ zeros8) (list4 q e) ∙ sym (ap head_of (list4 q e))
+
+pub two-head : (p q : List ℕ) → length p ≡ 4 → length q ≡ 4 → put_mid 4 4 (p ++ zeros8) q ≡ head_of (p ++ q)
 unfolding head_of
 two-head p q e f =
-    sym (ap (λ (x : List ℕ). head_of (x ++ q)) (list4 p e)
-    ∙ ap (λ (x : List ℕ). head_of (get_or p 0 0 ∷ get_or p 1 0 ∷ get_or p 2 0 ∷ get_or p 3 0 ∷ x)) (list4 q f))
+    ap₂ (λ x y. put_mid 4 4 (x ++ zeros8) y) (list4 p e) (list4 q f) ∙ sym (ap₂ (λ (x y : List ℕ). head_of (x ++ y)) (list4 p e) (list4 q f))
 
 -- ---- the unit behind a header
 
@@ -166,12 +168,6 @@ pub leads-on : (before after : List ℕ) (w next : Place) (k : Kind) (h n : ℕ)
     → Moves before after next (next_of (walk_at before w) k h n)
 leads-on before after w next k h n opens mark indexed few s eo em ei m = leads (walk_at before w) k h n few s eo em ei m
 
-pub settled-by : (before after : List ℕ) (g r : Stage) (next : Place) (k : Kind) (h : ℕ) (cs : List ℕ) (place lead : ℕ) (text : Bool) (number : ℕ)
-    → lead ≡ lead_of k → text ≡ opens_text k → number ≡ head_number k h cs
-    → Becomes before after r (settled (progress_at before g) (walk_at before next) lead text number place)
-    → Becomes before after r (settled (progress_at before g) (walk_at before next) (lead_of k) (opens_text k) (head_number k h cs) place)
-settled-by before after g r next k h cs place lead text number el et en b = rw (← el, ← et, ← en) b
-
 pub headed-none : (slots : List ℕ) (g r : Stage) (cs : List ℕ) (f : Framed) (number i : ℕ) → f ≡ Unframed number i → g.walk.depth ≡ 0
     → r ≡ unframed_stage g number → Becomes slots slots r (headed (progress_at slots g) cs f)
 unfolding headed
@@ -186,12 +182,6 @@ headed-inner slots after g r cs f number i e z b = record { state = b.state ∙ 
 pub headed-framed : (slots after : List ℕ) (g r : Stage) (cs : List ℕ) (f : Framed) (k : Kind) (h n : ℕ) → f ≡ Item k h n
     → Becomes slots after r (headed (progress_at slots g) cs (Item k h n)) → Becomes slots after r (headed (progress_at slots g) cs f)
 headed-framed slots after g r cs f k h n e b = rw e b
-
-pub near-place : (f : Framed) (number i : ℕ) → f ≡ Unframed number i → Near f → i ≤ 7
-near-place f number i e n = subst Near e n
-
-pub near-size : (f : Framed) (k : Kind) (h n : ℕ) → f ≡ Item k h n → Near f → (h ≤ n) × (n ≤ far)
-near-size f k h n e m = subst Near e m
 
 -- ---- a header is judged by its sextets alone
 

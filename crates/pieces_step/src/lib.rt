@@ -29,22 +29,21 @@ const FAR: usize = 2147483648;
 fn one_head(q: [u8; 4]) -> [u8; 12]
     ensures { result ≡ head_of q }
 {
-    [q[0], q[1], q[2], q[3], 0, 0, 0, 0, 0, 0, 0, 0]
+    let mut cs = [0; 12];
+    cs[..4].copy_from_slice(&q);
+    cs
 }
 
 fn two_head(a: [u8; 4], q: [u8; 4]) -> [u8; 12]
     ensures { (result ≡ head_of (a ++ q)) × (length a ≡ 4) }
 {
-    [a[0], a[1], a[2], a[3], q[0], q[1], q[2], q[3], 0, 0, 0, 0]
+    let mut cs = [0; 12];
+    cs[..4].copy_from_slice(&a);
+    cs[4..8].copy_from_slice(&q);
+    cs
 }
 
 // ---- the unit behind a header
-
-fn wide(x: u8) -> u32
-    ensures { result ≡ x }
-{
-    x as u32
-}
 
 // 8, 16, where the header gave no number.
 fn value_number(number: u8, lead: u8, text: bool, q: [u8; 4]) -> u8
@@ -55,7 +54,7 @@ fn value_number(number: u8, lead: u8, text: bool, q: [u8; 4]) -> u8
         return number;
     }
     let cs = one_head(q);
-    if !judging_bits::zero_bits(cs, 0, 8 * wide(lead)) {
+    if !judging_bits::zero_bits(cs, 0, 8 * u32::from(lead)) {
         return 8;
     }
     if !text {

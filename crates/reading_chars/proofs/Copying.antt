@@ -1,9 +1,9 @@
 -- The characters of a binary from one of them on, which may stand within a unit: what is copied out. Assumes nothing.
-use mathlib.Core.Path.{◌≡◌, refl, sym, ap, ◌∙◌}
+use mathlib.Core.Path.{◌≡◌, sym, ap, ◌∙◌}
 use mathlib.Core.List.{List, [], ◌++◌, append-nil, append_assoc}
 use Prim.Native.Nat.{ℕ, ◌+◌, ◌-◌, ◌*◌, ◌/◌, ◌%◌, ◌<◌, ◌≤◌}
 use native.Mathlib.Omega.{arith}
-use lib.ListN.{length, take, drop, length-drop, length-append, drop_of_length-le}
+use lib.ListN.{length, take, drop, length-drop, drop_of_length-le}
 use lib.Seq.{take_at, drop_at, drop-drop, drop-append-le, length-take-le, take_all}
 use Rattle.base.specs.Each.{each}
 use Rattle.format.specs.declared.ToText.{ToText}
@@ -72,15 +72,6 @@ module _ (b d : List ℕ) (k r : ℕ) (few : r < 4) (there : k * 3 + 3 ≤ lengt
         (rw (to_end b (k * 3 + 3), to_end d₁ (4 - r), rest) at a) (rw (to_end b (k * 3 + 3), to_end d₁ (4 - r), rest) at c) in
         let z : 4 - r + (length b - (k * 3 + 3)) / 3 * 4 ≡ length b / 3 * 4 - (k * 4 + r) = omega arith in
         rw (front, none, append-nil, v, l, drop-drop ((length b - (k * 3 + 3)) / 3 * 4) (4 - r) d, z, within-unit b k r there (omega arith), ← e, append_assoc)
-
--- a unit's last characters, as they are lent and copied
-pub put_last : (u q d : List ℕ) (r : ℕ) → r < 4 → q ≡ quadlet_of u → (d' : List ℕ)
-    → d' ≡ take (length (take (4 - r) (drop r q))) (take (4 - r) (drop r q)) ++ drop (length (take (4 - r) (drop r q))) d
-    → d' ≡ drop r (quadlet_of u) ++ drop (4 - r) d
-put_last u q d r few e d' p =
-    let l : length (drop r q) ≡ 4 - r = length-drop r q ∙ omega (arith, ap length e ∙ quadlet-size u) in
-    let t : take (4 - r) (drop r q) ≡ drop r q = take_all (4 - r) (drop r q) (omega arith) in
-    p ∙ rw (t, l, t, e)
 
 -- from past the end on there is nothing
 pub none_left : (b d : List ℕ) (start : ℕ) → length b / 3 * 4 ≤ start → d ≡ chars_into b start d

@@ -23,7 +23,7 @@ fn put_unit(item: &[u8], at: usize, within: usize, out: &mut [u8])
     ensures { out.new ≡ drop within (quadlet_of (take 3 (drop at item.now))) ++ drop (4 - within) out.old }
 {
     let q = quadlet_at(item, at);
-    copying::copy(&q[within..], out);
+    out[..4 - within].copy_from_slice(&q[within..]);
 }
 
 // The last characters of a unit, and the units behind it.

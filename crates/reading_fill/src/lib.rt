@@ -2,23 +2,10 @@
 // gives: two header units and 1,048,576 units at most.
 #![tactic(auto)]
 
-ghost use Rattle.std.specs.Prelude.{◌≡◌, ◌-◌, ◌*◌, ◌<◌, ◌≤◌, min};
+ghost use Rattle.std.specs.Prelude.{◌≡◌, ◌-◌, ◌*◌, ◌≤◌};
 ghost use Rattle.reading_fill.specs.Texts.{fill_by, text_start};
 
 use format::{Kind, TextOffset};
-use widening::wide;
-
-fn left(total: usize, start: usize) -> usize
-    ensures { result ≡ total - start }
-{
-    if start <= total { total - start } else { 0 }
-}
-
-fn at_most(x: usize, most: usize) -> usize
-    ensures { result ≡ min x most }
-{
-    if x < most { x } else { most }
-}
 
 // How many `A` stand in front of it: "take off one `A` if there is one", two or three.
 fn fill_of(lead: u8, first: u8) -> usize
@@ -27,14 +14,14 @@ fn fill_of(lead: u8, first: u8) -> usize
     if lead == 0 {
         return if first == 0 { 1 } else { 0 };
     }
-    wide(lead) + 1
+    usize::from(lead) + 1
 }
 
 // Where the text starts, in characters of the item's text form: behind n units, at the item's end, where there is none.
 pub fn text_start(kind: Kind, h: usize, n: usize, cs: [u8; 12]) -> TextOffset
     ensures { h ≤ 2 → n ≤ 1048576 → result.0 ≡ text_start kind h n cs }
 {
-    let end = 4 * at_most(n, 1048576);
+    let end = 4 * n.min(1048576);
     match kind {
         Kind::Fixed(_) => TextOffset(end),
         Kind::Variable {
@@ -43,7 +30,7 @@ pub fn text_start(kind: Kind, h: usize, n: usize, cs: [u8; 12]) -> TextOffset
             count: _,
         } => {
             if letter == 0 {
-                let i = 4 * at_most(h, 2);
+                let i = 4 * h.min(2);
                 return TextOffset(i + fill_of(lead, cs[i]));
             }
             TextOffset(end)
@@ -58,5 +45,5 @@ pub fn text_start(kind: Kind, h: usize, n: usize, cs: [u8; 12]) -> TextOffset
 pub fn text_size(n: usize, start: TextOffset) -> usize
     ensures { n ≤ 1048576 → result ≡ 4 * n - start.0 }
 {
-    left(4 * at_most(n, 1048576), start.0)
+    (4 * n.min(1048576)).saturating_sub(start.0)
 }

@@ -2,13 +2,12 @@
 // at. What is said holds of what framing gives: two header units and 1,048,576 units at most, and a variable value that ends with the item.
 #![tactic(auto)]
 
-ghost use Rattle.std.specs.Prelude.{◌≡◌, ◌-◌, ◌<◌, ◌≤◌, min};
+ghost use Rattle.std.specs.Prelude.{◌≡◌, ◌≤◌};
 ghost use Rattle.format.specs.Values.{raw_start};
 ghost use Rattle.format.specs.Reading.{code_of, is_primitive, tags_of, primitive_of};
 ghost use Rattle.laws.specs.Framing.{Shaped};
 
 use format::{BinaryOffset, Code, Kind, Primitive};
-use widening::wide;
 
 pub fn is_primitive(kind: Kind) -> bool
     ensures { result ≡ is_primitive kind }
@@ -70,10 +69,7 @@ fn tags_of(kind: Kind) -> usize
     ensures { result ≡ tags_of kind }
 {
     match kind {
-        Kind::Fixed(c) => {
-            let tag = c.tag;
-            wide(tag)
-        }
+        Kind::Fixed(c) => usize::from(c.tag),
         Kind::Variable {
             letter: _,
             lead: _,
@@ -100,7 +96,7 @@ fn raw_start(kind: Kind, h: usize, n: usize) -> BinaryOffset
             if letter == 0 {
                 return BinaryOffset(3 * n);
             }
-            BinaryOffset(3 * h + wide(lead))
+            BinaryOffset(3 * h + usize::from(lead))
         }
         Kind::Group { letter: _ } => BinaryOffset(3 * h),
         Kind::Genus => BinaryOffset(3 * h),
@@ -108,26 +104,14 @@ fn raw_start(kind: Kind, h: usize, n: usize) -> BinaryOffset
     }
 }
 
-fn left(total: usize, start: usize) -> usize
-    ensures { result ≡ total - start }
-{
-    if start <= total { total - start } else { 0 }
-}
-
-fn at_most(x: usize, most: usize) -> usize
-    ensures { result ≡ min x most }
-{
-    if x < most { x } else { most }
-}
-
 // A primitive of n units with h header units, and a text of so many characters; no more units are counted than framing gives.
 pub fn primitive_of(kind: Kind, h: usize, n: usize, text: usize) -> Primitive
     ensures { h ≤ 2 → n ≤ 1048576 → Shaped kind h n → result ≡ primitive_of kind h n text }
 {
-    let few = at_most(h, 2);
-    let units = at_most(n, 1048576);
+    let few = h.min(2);
+    let units = n.min(1048576);
     let start = raw_start(kind, few, units);
-    let raw = left(3 * units, start.0);
+    let raw = (3 * units).saturating_sub(start.0);
     let code = code_of(kind, h);
     let tags = tags_of(kind);
     Primitive {

@@ -6,20 +6,16 @@ ghost use Rattle.format.specs.declared.Kind.TheVariants as Kind;
 ghost use Rattle.format.specs.Values.{raw_start};
 
 use format::{BinaryOffset, CodeRow, IndexRow, TextOffset};
-use widening::wide;
 
 // Where a row's raw value starts, in the item's binary form.
 pub fn fixed_start(c: CodeRow) -> BinaryOffset
     ensures { (result.0 ≡ raw_start (Kind.Fixed c) 1) × (result.0 < 1000) }
 {
-    let chars = c.chars;
-    let pad = c.pad;
-    let lead = c.lead;
-    let size = c.size;
     if c.tag == 0 {
-        BinaryOffset((6 * wide(chars) + (2 * wide(pad) + 8 * wide(lead))) / 8)
+        let zeros = 2 * usize::from(c.pad) + 8 * usize::from(c.lead);
+        BinaryOffset((6 * usize::from(c.chars) + zeros) / 8)
     } else {
-        offsets::in_binary(TextOffset(wide(size)))
+        offsets::in_binary(TextOffset(usize::from(c.size)))
     }
 }
 
@@ -27,9 +23,6 @@ pub fn fixed_start(c: CodeRow) -> BinaryOffset
 pub fn indexed_start(c: IndexRow) -> BinaryOffset
     ensures { (result.0 ≡ raw_start (Kind.Indexed c) 1) × (result.0 < 1000) }
 {
-    let chars = c.chars;
-    let index = c.index;
-    let ondex = c.ondex;
-    let zeros = c.zeros;
-    BinaryOffset((6 * (wide(chars) + wide(index) + wide(ondex)) + wide(zeros)) / 8)
+    let chars = usize::from(c.chars) + usize::from(c.index) + usize::from(c.ondex);
+    BinaryOffset((6 * chars + usize::from(c.zeros)) / 8)
 }

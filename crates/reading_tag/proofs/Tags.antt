@@ -21,13 +21,13 @@ pub tag-start : (cs : List ℕ) (start : ℕ) → 0 ∷ 0 ∷ 0 ∷ 0 ∷ 0 ∷ 
 unfolding tag_from
 tag-start cs start = refl
 
-pub tag-more : (cs tag : List ℕ) (start i : ℕ) → i < 11 → start + i < length cs → tag ≡ tag_from cs start i
-    → set tag i (char_of (get_or cs (start + i) 0)) ≡ tag_from cs start (i + 1)
+pub tag-more : (cs tag : List ℕ) (start i v : ℕ) → i < 11 → start + i < length cs → tag ≡ tag_from cs start i
+    → v ≡ char_of (get_or cs (start + i) 0) → set tag i v ≡ tag_from cs start (i + 1)
 unfolding tag_from
-tag-more cs tag start i h l e =
+tag-more cs tag start i v h l e is =
     let p : length (map char_of (take i (drop start cs))) ≡ i = length-map (take i (drop start cs)) char_of ∙ length-take-le i (drop start cs) (omega (arith, length-drop start cs)) in
     let z : 11 - i ≡ suc (11 - (i + 1)) = omega arith in
-    rw (e, z, set_at (map char_of (take i (drop start cs))) 0 (replicate (11 - (i + 1)) 0) (char_of (get_or cs (start + i) 0)) i p)
+    rw (is, e, z, set_at (map char_of (take i (drop start cs))) 0 (replicate (11 - (i + 1)) 0) (char_of (get_or cs (start + i) 0)) i p)
     (rw (add-one i, take-suc (drop start cs) i 0 (omega (arith, length-drop start cs)), map-join char_of (take i (drop start cs)), append_assoc, get_or-drop start cs i 0))
 
 -- ---- those of a row

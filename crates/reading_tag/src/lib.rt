@@ -1,31 +1,21 @@
 // The tag characters of a framed primitive, by its first sextets. What is said holds of a row whose tag characters end with the item.
 #![tactic(auto)]
 
-ghost use Rattle.std.specs.Prelude.{◌≡◌, ◌+◌, ◌-◌, ◌<◌, ◌≤◌};
+ghost use Rattle.std.specs.Prelude.{◌≡◌, ◌+◌, ◌≤◌};
 ghost use Rattle.format.specs.declared.Kind.TheVariants as Kind;
 ghost use Rattle.format.specs.Values.{tag_of};
 ghost use Rattle.format.specs.Reading.{padded};
 ghost use Rattle.reading_tag.specs.Tags.{tag_from, Taggable};
 
 use format::{CodeRow, Kind};
-use widening::wide;
-
-fn left(total: usize, start: usize) -> usize
-    ensures { result ≡ total - start }
-{
-    if start <= total { total - start } else { 0 }
-}
-
 // Those from a place of the first sextets on, and then zeros.
 fn tag_from(cs: [u8; 12], start: usize, count: usize) -> [u8; 11]
     requires { (start + count ≤ 12) × (count ≤ 11) }
     ensures { result ≡ tag_from cs start count }
 {
     let mut tag = [0u8; 11];
-    let mut i = 0;
-    while i < count {
+    for i in 0..count {
         tag[i] = alphabet::character(cs[start + i]);
-        i += 1;
     }
     tag
 }
@@ -34,11 +24,11 @@ fn tag_from(cs: [u8; 12], start: usize, count: usize) -> [u8; 11]
 fn row_tag(c: CodeRow, cs: [u8; 12]) -> [u8; 11]
     ensures { Taggable (Kind.Fixed c) → result ≡ padded (tag_of (Kind.Fixed c) cs) }
 {
-    let tag = wide(c.tag);
+    let tag = usize::from(c.tag);
     if tag == 0 {
         return [0; 11];
     }
-    let start = left(wide(c.size), tag);
+    let start = usize::from(c.size).saturating_sub(tag);
     if 11 < tag {
         return [0; 11];
     }

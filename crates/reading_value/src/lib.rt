@@ -20,5 +20,5 @@ pub fn copy_value(item: &[u8], start: BinaryOffset, raw: usize, text: usize, out
     }
     reading_raw::copy_raw(item, start, out);
     let from = item.len() - text;
-    copying::copy(&item[from..], &mut out[raw..]);
+    out[raw..raw + text].copy_from_slice(&item[from..]);
 }

@@ -31,7 +31,7 @@ pub fn wide(x: u8) -> usize
 pub fn number(high: u8, low: u8) -> usize
     ensures { result < 65536 }
 {
-    wide(high) * 256 + wide(low)
+    usize::from(u16::from_be_bytes([high, low]))
 }
 
 fn show_byte(stdout: Stdout, b: u8) {
@@ -40,10 +40,8 @@ fn show_byte(stdout: Stdout, b: u8) {
 
 pub fn show_bytes(stdout: Stdout, s: &[u8]) {
     let _ = print!(stdout; " ");
-    let mut i = 0;
-    while i < s.len() {
-        show_byte(stdout, s[i]);
-        i += 1;
+    for b in s {
+        show_byte(stdout, *b);
     }
 }
 
@@ -52,17 +50,15 @@ pub fn show_number(stdout: Stdout, n: usize) {
 }
 
 pub fn show_numbers(stdout: Stdout, s: &[usize]) {
-    let mut i = 0;
-    while i < s.len() {
-        show_number(stdout, s[i]);
-        i += 1;
+    for n in s {
+        show_number(stdout, *n);
     }
 }
 
 // The call, the number (0: accepted), the length or place.
 pub fn show_answer(stdout: Stdout, call: u8, number: u8, value: usize) {
     let _ = print!(stdout; "{call}");
-    show_number(stdout, wide(number));
+    show_number(stdout, usize::from(number));
     show_number(stdout, value);
 }
 

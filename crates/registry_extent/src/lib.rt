@@ -5,16 +5,16 @@ ghost use Rattle.std.specs.Prelude.{◌≡◌, ◌+◌, ◌*◌, ◌<◌, get_or
 ghost use Rattle.format.specs.Registry.{extent};
 
 use format::Opening;
-use widening::wide;
 
 // The number that the second unit's four sextets stand for.
 pub fn number(u: [u8; 4]) -> usize
     ensures { (result ≡ ((get_or u 0 0 * 64 + get_or u 1 0) * 64 + get_or u 2 0) * 64 + get_or u 3 0) × (result < 100000000) }
 {
-    ((wide(u[0]) * 64 + wide(u[1])) * 64 + wide(u[2])) * 64 + wide(u[3])
+    ((usize::from(u[0]) * 64 + usize::from(u[1])) * 64 + usize::from(u[2])) * 64 + usize::from(u[3])
 }
 
 // The item's full size in units, the second unit's sextets given. A size is computed in 64 bits and cannot wrap.
+#[tactic(auto, unfolding(format::specs::Registry::extent))]
 pub fn extent(op: Opening, second: [u8; 4]) -> usize
     ensures { result ≡ extent op (((get_or second 0 0 * 64 + get_or second 1 0) * 64 + get_or second 2 0) * 64 + get_or second 3 0) }
 {
@@ -24,8 +24,7 @@ pub fn extent(op: Opening, second: [u8; 4]) -> usize
         Opening::Long { kind: _, size } => size,
         Opening::LargeVariable { letter: _, lead: _ } => 2 + number(second),
         Opening::LargeGroup { letter: _, digit } => {
-            let high = wide(digit);
-            2 + (high * 16777216 + number(second))
+            2 + (usize::from(digit) * 16777216 + number(second))
         }
         Opening::Version => 2,
     }

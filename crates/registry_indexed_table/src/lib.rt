@@ -6,7 +6,6 @@ ghost use Rattle.format.specs.Registry.{indexed_row, indexed_by};
 ghost use Rattle.registry_indexed_table.specs.Places.{row_at, indexed_from};
 
 use format::{IndexRow, Kind, Opening};
-use widening::wide;
 
 // `A` to `D`, `0A` and `0B`, `2A` to `2D`, `3A` and `3B`, in that order.
 const ROWS: [IndexRow; 12] = [
@@ -141,6 +140,7 @@ fn row_at(k: usize) -> IndexRow
 }
 
 // A row's opening: selectors `2` and `3` have a header of two units.
+#[tactic(auto, unfolding(format::specs::Registry::indexed_row, format::specs::Registry::index_head))]
 fn row_opening(row: IndexRow) -> Opening
     ensures { result ≡ indexed_row row }
 {
@@ -148,23 +148,24 @@ fn row_opening(row: IndexRow) -> Opening
     if row.selector < 54 {
         Opening::Short {
             kind: Kind::Indexed(row),
-            size: wide(size / 4),
+            size: usize::from(size / 4),
         }
     } else {
         Opening::Long {
             kind: Kind::Indexed(row),
-            size: wide(size / 4),
+            size: usize::from(size / 4),
         }
     }
 }
 
 // The code of a letter among so many rows of the table, whose letters run from A on.
+#[tactic(auto, unfolding(crate::specs::Places::indexed_from))]
 fn indexed_from(from: usize, count: u8, letter: u8) -> Opening
     requires { from + count ≤ 12 }
     ensures { result ≡ indexed_from from count letter }
 {
     if letter < count {
-        row_opening(row_at(from + wide(letter)))
+        row_opening(row_at(from + usize::from(letter)))
     } else {
         Opening::Unknown
     }

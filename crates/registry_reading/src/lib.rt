@@ -46,7 +46,7 @@ pub fn zero_bits(c: CodeRow) -> usize
     ensures { result ≡ zero_bits_of c }
 {
     if c.tag == 0 {
-        return 2 * (c.pad as usize) + 8 * (c.lead as usize);
+        return 2 * usize::from(c.pad) + 8 * usize::from(c.lead);
     }
     0
 }
@@ -58,7 +58,6 @@ pub fn prepad(c: CodeRow) -> usize
     if c.tag == 0 {
         return 0;
     }
-    let used = c.chars as usize + c.tag as usize;
-    let full = c.size as usize;
-    if used < full { full - used } else { 0 }
+    let used = usize::from(c.chars) + usize::from(c.tag);
+    usize::from(c.size).saturating_sub(used)
 }

@@ -6,7 +6,6 @@ ghost use Rattle.format.specs.Registry.{fixed};
 ghost use Rattle.registry_table.specs.Places.{row_at, fixed_from};
 
 use format::{CodeRow, Kind, Opening};
-use widening::wide;
 
 // `A` to `Z` and `a`, `0A` to `0O`, `1AAA` to `1AAP`, in that order.
 const ROWS: [CodeRow; 58] = [
@@ -485,16 +484,17 @@ fn row_at(k: usize) -> CodeRow
 }
 
 // The code of a letter among so many rows of the table, whose letters run from A on.
+#[tactic(auto, unfolding(crate::specs::Places::fixed_from))]
 fn fixed_from(from: usize, count: u8, letter: u8) -> Opening
     requires { from + count ≤ 58 }
     ensures { result ≡ fixed_from from count letter }
 {
     if letter < count {
-        let row = row_at(from + wide(letter));
+        let row = row_at(from + usize::from(letter));
         let size = row.size;
         Opening::Short {
             kind: Kind::Fixed(row),
-            size: wide(size / 4),
+            size: usize::from(size / 4),
         }
     } else {
         Opening::Unknown

@@ -6,9 +6,9 @@ ghost use Rattle.format.specs.Registry.{is_type};
 ghost use Rattle.registry_variable.specs.Parts.{small_variable, large_variable};
 
 use format::{Kind, Opening};
-use widening::wide;
 
 // Whether a sextet is a variable type's letter.
+#[tactic(auto, unfolding(format::specs::Registry::is_type))]
 pub fn is_type(t: u8) -> bool
     ensures { result ≡ is_type t }
 {
@@ -16,11 +16,12 @@ pub fn is_type(t: u8) -> bool
 }
 
 // A value of up to 4,095 units, counted in the first unit.
+#[tactic(auto, unfolding(crate::specs::Parts::small_variable))]
 pub fn small_variable(lead: u8, t: u8, c: u8, d: u8) -> Opening
     ensures { result ≡ small_variable lead t c d }
 {
     if is_type(t) {
-        let n = wide(c) * 64 + wide(d);
+        let n = usize::from(c) * 64 + usize::from(d);
         Opening::Short {
             kind: Kind::Variable {
                 letter: t,
@@ -35,6 +36,7 @@ pub fn small_variable(lead: u8, t: u8, c: u8, d: u8) -> Opening
 }
 
 // A longer one, counted in the second.
+#[tactic(auto, unfolding(crate::specs::Parts::large_variable))]
 pub fn large_variable(lead: u8, b: u8, c: u8, d: u8) -> Opening
     ensures { result ≡ large_variable lead b c d }
 {

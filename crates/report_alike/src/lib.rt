@@ -11,21 +11,16 @@ ghost use Rattle.report_alike.specs.Alike.{is_alike, Alike, Roomy};
 
 use format::Form;
 
-fn wide(x: u8) -> usize
-    ensures { (result ≡ x) × (result < 256) }
-{
-    x as usize
-}
-
 // The value of a character by a table.
 fn value(values: &[u8; 256], s: &[u8], at: usize) -> usize
     requires { at < length s.now }
     ensures { result ≡ get_or values.now (get_or s.now at 0) 0 }
 {
-    wide(values[wide(s[at])])
+    usize::from(values[usize::from(s[at])])
 }
 
 // The same first element, and in a text a second one whose value is below a limit.
+#[tactic(auto, unfolding(crate::specs::Alike::is_alike))]
 fn is_alike(form: Form, values: &[u8; 256], s: &[u8], x: u8, limit: usize, at: usize) -> bool
     requires { at + 1 < length s.now }
     ensures { result ≡ is_alike form values.now s.now x limit at }
@@ -99,12 +94,6 @@ fn store_alike(
     r
 }
 
-fn least(x: usize, y: usize) -> usize
-    ensures { (result ≤ x) × (result ≤ y) }
-{
-    if x < y { x } else { y }
-}
-
 // As many of them as there is room for.
 fn store_most(
     form: Form,
@@ -121,8 +110,8 @@ fn store_most(
     requires { (1 < size) × (size ≤ 4194304) × (from ≤ end) × (end ≤ length s.now) × (at ≤ length out.old) }
     ensures { Alike form values.now s.now x limit size from end result × (out.new ≡ sets out.old at (concat row_bytes (run_of from size result))) }
 {
-    let most = least((out.len() - at) / 9, 4194304);
-    let room = least(end - from, most * size);
+    let most = ((out.len() - at) / 9).min(4194304);
+    let room = (end - from).min(most * size);
     store_alike(form, values, s, x, limit, size, from, from + room, out, at)
 }
 

@@ -88,7 +88,7 @@ fn run_units(form: Form, s: &[u8], whole: bool, at: usize, size: usize, end: usi
 pub fn followers(form: Form, s: &[u8], whole: bool, clean: usize, at: usize, size: usize) -> usize
     ensures { Followers form s.now whole clean at size result }
 {
-    let end = report_first::least(clean, report_units::units(form, s.len()));
+    let end = clean.min(report_units::units(form, s.len()));
     if size == 0 {
         return 0;
     }

@@ -1,24 +1,15 @@
 -- Laws of the stores' code. Assumes nothing.
-use Prim.Native.Nat.{ℕ, ◌+◌, ◌-◌, ◌≤◌, ◌<◌}
-use mathlib.Core.Path.{◌≡◌, refl, sym, ap, ◌∙◌}
+use Prim.Native.Nat.{ℕ, ◌+◌}
+use mathlib.Core.Path.{◌≡◌, refl, sym, ◌∙◌}
 use mathlib.Core.List.{List, [], ◌∷◌, ◌++◌, append-nil}
-use mathlib.Core.Logic.{⊎_elim}
 use native.Mathlib.Omega.{arith}
-use lib.Dec.{leb}
-use lib.ListN.{length, set}
-use lib.Seq.{sets, length-sets}
-use borrow.Author.Tests.{le-leb, lt-leb}
-use Rattle.base.specs.Cases.{lt-or-ge}
+use lib.ListN.{length}
+use lib.Seq.{sets}
 use Rattle.format.specs.declared.Verdict.{Verdict}
 use Rattle.format.specs.declared.Verdict.TheVariants.{Accepted, Refused}
 use Rattle.format.specs.Report.{be4, verdict_byte, refusal_bytes, refusal, concat}
 use Rattle.filling.specs.Stores.{be4-long, sets-append}
-use Rattle.report_rows.specs.Stores.{put, put-fits, none-put}
-
-pub by-rest : (len at n : ℕ) → n ≤ len → leb at (len - n) ≡ leb (at + n) len
-by-rest len at n h =
-    ⊎_elim (λ l. lt-leb at (len - n) l ∙ sym (lt-leb (at + n) len (omega arith))) (λ g. le-leb at (len - n) g ∙ sym (le-leb (at + n) len (omega arith)))
-    (lt-or-ge (len - n) at)
+use Rattle.report_rows.specs.Stores.{put, none-put}
 
 -- ---- an item, accepted or refused
 

@@ -25,10 +25,7 @@ fn store4(out: &mut [u8], at: usize, v: usize)
     requires { at + 4 ≤ length out.old }
     ensures { out.new ≡ sets out.old at (be4 v) }
 {
-    out[at] = (v / 16777216 % 256) as u8;
-    out[at + 1] = (v / 65536 % 256) as u8;
-    out[at + 2] = (v / 256 % 256) as u8;
-    out[at + 3] = (v % 256) as u8;
+    out[at..at + 4].copy_from_slice(&v.to_be_bytes()[4..]);
 }
 
 pub fn put_number(out: &mut [u8], at: usize, v: usize)

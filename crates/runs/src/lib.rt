@@ -6,21 +6,14 @@
 ghost use Rattle.std.specs.Prelude.{◌≡◌, ◌+◌, ◌-◌, ◌*◌, ◌<◌};
 ghost use Rattle.runs.specs.Plain.{row_of, row_aa, typed, not_text, lettered, limited, sized_of, plain_of};
 
-use widening::wide;
-
-fn wide16(x: u16) -> usize
-    ensures { (result ≡ x) × (result < 65536) }
-{
-    x as usize
-}
-
 // The rows of the three lists, by the sextet that tells the code in each; 0 past the list.
+#[tactic(auto, unfolding(crate::specs::Plain::row_of))]
 fn row_of(rows: &[u16; 192], list: usize, x: u8) -> usize
     requires { list < 3 }
     ensures { (result ≡ row_of rows.now list x) × (result < 65536) }
 {
     if x < 64 {
-        return wide16(rows[64 * list + wide(x)]);
+        return usize::from(rows[64 * list + usize::from(x)]);
     }
     0
 }
@@ -33,6 +26,7 @@ pub fn letter_row(rows: &[u16; 192], x: u8) -> usize
 }
 
 // The row of `1AA` and a letter, by what is behind the `1`.
+#[tactic(auto, unfolding(crate::specs::Plain::row_aa))]
 fn row_aa(rows: &[u16; 192], b: u8, c: u8, d: u8) -> usize
     ensures { (result ≡ row_aa rows.now b c d) × (result < 65536) }
 {
@@ -48,10 +42,11 @@ fn row_aa(rows: &[u16; 192], b: u8, c: u8, d: u8) -> usize
 pub fn counted(c: u8, d: u8) -> usize
     ensures { result ≡ 1 + (c * 64 + d) }
 {
-    1 + (wide(c) * 64 + wide(d))
+    1 + (usize::from(c) * 64 + usize::from(d))
 }
 
 // A small variable value, by what is behind the selector.
+#[tactic(auto, unfolding(crate::specs::Plain::typed, format::specs::Registry::is_type))]
 pub fn typed(b: u8, c: u8, d: u8) -> usize
     ensures { result ≡ typed b c d }
 {
@@ -62,6 +57,7 @@ pub fn typed(b: u8, c: u8, d: u8) -> usize
 }
 
 // And of another type than text.
+#[tactic(auto, unfolding(crate::specs::Plain::not_text, format::specs::Registry::is_text))]
 fn not_text(b: u8, c: u8, d: u8) -> usize
     ensures { result ≡ not_text b c d }
 {
@@ -69,6 +65,7 @@ fn not_text(b: u8, c: u8, d: u8) -> usize
 }
 
 // A small group, by what is behind the `-`.
+#[tactic(auto, unfolding(crate::specs::Plain::lettered, format::specs::Registry::is_group))]
 fn lettered(b: u8, c: u8, d: u8) -> usize
     ensures { result ≡ lettered b c d }
 {
@@ -76,6 +73,7 @@ fn lettered(b: u8, c: u8, d: u8) -> usize
 }
 
 // The size in units of an item whose header is the unit, or 0.
+#[tactic(auto, unfolding(crate::specs::Plain::sized_of))]
 pub fn sized(rows: &[u16; 192], a: u8, b: u8, c: u8, d: u8) -> usize
     ensures { result ≡ sized_of rows.now a b c d }
 {
@@ -97,13 +95,19 @@ pub fn sized(rows: &[u16; 192], a: u8, b: u8, c: u8, d: u8) -> usize
     if a == 62 { lettered(b, c, d) } else { 0 }
 }
 
+#[tactic(auto, unfolding(crate::specs::Plain::limited))]
 fn limited(row: usize, x: u8) -> usize
     ensures { result ≡ limited row x }
 {
-    if wide(x) < row / 64 { row % 64 } else { 0 }
+    if usize::from(x) < row / 64 {
+        row % 64
+    } else {
+        0
+    }
 }
 
 // The same of a plain primitive.
+#[tactic(auto, unfolding(crate::specs::Plain::plain_of))]
 pub fn plain(rows: &[u16; 192], a: u8, b: u8, c: u8, d: u8) -> usize
     ensures { result ≡ plain_of rows.now a b c d }
 {
@@ -123,5 +127,5 @@ pub fn plain(rows: &[u16; 192], a: u8, b: u8, c: u8, d: u8) -> usize
 pub fn beyond(x: usize, y: usize) -> usize
     ensures { result ≡ x - y }
 {
-    if y < x { x - y } else { 0 }
+    x.saturating_sub(y)
 }

@@ -9,7 +9,6 @@ use lib.ListN.{length, get_or}
 use borrow.Author.Tests.{lt-ltb, le-ltb}
 use Rattle.base.specs.Pick.{pick}
 use Rattle.format.specs.Units.{binary_sextets}
-use Rattle.format.specs.Framing.{sextet}
 use Rattle.format.specs.Registry.{is_group, is_indexed, is_overrideable}
 use Rattle.laws.specs.Domains.{binary-reader}
 use Rattle.laws.specs.Local.{binary-sextet}
@@ -107,11 +106,6 @@ number-bytes x y z h l = omega arith
 module _ (s : List ℕ) (at : ℕ) where
   pub number-unit : at < length s / 3 → {x y z : ℕ} → UnitBytes s at x y z → (x * 256 + y) * 256 + z ≡ number_at (binary_sextets s) at
   number-unit h b = number-bytes _ _ _ b.second-byte b.third-byte ∙ binary-unit unit_number s at h b
-
-  -- of four sextets of which each rule says what it says of the unit
-  pub binary-valued : {a b c d v r : ℕ} → v ≡ number_at (binary_sextets s) (at + 1)
-      → ((f : ℕ → ℕ → ℕ → ℕ → ℕ) → f a b c d ≡ unit_by f (binary_sextets s) at) → r ≡ valued_of v a b c d → r ≡ valued_at (binary_sextets s) at
-  binary-valued e u w = w ∙ rw e (u (valued_of (number_at (binary_sextets s) (at + 1))))
 
   -- none under `4` `5` `6`
   pub binary-other : at < length s / 3 → Bytes s → (y : Bool) → y ≡ is_selector (get_or s (3 * at) 0 / 4) → y ≡ false → 0 ≡ valued_at (binary_sextets s) at

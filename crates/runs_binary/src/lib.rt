@@ -3,14 +3,12 @@
 // the unit behind it: small variable values.
 #![tactic(auto)]
 
-ghost use Rattle.std.specs.Prelude.{◌≡◌, ℕ, ◌+◌, ◌*◌, ◌/◌, ◌%◌, ◌<◌, length, get_or};
+ghost use Rattle.std.specs.Prelude.{◌≡◌, ℕ, ◌+◌, ◌*◌, ◌/◌, ◌%◌, ◌<◌, length};
 ghost use Rattle.format.specs.Units.{binary_sextets};
 ghost use Rattle.runs.specs.Plain.{sized_at, plain_at, small_at, group_at, signed_at, marks_at, nested_at, unit_by};
 ghost use Rattle.runs_value.specs.Values.{number_at, valued_at};
 ghost use Rattle.runs_indexed.specs.Indexed.{indexed_at};
 ghost use Rattle.runs_binary.specs.Bytes.{UnitBytes};
-
-use widening::wide;
 
 // The second sextet of a unit, and the third.
 fn second(x: u8, y: u8) -> u8
@@ -84,14 +82,7 @@ pub fn indexed_binary(s: &[u8], at: usize) -> usize
     runs_indexed::indexed(u.a, u.b, u.c, u.d)
 }
 
-// A byte of a unit, and the three of the unit at a position.
-fn byte(s: &[u8], i: usize) -> usize
-    requires { i < length s.now }
-    ensures { (result ≡ get_or s.now i 0) × (result < 256) }
-{
-    wide(s[i])
-}
-
+// The three bytes of the unit at a position.
 #[derive(Clone, Copy)]
 struct Triplet {
     x: usize,
@@ -105,9 +96,9 @@ fn bytes(s: &[u8], at: usize) -> Triplet
 {
     let i = 3 * at;
     Triplet {
-        x: byte(s, i),
-        y: byte(s, i + 1),
-        z: byte(s, i + 2),
+        x: usize::from(s[i]),
+        y: usize::from(s[i + 1]),
+        z: usize::from(s[i + 2]),
     }
 }
 
@@ -188,7 +179,7 @@ pub fn signed_binary(s: &[u8], at: usize) -> bool
     if s.len() / 3 <= at {
         return false;
     }
-    runs_open::is_signed(wide(unit(s, at).b))
+    runs_open::is_signed(usize::from(unit(s, at).b))
 }
 
 // Whether 7 is asked of its first item.
@@ -209,14 +200,12 @@ pub fn nested_binary(s: &[u8], at: usize, stop: usize, most: usize) -> usize
     if s.len() / 3 < stop {
         return 0;
     }
-    let all = runs::beyond(stop, at);
-    let low = runs::beyond(all, most);
-    let mut left = all;
-    while low < left {
-        if group_in_binary(s, stop - left) != left {
-            return all - left;
+    let all = stop.saturating_sub(at);
+    let limit = all.min(most);
+    for n in 0..limit {
+        if group_in_binary(s, at + n) != all - n {
+            return n;
         }
-        left = left - 1;
     }
-    all - left
+    limit
 }

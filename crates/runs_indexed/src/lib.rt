@@ -6,6 +6,7 @@ ghost use Rattle.std.specs.Prelude.{◌≡◌};
 ghost use Rattle.runs_indexed.specs.Indexed.{lettered_of, zeroed_of, indexed_of};
 
 // `A` to `D`, whose pad bits are the third sextet's first four.
+#[tactic(auto, unfolding(crate::specs::Indexed::lettered_of))]
 fn lettered(c: u8) -> usize
     ensures { result ≡ lettered_of c }
 {
@@ -13,6 +14,7 @@ fn lettered(c: u8) -> usize
 }
 
 // `0A`, and `0B` with an ondex of 0.
+#[tactic(auto, unfolding(crate::specs::Indexed::zeroed_of))]
 fn zeroed(b: u8, d: u8) -> usize
     ensures { result ≡ zeroed_of b d }
 {
@@ -26,6 +28,7 @@ fn zeroed(b: u8, d: u8) -> usize
 }
 
 // The size in units of an indexed item with a header of one unit, or 0.
+#[tactic(auto, unfolding(crate::specs::Indexed::indexed_of))]
 pub fn indexed(a: u8, b: u8, c: u8, d: u8) -> usize
     ensures { result ≡ indexed_of a b c d }
 {

@@ -6,6 +6,7 @@ ghost use Rattle.std.specs.Prelude.{◌≡◌, ◌/◌, ◌<◌, length};
 ghost use Rattle.runs.specs.Plain.{group_by, class_by, nested_at};
 
 // A small group of a letter up to a class. By the characters themselves, which saves look-ups: 45 is `-`.
+#[tactic(auto, unfolding(runs::specs::Plain::unit_by, runs::specs::Plain::char_group))]
 fn group_in_text(values: &[u8; 256], classes: &[u8; 256], last: u8, s: &[u8], at: usize) -> usize
     requires { at < length s.now / 4 }
     ensures { result ≡ group_by values.now classes.now last s.now at }
@@ -23,6 +24,7 @@ fn group_in_text(values: &[u8; 256], classes: &[u8; 256], last: u8, s: &[u8], at
 }
 
 // The size in units of the small group at a unit, whichever table frames its items, or 0.
+#[tactic(auto, unfolding(runs::specs::Plain::unit_by))]
 pub fn small_text(values: &[u8; 256], classes: &[u8; 256], s: &[u8], at: usize) -> usize
     ensures { result ≡ group_by values.now classes.now 2 s.now at }
 {
@@ -33,6 +35,7 @@ pub fn small_text(values: &[u8; 256], classes: &[u8; 256], s: &[u8], at: usize) 
 }
 
 // Whether the letter of the small group at a unit is of a class.
+#[tactic(auto, unfolding(runs::specs::Plain::class_by))]
 fn is_class(classes: &[u8; 256], class: u8, s: &[u8], at: usize) -> bool
     ensures { result ≡ class_by classes.now class s.now at }
 {
@@ -71,14 +74,12 @@ pub fn nested_text(
     if s.len() / 4 < stop {
         return 0;
     }
-    let all = runs::beyond(stop, at);
-    let low = runs::beyond(all, most);
-    let mut left = all;
-    while low < left {
-        if group_in_text(values, classes, 1, s, stop - left) != left {
-            return all - left;
+    let all = stop.saturating_sub(at);
+    let limit = all.min(most);
+    for n in 0..limit {
+        if group_in_text(values, classes, 1, s, at + n) != all - n {
+            return n;
         }
-        left = left - 1;
     }
-    all - left
+    limit
 }

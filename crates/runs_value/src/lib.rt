@@ -5,16 +5,15 @@
 ghost use Rattle.std.specs.Prelude.{◌≡◌, ◌<◌};
 ghost use Rattle.runs_value.specs.Values.{unit_number, is_selector, text_fits, bytes_fit, unit_fits, value_fits, fitting, valued_of};
 
-use widening::wide;
-
 // A unit as a number.
 pub fn number(a: u8, b: u8, c: u8, d: u8) -> usize
     ensures { result ≡ unit_number a b c d }
 {
-    ((wide(a) * 64 + wide(b)) * 64 + wide(c)) * 64 + wide(d)
+    ((usize::from(a) * 64 + usize::from(b)) * 64 + usize::from(c)) * 64 + usize::from(d)
 }
 
 // `4` `5` `6`.
+#[tactic(auto, unfolding(crate::specs::Values::is_selector))]
 pub fn is_selector(a: u8) -> bool
     ensures { result ≡ is_selector a }
 {
@@ -25,6 +24,7 @@ pub fn is_selector(a: u8) -> bool
 }
 
 // A text: how many `A` stand in front of it.
+#[tactic(auto, unfolding(crate::specs::Values::text_fits))]
 fn text_fits(a: u8, v: usize) -> bool
     ensures { result ≡ text_fits a v }
 {
@@ -41,6 +41,7 @@ fn text_fits(a: u8, v: usize) -> bool
 }
 
 // Another value: its lead bytes are zero.
+#[tactic(auto, unfolding(crate::specs::Values::bytes_fit))]
 fn bytes_fit(a: u8, v: usize) -> bool
     ensures { result ≡ bytes_fit a v }
 {
@@ -50,6 +51,7 @@ fn bytes_fit(a: u8, v: usize) -> bool
     if a == 57 { v < 65536 } else { v < 256 }
 }
 
+#[tactic(auto, unfolding(crate::specs::Values::unit_fits, format::specs::Registry::is_text))]
 fn unit_fits(a: u8, t: u8, v: usize) -> bool
     ensures { result ≡ unit_fits a t v }
 {
@@ -61,6 +63,7 @@ fn unit_fits(a: u8, t: u8, v: usize) -> bool
 }
 
 // An item of so many units; a header alone has no lead byte.
+#[tactic(auto, unfolding(crate::specs::Values::value_fits))]
 fn value_fits(a: u8, t: u8, size: usize, v: usize) -> bool
     ensures { result ≡ value_fits a t size v }
 {
@@ -71,6 +74,7 @@ fn value_fits(a: u8, t: u8, size: usize, v: usize) -> bool
     }
 }
 
+#[tactic(auto, unfolding(crate::specs::Values::fitting))]
 fn fitting(a: u8, t: u8, size: usize, v: usize) -> usize
     ensures { result ≡ fitting a t size v }
 {
@@ -78,6 +82,7 @@ fn fitting(a: u8, t: u8, size: usize, v: usize) -> usize
 }
 
 // The size in units of a small variable value with this header, where the unit behind it is a number; else 0.
+#[tactic(auto, unfolding(crate::specs::Values::valued_of))]
 pub fn valued(v: usize, a: u8, b: u8, c: u8, d: u8) -> usize
     ensures { result ≡ valued_of v a b c d }
 {

@@ -337,9 +337,6 @@ module _ (letter h : ℕ) (t : List ℕ) (d : ℕ) (x marked : Bool) (start : �
           near = omega (arith, near_none _ j m p e N.near, rest-long, w.inside);
         }
 
-    pub place-fits : length t * 1 < 2 ^ 63 → (m p : ℕ) → j ≡ J.Unframed m p → val.Fits w64 (4 * start + p)
-    place-fits q m p e = omega (arith, near_none _ j m p e N.near, rest-long, w.inside)
-
     module _ (n : ℕ) (v : Verdict) (e : j ≡ J.Item n v) where
       found : Found (max_depth - (d + 1)) (text_sextets rest) (frame_next x marked (text_sextets rest)) n v
       found = item-is (max_depth - (d + 1)) (text_sextets rest) _ n v (sym N.is ∙ e)
@@ -374,9 +371,6 @@ module _ (letter h : ℕ) (t : List ℕ) (d : ℕ) (x marked : Bool) (start : �
       unfolding and_then shift
       left-refused m p q r er =
           rw er record { is = sym (on ∙ rw q); near = omega (arith, near-item _ j n v m p e q N.near, rest-long, w.inside) }
-
-      pub left-place : length t * 1 < 2 ^ 63 → (m p : ℕ) → v ≡ Refused m p → val.Fits w64 (4 * start + p)
-      left-place o m p q = omega (arith, near-item _ j n v m p e q N.near, rest-long, w.inside)
 
       pub left-on : v ≡ Accepted → Left letter h t d x false (start + n)
       unfolding and_then shift

@@ -1,16 +1,12 @@
 -- What a look along the characters says, over format's definitions alone. Assumes nothing.
 use mathlib.Core.Path.{◌≡◌, refl, sym, ap, ◌∙◌}
-use mathlib.Core.Bool.{Bool, true, false}
 use mathlib.Core.List.{List, [], ◌∷◌, map}
-use mathlib.Core.Logic.{⊎_elim}
 use Prim.Native.Nat.{ℕ, zero, suc, ◌+◌, ◌-◌, ◌*◌, ◌/◌, ◌<◌, ◌≤◌}
 use native.Mathlib.Omega.{arith}
-use lib.Dec.{ltb}
-use lib.ListN.{length, get_or, take, drop, length-map, length-drop, drop_of_length-le, get_or-eq_default}
-use lib.Seq.{drop-cons, take_all, get_or-drop}
-use borrow.Author.Tests.{lt-ltb, le-ltb, ltb-true, ltb-false}
+use lib.ListN.{length, get_or, take, drop, length-map, length-drop, get_or-eq_default}
+use lib.Seq.{take_all, get_or-drop}
+use borrow.Author.Tests.{lt-ltb, le-ltb}
 use Rattle.base.specs.Lists.{map-drop}
-use Rattle.base.specs.Cases.{lt-or-ge}
 use Rattle.format.specs.declared.Verdict.{Verdict}
 use Rattle.format.specs.declared.Verdict.TheVariants.{Accepted, Refused}
 use Rattle.format.specs.Alphabet.{sextet_of, stranger_number}
@@ -19,7 +15,7 @@ use Rattle.format.specs.Framing.{sextet}
 use Rattle.format.specs.Judging.{shift, scan, behind}
 use Rattle.laws.specs.Domains.{text-reader}
 use Rattle.laws.specs.Local.{text-sextet}
-use Rattle.second_characters.specs.Found.{Below, First, Stranger, Bad}
+use Rattle.second_characters.specs.Found.{First, Bad}
 
 -- ---- sextets
 
@@ -41,32 +37,6 @@ text-length t = length-map t sextet_of
 pub text-rest : (t : List ℕ) (f : ℕ) → text_sextets (take (length t - f) (drop f t)) ≡ drop f (text_sextets t)
 unfolding text_sextets
 text-rest t f = ap (map sextet_of) (take_all (length t - f) (drop f t) (omega (arith, length-drop f t))) ∙ map-drop sextet_of f t
-
--- ---- the first sextet that is not below a limit: what is passed is
-
-pub record Passed (s : List ℕ) (from to limit i : ℕ) : Type 0 where
-  pub low : from ≤ i
-  pub high : from ≤ to → i ≤ to
-  pub none : to ≤ from → i ≡ from
-  pub below : Below s limit from i
-
-pub passed_start : (s : List ℕ) (from to limit : ℕ) → Passed s from to limit from
-passed_start s from to limit = record { low = omega arith; high = λ h. h; none = λ h. refl; below = λ k a b. absurd (omega arith) }
-
-module _ (s : List ℕ) (from to limit i : ℕ) (w : Passed s from to limit i) where
-  pub passed_on : i < to → (v : ℕ) → v ≡ sextet s i → ltb v limit ≡ true → Passed s from to limit (i + 1)
-  passed_on h v e l = record {
-    low = omega (arith, w.low);
-    high = λ q. omega arith;
-    none = λ q. absurd (omega (arith, w.none q));
-    below = λ k a b. ⊎_elim (λ lt. w.below k a lt) (λ ge. let z : k ≡ i = omega arith in rw (z, ← e) (ltb-true v limit l)) (lt-or-ge k i);
-  }
-
-  pub passed-end : to ≤ i → First s from to limit i
-  passed-end h = record { low = w.low; high = w.high; none = w.none; below = w.below; stops = λ q. absurd (omega arith) }
-
-  pub passed-stop : (v : ℕ) → v ≡ sextet s i → ltb v limit ≡ false → First s from to limit i
-  passed-stop v e h = record { low = w.low; high = w.high; none = w.none; below = w.below; stops = λ q. rw (← e) (ltb-false v limit h) }
 
 -- ---- 5 or 19
 

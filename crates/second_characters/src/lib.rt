@@ -18,14 +18,11 @@ pub fn at(t: &[u8], i: usize) -> u8
     if i < t.len() { sextet(t[i]) } else { 0 }
 }
 
-// The first place from i on whose sextet is not below a limit; `to` where there is none before it.
-pub fn first(t: &[u8], mut i: usize, to: usize, limit: u8) -> usize
+// The first place from i on whose sextet is not below a limit; where there is none before `to`, the larger of the two.
+pub fn first(t: &[u8], i: usize, to: usize, limit: u8) -> usize
     ensures { First (text_sextets t.now) i to limit result }
 {
-    while i < to && at(t, i) < limit {
-        i = i + 1;
-    }
-    i
+    (i..to).find(|k| at(t, *k) >= limit).unwrap_or(to.max(i))
 }
 
 // 5 or 19: the first bad character from one place to another.

@@ -92,12 +92,13 @@ header : (h from : ℕ) (t : List ℕ) (v : Verdict) → Behind h from t → Bad
 header h from t v B bad = behind-is h t v (rw (← B.units) B.inside) (rw B.units at bad)
 
 pub fixed-is : (c : CodeRow) (from : ℕ) (t : List ℕ) (v₀ : Verdict) → Bad (text_sextets t) from (length t) v₀
-    → (z : ℕ) → z ≡ zero_bits_of c → (b : Bool) → b ≡ zero_bits (text_sextets t) c.chars z → (v₁ : Verdict) → v₁ ≡ and_then v₀ (unless 8 b)
-    → (p : ℕ) → p ≡ prepad_of c → (x : ℕ) → x ≡ sextet (text_sextets t) c.chars → (r : Verdict) → r ≡ and_then v₁ (unless 10 (eqb p 0 || eqb x 63))
+    → (i : ℕ) → i ≡ c.chars
+    → (z : ℕ) → z ≡ zero_bits_of c → (b : Bool) → b ≡ zero_bits (text_sextets t) i z → (v₁ : Verdict) → v₁ ≡ and_then v₀ (unless 8 b)
+    → (p : ℕ) → p ≡ prepad_of c → (x : ℕ) → x ≡ sextet (text_sextets t) i → (r : Verdict) → r ≡ and_then v₁ (unless 10 (eqb p 0 || eqb x 63))
     → (h : ℕ) → Behind h from t → r ≡ fixed_of c h (text_sextets t)
 unfolding fixed_of judge_kind
-fixed-is c from t v₀ bad z ez b eb v₁ e₁ p ep x ex r er h B =
-    er ∙ rw (e₁, header h from t v₀ B bad, then-assoc, eb, ez, ep, prepad-is (text_sextets t) c.chars (prepad_of c) x ex)
+fixed-is c from t v₀ bad i ei z ez b eb v₁ e₁ p ep x ex r er h B =
+    er ∙ rw (e₁, header h from t v₀ B bad, then-assoc, eb, ez, ep, prepad-is (text_sextets t) i (prepad_of c) x ex, ei)
 
 pub zero_is : (s : List ℕ) (i z a b c n m : ℕ) → a ≡ sextet s i → b ≡ sextet s (i + 1) → c ≡ sextet s (i + 2) → n ≡ ((0 * 64 + a) * 64 + b) * 64 + c
     → m ≡ 18 - z → eqb (n / 2 ^ m) 0 ≡ zero_bits s i z
@@ -209,14 +210,15 @@ pub variable-is : (letter lead count from : ℕ) (t : List ℕ) (p : ℕ) → Fi
     → (v₀ : Verdict) → Bad (text_sextets t) from (length t) v₀
     → (v₁ : Verdict) → v₁ ≡ and_then v₀ (unless 18 (eqb from 4 || leb 4096 count))
     → (v₂ : Verdict) → v₂ ≡ and_then v₁ (unless 9 (eqb lead 0 || ltb 0 count))
-    → (y : Bool) → y ≡ zero_bits (text_sextets t) from (8 * lead) → (v₃ : Verdict) → v₃ ≡ and_then v₂ (unless 8 y)
-    → (r : Verdict) → r ≡ and_then v₃ (unless 16 ((not (eqb letter 0) || eqb (p - from) (lead + 1)) || (eqb (p - from) 0 && eqb lead 0)))
+    → (l : ℕ) → l ≡ lead → (y : Bool) → y ≡ zero_bits (text_sextets t) from (8 * l) → (v₃ : Verdict) → v₃ ≡ and_then v₂ (unless 8 y)
+    → (m : ℕ) → m ≡ lead
+    → (r : Verdict) → r ≡ and_then v₃ (unless 16 ((not (eqb letter 0) || eqb (p - from) (m + 1)) || (eqb (p - from) 0 && eqb lead 0)))
     → (h : ℕ) → Behind h from t → r ≡ variable_of letter lead count h (text_sextets t)
 unfolding variable_of judge_kind
-variable-is letter lead count from t p F v₀ bad v₁ e₁ v₂ e₂ y ey v₃ e₃ r er h B =
+variable-is letter lead count from t p F v₀ bad v₁ e₁ v₂ e₂ l el y ey v₃ e₃ m em r er h B =
     let z : eqb from 4 ≡ eqb h 1 = one h from B.units in
     let w = value-is letter lead h t p (rw (← B.units) B.inside) (rw B.units at F) in
-    er ∙ rw (e₃, e₂, e₁, header h from t v₀ B bad, z, shortest-is h count, ey, lead_is lead count, B.units) (rw w (simp then-assoc))
+    er ∙ rw (em, e₃, e₂, e₁, header h from t v₀ B bad, z, shortest-is h count, ey, el, lead_is lead count, B.units) (rw w (simp then-assoc))
 
 -- ---- 15: a number is 0 exactly where its digits are
 
@@ -252,13 +254,14 @@ digits-is s from n p F =
     (lt-or-ge p (from + n))
 
 pub indexed-is : (c : IndexRow) (from : ℕ) (t : List ℕ) (v₀ : Verdict) → Bad (text_sextets t) from (length t) v₀
-    → (b : Bool) → b ≡ zero_bits (text_sextets t) (c.chars + c.index + c.ondex) c.zeros → (v₁ : Verdict) → v₁ ≡ and_then v₀ (unless 8 b)
-    → (p : ℕ) → First (text_sextets t) (c.chars + c.index) (c.chars + c.index + c.ondex) 1 p
-    → (r : Verdict) → r ≡ and_then v₁ (unless 15 (eqb c.current 0 || eqb p (c.chars + c.index + c.ondex)))
+    → (n : ℕ) → n ≡ c.chars → (m : ℕ) → m ≡ c.index → (k : ℕ) → k ≡ c.ondex → (z : ℕ) → z ≡ c.zeros
+    → (b : Bool) → b ≡ zero_bits (text_sextets t) (n + m + k) z → (v₁ : Verdict) → v₁ ≡ and_then v₀ (unless 8 b)
+    → (p : ℕ) → First (text_sextets t) (n + m) (n + m + k) 1 p
+    → (r : Verdict) → r ≡ and_then v₁ (unless 15 (eqb c.current 0 || eqb p (n + m + k)))
     → (h : ℕ) → Behind h from t → r ≡ indexed_of c h (text_sextets t)
 unfolding indexed_of judge_kind ondex_right ondex_of
-indexed-is c from t v₀ bad b eb v₁ e₁ p F r er h B =
-    er ∙ rw (e₁, header h from t v₀ B bad, then-assoc, eb, digits-is (text_sextets t) (c.chars + c.index) c.ondex p F) (ap (λ (j : Bool). and_then (behind h (text_sextets t)) (and_then (unless 8 (zero_bits (text_sextets t) (c.chars + c.index + c.ondex) c.zeros)) (unless 15 j))) (by (eqb c.current 0) _))
+indexed-is c from t v₀ bad n en m em k ek z ez b eb v₁ e₁ p F r er h B =
+    er ∙ rw (e₁, header h from t v₀ B bad, then-assoc, eb, digits-is (text_sextets t) (n + m) k p F, en, em, ek, ez) (ap (λ (j : Bool). and_then (behind h (text_sextets t)) (and_then (unless 8 (zero_bits (text_sextets t) (c.chars + c.index + c.ondex) c.zeros)) (unless 15 j))) (by (eqb c.current 0) _))
   where
     by : (x y : Bool) → x || y ≡ pick x true y
     by true y = refl

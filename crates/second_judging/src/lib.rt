@@ -30,7 +30,7 @@ fn unless(v: Verdict, number: u8, right: bool) -> Verdict
 fn zero_bits(t: &[u8], i: usize, z: usize) -> bool
     ensures { result ≡ zero_bits (text_sextets t.now) i z }
 {
-    let others = if z < 18 { 18 - z } else { 0 };
+    let others = 18usize.saturating_sub(z);
     t.len() <= i || number([0, at(t, i), at(t, i + 1), at(t, i + 2)]) >> others == 0
 }
 
@@ -48,7 +48,7 @@ pub fn entered(depth: usize, head: usize, count: usize) -> Verdict
 pub fn fixed(c: CodeRow, from: usize, t: &[u8]) -> Verdict
     ensures { (h : ℕ) → Behind h from t.now → result ≡ fixed_of c h (text_sextets t.now) }
 {
-    let code = c.chars as usize;
+    let code = usize::from(c.chars);
     let v = strangers(t, from, t.len());
     let v = unless(v, 8, zero_bits(t, code, registry_reading::zero_bits(c)));
     let begun = (registry_reading::prepad(c) == 0) | (at(t, code) == 63);
@@ -63,8 +63,8 @@ pub fn variable(letter: u8, lead: u8, count: usize, from: usize, t: &[u8]) -> Ve
     let v = strangers(t, from, t.len());
     let v = unless(v, 18, (from == 4) | (4096 <= count));
     let v = unless(v, 9, (lead == 0) | (0 < count));
-    let v = unless(v, 8, zero_bits(t, from, 8 * lead as usize));
-    let filled = (letter != 0) | (fill == lead as usize + 1) | ((fill == 0) & (lead == 0));
+    let v = unless(v, 8, zero_bits(t, from, 8 * usize::from(lead)));
+    let filled = (letter != 0) | (fill == usize::from(lead) + 1) | ((fill == 0) & (lead == 0));
     unless(v, 16, filled)
 }
 
@@ -72,10 +72,10 @@ pub fn variable(letter: u8, lead: u8, count: usize, from: usize, t: &[u8]) -> Ve
 pub fn indexed(c: IndexRow, from: usize, t: &[u8]) -> Verdict
     ensures { (h : ℕ) → Behind h from t.now → result ≡ indexed_of c h (text_sextets t.now) }
 {
-    let ondex = c.chars as usize + c.index as usize;
-    let value = ondex + c.ondex as usize;
+    let ondex = usize::from(c.chars) + usize::from(c.index);
+    let value = ondex + usize::from(c.ondex);
     let v = strangers(t, from, t.len());
-    let v = unless(v, 8, zero_bits(t, value, c.zeros as usize));
+    let v = unless(v, 8, zero_bits(t, value, usize::from(c.zeros)));
     let current = (c.current == 0) | (first(t, ondex, value, 1) == value);
     unless(v, 15, current)
 }

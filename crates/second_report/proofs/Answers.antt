@@ -3,7 +3,7 @@ use Prim.Native.Nat.{ℕ, ◌*◌, ◌/◌, ◌%◌, ◌≤◌, ◌<◌}
 use mathlib.Core.Path.{◌≡◌, refl, sym, ap, ◌∙◌}
 use mathlib.Core.List.{List, [], ◌∷◌, ◌++◌, append-nil}
 use native.Mathlib.Omega.{arith}
-use lib.ListN.{length, take, drop, length-map, length-append, length-drop}
+use lib.ListN.{length, take, drop, length-map, length-drop}
 use lib.Seq.{take_at, length-take-le}
 use borrow.Author.Tests.{lt-ltb, le-ltb}
 use Rattle.format.specs.declared.Reported.{Reported}
@@ -92,9 +92,6 @@ module _ (s work : List ℕ) where
 
       text-there : take (4 * (length s / 3)) work' ≡ to_text s
       text-there = rw converted (take_at (to_text s) (drop (4 * (length s / 3)) work) (4 * (length s / 3)) text-size)
-
-      pub text-fits : 4 * (length s / 3) ≤ length work'
-      text-fits = omega (arith, ap length converted, length-append (to_text s) (drop (4 * (length s / 3)) work), text-size)
 
       pub binary-given : Given 3 s (take (4 * (length s / 3)) work')
       unfolding form_of

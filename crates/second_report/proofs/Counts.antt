@@ -4,7 +4,7 @@ use mathlib.Core.Bool.{true, false}
 use mathlib.Core.List.{List, [], ◌∷◌, ◌++◌, append-nil}
 use mathlib.Core.Logic.{⊎_elim}
 use Prim.Native.Nat.{ℕ, suc, ◌+◌, ◌-◌, ◌*◌, ◌/◌, ◌%◌, ◌<◌, ◌≤◌}
-use native.Mathlib.Nat.{mul-add, mul_comm, mul-le-mul}
+use native.Mathlib.Nat.{mul-add, mul_comm}
 use native.Mathlib.Omega.{arith}
 use mir.Syntax.{w64}
 use mir.Val as val
@@ -26,8 +26,7 @@ use Rattle.laws.specs.Frames.{frames}
 use Rattle.laws.specs.Items.{rows_at, rows-nil, rows-refused, rows-item}
 use Rattle.format.specs.declared.Reported.TheVariants as R
 use Rattle.filling.specs.Stores.{be4-long, sets-append}
-use Rattle.second.proofs.Groups.{near-place}
-use Rattle.second_report.specs.Reports.{Row, Put, verdict_at, item_left, end_answer, end_left, Ended}
+use Rattle.second_report.specs.Reports.{Put, verdict_at, item_left, end_answer, end_left, Ended}
 
 -- ---- so many items up to a unit
 
@@ -48,12 +47,6 @@ none [] e = refl
 none (x ∷ s) e = absurd (omega arith)
 
 module _ (t : List ℕ) (start n : ℕ) (w : Counted t start n) where
-  pub start_fits : val.Fits w64 (4 * start)
-  start_fits = omega (arith, w.inside)
-
-  pub n-fits : val.Fits w64 (n + 1)
-  n-fits = omega (arith, w.few, w.inside, w.long)
-
   module _ (f : Framed) (ef : f ≡ frame_next false true (text_sextets (take (length t - 4 * start) (drop (4 * start) t)))) where
     here : f ≡ frame_ruled (text_sextets (drop (start * 4) t))
     unfolding frame_next frame_ruled
@@ -124,26 +117,6 @@ module _ (unit start size : ℕ) (v : Verdict) (i p : ℕ) (out o₁ : List ℕ)
         by =
             let z : p + 5 ≡ suc (p + 4) = omega arith in
             rw z (behind4 o₁ o₃ p (p + 4) i (m ∷ be4 (unit * (start + q / 4) + q % 4)) e₃ refl)
-
-module _ (unit start size : ℕ) (v : Verdict) (i p room : ℕ) (w : Row unit start size v i p room) where
-  product : (u m : ℕ) → u ≤ 4 → m ≤ 2097154 → u * m ≤ 4 * 2097154
-  product u m few l = mul-le-mul {n₁ = u} {m₁ = m} {n₂ = 4} {m₂ = 2097154} few l
-
-  pub offset-fits : val.Fits w64 (unit * start)
-  offset-fits = omega (arith, product unit start w.four (omega (arith, w.here)))
-
-  pub size_fits : val.Fits w64 (unit * size)
-  size_fits = omega (arith, product unit size w.four (omega (arith, w.few)))
-
-  module _ (m q : ℕ) (e : v ≡ Refused m q) where
-    unit-few : start + q / 4 ≤ 2097154
-    unit-few = omega (arith, w.here, near-place 4194312 v m q e w.near)
-
-    pub place-fits : (u : ℕ) → u ≤ 4 → val.Fits w64 (u * (start + q / 4))
-    place-fits u few = omega (arith, product u (start + q / 4) few unit-few)
-
-    pub sum_fits : (u : ℕ) → u ≤ 4 → val.Fits w64 (u * (start + q / 4) + q % 4)
-    sum_fits u few = omega (arith, product u (start + q / 4) few unit-few)
 
 -- ---- what is behind the rows
 

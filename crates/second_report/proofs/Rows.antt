@@ -4,7 +4,7 @@ use mathlib.Core.Path.{◌≡◌, refl, sym, ap, ◌∙◌}
 use mathlib.Core.Bool.{true, false}
 use mathlib.Core.List.{List, [], ◌∷◌, ◌++◌}
 use native.Mathlib.Omega.{arith}
-use native.Mathlib.Nat.{add-mul, mul_comm, mul-le-mul, le-div_iff_mul-le}
+use native.Mathlib.Nat.{add-mul, mul_comm, le-div_iff_mul-le}
 use mir.Syntax.{w64}
 use mir.Val as val
 use lib.ListN.{length, take, drop, length-drop}
@@ -127,12 +127,6 @@ module _ {unit : ℕ} {s t : List ℕ} {n : ℕ} {out₀ out : List ℕ} {start 
   scaled : (m : ℕ) → unit * m ≡ m * (domain f).unit
   scaled m = mul_comm unit m ∙ ap (λ (u : ℕ). m * u) w.given.form
 
-  pub offset-fits : val.Fits w64 (unit * start)
-  offset-fits = omega (arith, mul-le-mul {n₁ = unit} {m₁ = start} {n₂ = 4} {m₂ = 1048576} four units-few)
-
-  pub chars-fit : val.Fits w64 (4 * start)
-  chars-fit = omega (arith, units-few)
-
   pub refusals-fit : val.Fits w64 (9 * k)
   refusals-fit = omega (arith, stored-few, w.few)
 
@@ -220,9 +214,6 @@ module _ {unit : ℕ} {s t : List ℕ} {n : ℕ} {out₀ out : List ℕ} {start 
 
       pub less : length t - 4 * (start + m) < length t - 4 * start
       less = omega (arith, sizes)
-
-      pub i-fits : val.Fits w64 (i + 1)
-      i-fits = omega (arith, room-here, w.few)
 
       pub k-fits : (b : ℕ) (out₂ : List ℕ) → Put unit start m v i (8 + 9 * n + 9 * k) out b out₂ → val.Fits w64 (k + b)
       k-fits b out₂ P = omega (arith, room-here, w.few, P.refusals, refusal-few i (verdict_at unit start v))

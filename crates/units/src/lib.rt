@@ -5,13 +5,13 @@
 ghost use Rattle.std.specs.Prelude.{◌≡◌, ◌<◌, get_or};
 ghost use Rattle.format.specs.Units.{bytes_of, sextets_of, triplet_by, quadlet_by};
 
-use widening::to_u32::wide;
-
 // Four sextets as three bytes.
+#[tactic(auto, unfolding(format::specs::Units::bytes_of))]
 pub fn pack(q: [u8; 4]) -> [u8; 3]
     ensures { result ≡ bytes_of q }
 {
-    let n = ((wide(q[0]) * 64 + wide(q[1])) * 64 + wide(q[2])) * 64 + wide(q[3]);
+    let n = ((u32::from(q[0]) * 64 + u32::from(q[1])) * 64 + u32::from(q[2])) * 64
+        + u32::from(q[3]);
     [
         (n / 65536 % 256) as u8,
         (n / 256 % 256) as u8,
@@ -20,10 +20,11 @@ pub fn pack(q: [u8; 4]) -> [u8; 3]
 }
 
 // Three bytes as four sextets.
+#[tactic(auto, unfolding(format::specs::Units::sextets_of))]
 pub fn unpack(t: [u8; 3]) -> [u8; 4]
     ensures { result ≡ sextets_of t }
 {
-    let n = (wide(t[0]) * 256 + wide(t[1])) * 256 + wide(t[2]);
+    let n = (u32::from(t[0]) * 256 + u32::from(t[1])) * 256 + u32::from(t[2]);
     [
         (n / 262144 % 64) as u8,
         (n / 4096 % 64) as u8,
@@ -33,6 +34,7 @@ pub fn unpack(t: [u8; 3]) -> [u8; 4]
 }
 
 // Four characters as three bytes, each character's value taken from the table.
+#[tactic(auto, unfolding(format::specs::Units::triplet_by))]
 pub fn triplet(values: &[u8; 256], q: [u8; 4]) -> [u8; 3]
     ensures { result ≡ triplet_by values.now q }
 {
@@ -48,10 +50,11 @@ fn character(characters: &[u8; 64], v: u8) -> u8
     requires { v < 64 }
     ensures { result ≡ get_or characters.now v 0 }
 {
-    characters[v as usize]
+    characters[usize::from(v)]
 }
 
 // Three bytes as four characters, each sextet's character taken from the table.
+#[tactic(auto, unfolding(format::specs::Units::quadlet_by, format::specs::Units::sextets_of))]
 pub fn quadlet(characters: &[u8; 64], t: [u8; 3]) -> [u8; 4]
     ensures { result ≡ quadlet_by characters.now t }
 {

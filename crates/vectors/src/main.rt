@@ -20,7 +20,7 @@ ghost use Rattle.exports_values.specs.Lent.{state_size};
 
 use exports_values::{INDEXED, INFO, MARK, STATE};
 use instalments::{BinaryPause, TextPause};
-use recorded::{number, wide};
+use recorded::number;
 use std::io::Stdout;
 use walk_state::{BinaryItem, TextItem, Walk};
 use walk_tally::{BinaryEnd, TextEnd};
@@ -74,7 +74,7 @@ fn read_at(stdout: Stdout, call: u8, src: &[u8], out: &mut [u8]) {
 
 fn write(stdout: Stdout, call: u8, head: [u8; 3], tag: [u8; 11], raw: &[u8], out: &mut [u8]) {
     let mut value = 0;
-    let tags = wide(head[2]);
+    let tags = usize::from(head[2]);
     if call == 7 {
         let number = exports::cesr_write_text(head[0], head[1], &tag, tags, raw, out, &mut value);
         show(stdout, call, number, value, out);
@@ -85,15 +85,13 @@ fn write(stdout: Stdout, call: u8, head: [u8; 3], tag: [u8; 11], raw: &[u8], out
 }
 
 fn write_from(stdout: Stdout, call: u8, src: &[u8], out: &mut [u8]) {
-    let n = src.len();
-    if 14 <= n {
-        let head = [src[0], src[1], src[2]];
-        let tag = [
-            src[3], src[4], src[5], src[6], src[7], src[8], src[9], src[10], src[11], src[12],
-            src[13],
-        ];
-        write(stdout, call, head, tag, &src[14..n], out);
-    }
+    let Some((head, rest)) = src.split_first_chunk::<3>() else {
+        return;
+    };
+    let Some((tag, raw)) = rest.split_first_chunk::<11>() else {
+        return;
+    };
+    write(stdout, call, *head, *tag, raw, out);
 }
 
 // ---- an indexed item
@@ -183,24 +181,18 @@ fn write_indexed(
 }
 
 fn write_indexed_from(stdout: Stdout, call: u8, src: &[u8], out: &mut [u8]) {
-    let n = src.len();
-    if 18 <= n {
-        let code = [src[0], src[1]];
-        let index = large([
-            src[2], src[3], src[4], src[5], src[6], src[7], src[8], src[9],
-        ]);
-        let ondex = large([
-            src[10], src[11], src[12], src[13], src[14], src[15], src[16], src[17],
-        ]);
-        write_indexed(stdout, call, code, index, ondex, &src[18..n], out);
-    }
-}
-
-// Eight bytes, big-endian.
-fn large(b: [u8; 8]) -> usize {
-    let high = number(b[0], b[1]) * 65536 + number(b[2], b[3]);
-    let low = number(b[4], b[5]) * 65536 + number(b[6], b[7]);
-    high * 4294967296 + low
+    let Some((code, rest)) = src.split_first_chunk::<2>() else {
+        return;
+    };
+    let Some((index, rest)) = rest.split_first_chunk::<8>() else {
+        return;
+    };
+    let Some((ondex, raw)) = rest.split_first_chunk::<8>() else {
+        return;
+    };
+    let index = usize::from_be_bytes(*index);
+    let ondex = usize::from_be_bytes(*ondex);
+    write_indexed(stdout, call, *code, index, ondex, raw, out);
 }
 
 // ---- a step of the walk
@@ -331,10 +323,8 @@ fn state_from(src: &[u8]) -> [usize; STATE]
     requires { state_size ≤ length src.now }
 {
     let mut state: [usize; STATE] = [0; STATE];
-    let mut i = 0;
-    while i < STATE {
-        state[i] = wide(src[i]);
-        i += 1;
+    for (n, b) in state.iter_mut().zip(src) {
+        *n = usize::from(*b);
     }
     state
 }

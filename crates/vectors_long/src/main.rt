@@ -16,14 +16,14 @@ ghost use Rattle.std.specs.Prelude.{◌≡◌, ◌<◌, length};
 
 use exports_values::INFO;
 use format::BinaryOffset;
-use recorded::{number, show_number, wide};
+use recorded::{number, show_number};
 use std::io::Stdout;
 
 // ---- the raw value
 
 // Type `A`, which is 65, holds characters: small letters.
 fn byte_at(i: usize, letter: u8, seed: u8) -> u8 {
-    let n = i % 65536 * 7 + i / 256 % 256 + wide(seed);
+    let n = i % 65536 * 7 + i / 256 % 256 + usize::from(seed);
     if letter == 65 {
         return (97 + n % 26) as u8;
     }
@@ -31,31 +31,17 @@ fn byte_at(i: usize, letter: u8, seed: u8) -> u8 {
 }
 
 fn fill(raw: &mut [u8], letter: u8, seed: u8) {
-    let mut i = 0;
-    while i < raw.len() {
-        raw[i] = byte_at(i, letter, seed);
-        i += 1;
+    for (i, b) in raw.iter_mut().enumerate() {
+        *b = byte_at(i, letter, seed);
     }
 }
 
 // How many bytes from the first on are the filled ones.
 fn agreeing(raw: &[u8], letter: u8, seed: u8) -> usize {
-    let mut i = 0;
-    while i < raw.len() {
-        if raw[i] != byte_at(i, letter, seed) {
-            return i;
-        }
-        i += 1;
-    }
-    i
-}
-
-fn blank(out: &mut [u8]) {
-    let mut i = 0;
-    while i < out.len() {
-        out[i] = 170;
-        i += 1;
-    }
+    raw.iter()
+        .enumerate()
+        .position(|(i, b)| *b != byte_at(i, letter, seed))
+        .unwrap_or(raw.len())
 }
 
 // ---- a buffer in short
@@ -65,10 +51,8 @@ fn checksum(s: &[u8]) -> usize
     ensures { result < 4294967291 }
 {
     let mut sum: usize = 0;
-    let mut i = 0;
-    while i < s.len() {
-        sum = (sum * 257 + wide(s[i]) + 1) % 4294967291;
-        i += 1;
+    for b in s {
+        sum = (sum * 257 + usize::from(*b) + 1) % 4294967291;
     }
     sum
 }
@@ -107,7 +91,7 @@ fn show_read(
 // ---- an item read back
 
 fn read_text(stdout: Stdout, item: &[u8], raw: &mut [u8], letter: u8, seed: u8) {
-    blank(raw);
+    raw.fill(170);
     let mut value = 0;
     let mut tag: [u8; 11] = [170; 11];
     let mut info: [usize; INFO] = [170; INFO];
@@ -117,7 +101,7 @@ fn read_text(stdout: Stdout, item: &[u8], raw: &mut [u8], letter: u8, seed: u8) 
 
 // A text is copied out; any other value is the part where it lies.
 fn read_binary(stdout: Stdout, item: &[u8], raw: &mut [u8], letter: u8, seed: u8) {
-    blank(raw);
+    raw.fill(170);
     let mut value = 0;
     let mut tag: [u8; 11] = [170; 11];
     let mut info: [usize; INFO] = [170; INFO];
@@ -211,7 +195,7 @@ fn run(stdout: Stdout, head: [u8; 4], raw: &mut [u8], out: &mut [u8]) {
     let letter = head[2];
     let seed = head[3];
     fill(raw, letter, seed);
-    blank(out);
+    out.fill(170);
     if head[0] == 28 {
         second_text(stdout, head[0], raw, out);
         return;
@@ -243,25 +227,9 @@ fn lend(stdout: Stdout, r: [u8; 10], raw: &mut [u8], out: &mut [u8]) {
 }
 
 fn run_all(stdout: Stdout, records: &[u8], raw: &mut [u8], out: &mut [u8]) {
-    let mut at = 0;
-    while at < records.len() {
-        if records.len() - at < 10 {
-            return;
-        }
-        let r = [
-            records[at],
-            records[at + 1],
-            records[at + 2],
-            records[at + 3],
-            records[at + 4],
-            records[at + 5],
-            records[at + 6],
-            records[at + 7],
-            records[at + 8],
-            records[at + 9],
-        ];
-        lend(stdout, r, raw, out);
-        at += 10;
+    let (records, _) = records.as_chunks::<10>();
+    for r in records {
+        lend(stdout, *r, raw, out);
     }
 }
 

@@ -35,7 +35,7 @@ fn group(stdout: Stdout, call: u8, letter: u8, stated: usize, buffer: &mut [u8])
 // The record's buffer in one that may be written.
 fn copied(stdout: Stdout, call: u8, letter: u8, stated: usize, src: &[u8], buffer: &mut [u8]) {
     if src.len() <= buffer.len() {
-        copying::copy(src, buffer);
+        buffer[..src.len()].copy_from_slice(src);
         group(stdout, call, letter, stated, buffer);
         recorded::end_line(stdout);
     }

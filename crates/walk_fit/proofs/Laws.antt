@@ -1,6 +1,6 @@
--- The tests of 13, in isFit's order, over slots that are lent; all slots, one by one. Assumes nothing.
+-- All slots, one by one; and the last test of 13, over slots that are lent. Assumes nothing.
 use mathlib.Core.Path.{◌≡◌, refl, sym, ◌∙◌}
-use mathlib.Core.Bool.{Bool, true, false, not}
+use mathlib.Core.Bool.{Bool, true, false}
 use mathlib.Core.List.{List}
 use mathlib.Core.Logic.{⊎_elim}
 use Prim.Native.Nat.{ℕ, zero, suc, ◌+◌, ◌-◌, ◌<◌, ◌≤◌}
@@ -8,7 +8,7 @@ use native.Mathlib.Numerals.{add-one}
 use native.Mathlib.Omega.{arith}
 use lib.Dec.{ltb}
 use lib.ListN.{get_or}
-use borrow.Author.Tests.{le-leb, lt-leb, eq-eqb, ne_eqb}
+use borrow.Author.Tests.{le-leb, ne_eqb}
 use Rattle.base.specs.Pick.{pick}
 use Rattle.base.specs.Cases.{lt-or-ge}
 use Rattle.format.specs.Judging.{max_depth}
@@ -31,10 +31,6 @@ pick_same {ℓ} : {X : Type ℓ} (b : Bool) (x : X) → pick b x x ≡ x
 pick_same true x = refl
 pick_same false x = refl
 
-not-pick : (b : Bool) → not b ≡ pick b false true
-not-pick true = refl
-not-pick false = refl
-
 -- a number that does not pass the test spoils the whole
 pub all-spoilt : (p : ℕ → Bool) (n k : ℕ) → k < n → p k ≡ false → all_below p n ≡ false
 unfolding all_below
@@ -42,32 +38,11 @@ all-spoilt p zero k h e = absurd (omega arith)
 all-spoilt p (suc n) k h e =
     ⊎_elim (λ l. rw (all-spoilt p n k l e) (pick_same (p n) false)) (λ g. let q : n ≡ k = omega arith in rw (q, e)) (lt-or-ge k n)
 
--- ---- the tests of 13, in isFit's order
+-- ---- the last test of 13
 
-module _ (s : List ℕ) (p : Place) (n : ℕ) where
-  pub fit-many : max_depth < p.depth → false ≡ is_fit (walk_at s p) n
-  unfolding is_fit
-  fit-many h = rw (lt-leb _ _ h)
-
-  module _ (few : p.depth ≤ max_depth) where
-    pub fit-past : n < p.at → false ≡ is_fit (walk_at s p) n
-    unfolding is_fit
-    fit-past h = rw (le-leb _ _ few, lt-leb _ _ h)
-
-    module _ (there : p.at ≤ n) {b : Bool} (e : b ≡ all_below (slot_fits (slots_in s) p.depth n) max_depth) where
-      pub fit-slots : b ≡ false → false ≡ is_fit (walk_at s p) n
-      unfolding is_fit
-      fit-slots h = rw (le-leb _ _ few, le-leb _ _ there, sym e ∙ h)
-
-      -- with none open neither mark
-      pub fit-indexed : b ≡ true → p.depth ≡ 0 → p.indexed ≡ true → false ≡ is_fit (walk_at s p) n
-      unfolding is_fit
-      fit-indexed h z i = rw (le-leb _ _ few, le-leb _ _ there, sym e ∙ h, eq-eqb _ _ z, i) (sym (pick_same p.first false))
-
-      pub fit-top : b ≡ true → p.depth ≡ 0 → p.indexed ≡ false → not p.first ≡ is_fit (walk_at s p) n
-      unfolding is_fit
-      fit-top h z i = rw (le-leb _ _ few, le-leb _ _ there, sym e ∙ h, eq-eqb _ _ z, i) (not-pick p.first)
-
-      pub fit-inner : b ≡ true → ¬ (p.depth ≡ 0) → ltb p.at (get_or s (p.depth - 1) 0) ≡ is_fit (walk_at s p) n
-      unfolding is_fit
-      fit-inner h z = rw (le-leb _ _ few, le-leb _ _ there, sym e ∙ h, ne_eqb _ _ z, slot_at s (p.depth - 1) (omega (arith, z)))
+pub fit-inner : (s : List ℕ) (p : Place) (n : ℕ) → p.depth ≤ max_depth → p.at ≤ n → {b : Bool}
+    → b ≡ all_below (slot_fits (slots_in s) p.depth n) max_depth → b ≡ true → ¬ (p.depth ≡ 0)
+    → ltb p.at (get_or s (p.depth - 1) 0) ≡ is_fit (walk_at s p) n
+unfolding is_fit
+fit-inner s p n few there e h z =
+    rw (le-leb _ _ few, le-leb _ _ there, sym e ∙ h, ne_eqb _ _ z, slot_at s (p.depth - 1) (omega (arith, z)))

@@ -28,17 +28,16 @@ fn slots_fit(slots: &[usize], depth: usize, n: usize) -> bool
     requires { max_depth ≤ length slots.now }
     ensures { result ≡ all_below (slot_fits (slots_in slots.now) depth n) max_depth }
 {
-    let mut k: usize = 0;
-    while k < MAX_DEPTH {
+    for k in 0..MAX_DEPTH {
         if !slot_fits(slots, depth, n, k) {
             return false;
         }
-        k = k + 1;
     }
     true
 }
 
 // Whether the state fits a stream of n whole units: else 13. One with too few slots fits none.
+#[tactic(auto, unfolding(walk_state::specs::Walking::is_fit))]
 pub fn is_fit(slots: &[usize], p: Place, n: usize) -> bool
     ensures { max_depth ≤ length slots.now → result ≡ is_fit (walk_at slots.now p) n }
 {

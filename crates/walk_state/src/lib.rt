@@ -108,16 +108,13 @@ fn close(slots: &mut [usize], depth: usize, at: usize) -> usize
     requires { (depth ≤ max_depth) × (max_depth ≤ length slots.old) }
     ensures { Closes slots.old slots.new depth at result }
 {
-    let mut still = depth;
-    while 0 < still {
-        let top = still - 1;
+    for top in (0..depth).rev() {
         if slots[top] != at {
-            return still;
+            return top + 1;
         }
         slots[top] = 0;
-        still = top;
     }
-    still
+    0
 }
 
 // A place where so many groups are still open: the mark of indexed items goes with the first that closes.
@@ -196,6 +193,7 @@ pub fn advance(
 
 impl Walk {
     // None open, at the stream's start.
+    #[tactic(auto, unfolding(crate::specs::Walking::start))]
     pub fn new() -> Walk
         ensures { result ≡ start }
     {

@@ -36,7 +36,7 @@ fn planned_of(n: Named, raw: usize) -> Planned
         Named::Unknown => Planned::Units(units),
         Named::Row(_) => Planned::Units(units),
         Named::Variable { letter: _, head: _ } => Planned::Units(units),
-        Named::Textual { head } => Planned::Text(head as usize),
+        Named::Textual { head } => Planned::Text(usize::from(head)),
     }
 }
 

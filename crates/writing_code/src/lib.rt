@@ -99,10 +99,9 @@ pub fn is_named(n: Named) -> bool
 fn raw_size(c: CodeRow) -> usize
     ensures { result ≡ raw_size c }
 {
-    let size = c.size;
     let start = reading_start::fixed_start(c).0;
-    let full = offsets::in_binary(TextOffset(wide(size))).0;
-    if start < full { full - start } else { 0 }
+    let full = offsets::in_binary(TextOffset(usize::from(c.size))).0;
+    full.saturating_sub(start)
 }
 
 pub fn is_fit(n: Named, tags: usize, raw: usize) -> bool
@@ -111,8 +110,7 @@ pub fn is_fit(n: Named, tags: usize, raw: usize) -> bool
     match n {
         Named::Unknown => false,
         Named::Row(c) => {
-            let tag = c.tag;
-            if tags == wide(tag) {
+            if tags == usize::from(c.tag) {
                 raw == raw_size(c)
             } else {
                 false
@@ -142,11 +140,8 @@ pub fn units_of(n: Named, raw: usize) -> usize
 {
     match n {
         Named::Unknown => 0,
-        Named::Row(c) => {
-            let size = c.size;
-            wide(size) / 4
-        }
-        Named::Variable { letter: _, head } => wide(head) + writing_sizes::count_for(raw),
-        Named::Textual { head } => wide(head) + writing_sizes::text_count(raw),
+        Named::Row(c) => usize::from(c.size) / 4,
+        Named::Variable { letter: _, head } => usize::from(head) + writing_sizes::count_for(raw),
+        Named::Textual { head } => usize::from(head) + writing_sizes::text_count(raw),
     }
 }

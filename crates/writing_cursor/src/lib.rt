@@ -7,5 +7,5 @@ ghost use Rattle.std.specs.Prelude.{◌≡◌, min};
 pub fn cursor_in(cursor: usize, len: usize) -> usize
     ensures { result ≡ min cursor len }
 {
-    if cursor < len { cursor } else { len }
+    cursor.min(len)
 }

@@ -10,10 +10,6 @@ pub fn first_unit(chars: &[u8]) -> [u8; 4]
     let mut unit = [b'A'; 4];
     let k = chars.len() % 4;
     let fill = 4 - k;
-    let mut i = 0;
-    while i < k {
-        unit[fill + i] = chars[i];
-        i += 1;
-    }
+    unit[fill..].copy_from_slice(&chars[..k]);
     unit
 }

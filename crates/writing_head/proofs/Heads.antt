@@ -8,7 +8,8 @@ use native.Mathlib.Omega.{arith}
 use borrow.Author.Tests.{eq-eqb, ne_eqb, eqb-true, eqb-false}
 use lib.Dec.{eqb}
 use lib.ListN.{length, get_or, take, drop, replicate, set, length-append, length-replicate, length-map}
-use lib.Seq.{paste, paste-suc, take_at, drop-append-add, length-take-le}
+use lib.Seq.{paste, take_at, drop-append-add, length-take-le}
+use Rattle.std.proofs.lemmas.List.Edits.{paste_more}
 use Rattle.base.specs.Pick.{pick}
 use Rattle.base.specs.Cases.{whether}
 use Rattle.base.specs.Lists.{map-take, get_or-map-within}
@@ -65,10 +66,10 @@ module _ (c : CodeRow) (s : Sound c) (p q : ℕ) (e : p ≡ prepad_of c) (f : q 
 -- ---- the tag characters behind them
 
 -- a turn of the loop
-pub tag-more : (cs out tag : List ℕ) (at i : ℕ) → at + i < length cs → i < length tag → out ≡ paste cs at (map sextet_of tag) i
-    → set out (at + i) (sextet_of (get_or tag i 0)) ≡ paste cs at (map sextet_of tag) (suc i)
-tag-more cs out tag at i h k e =
-    rw (e, ← get_or-map-within sextet_of tag i 0 0 k) (paste-suc cs at (map sextet_of tag) i 0 h (rw (length-map tag sextet_of) k))
+pub tag-more : (cs out tag : List ℕ) (at i v : ℕ) → at + i < length cs → i < length tag → v ≡ sextet_of (get_or tag i 0)
+    → out ≡ paste cs at (map sextet_of tag) i → set out (at + i) v ≡ paste cs at (map sextet_of tag) (i + 1)
+tag-more cs out tag at i v h k f e =
+    rw (e, f, ← get_or-map-within sextet_of tag i 0 0 k) (paste_more cs at (map sextet_of tag) i 0 h (rw (length-map tag sextet_of) k))
 
 drop-replicate : (n m a : ℕ) → drop n (replicate m a) ≡ replicate (m - n) a
 drop-replicate zero m a = let e : m - 0 ≡ m = omega arith in rw e

@@ -46,10 +46,8 @@ fn put_tag(cs: [u8; 12], at: usize, tag: [u8; 11], tags: usize) -> [u8; 12]
 {
     let values = alphabet::sextets();
     let mut out = cs;
-    let mut i = 0;
-    while i < tags {
+    for i in 0..tags {
         out[at + i] = alphabet::value(&values, tag[i]);
-        i += 1;
     }
     out
 }
@@ -58,10 +56,9 @@ fn put_tag(cs: [u8; 12], at: usize, tag: [u8; 11], tags: usize) -> [u8; 12]
 fn row_head(c: CodeRow, tag: [u8; 11], tags: usize) -> [u8; 12]
     ensures { Sound c → tags ≡ c.tag → result ≡ row_head c (take tags tag) }
 {
-    let chars = c.chars;
     let prepad = judging_header::prepad_of(c);
     let cs = code_head(c, prepad);
-    let at = chars as usize + prepad as usize;
+    let at = usize::from(c.chars) + prepad as usize;
     if 11 < tags {
         return cs;
     }

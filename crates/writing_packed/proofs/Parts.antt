@@ -12,7 +12,7 @@ use Rattle.laws.specs.Conversion.{length-to-binary}
 use Rattle.judging.proofs.Laws.{to_end}
 use Rattle.writing_fill.specs.Filled.{filled_text}
 use Rattle.writing_fill.proofs.Filled.{filled-known, known-take, known-drop, first_part}
-use Rattle.writing_raw.proofs.Buffers.{copied, converted-binary, lent, behind, binary-append}
+use Rattle.writing_raw.proofs.Buffers.{converted-binary, lent, behind, binary-append}
 
 -- ---- the unit in which the fill ends, if there is one, and then the others
 
@@ -91,7 +91,7 @@ module _ (header : ℕ) (head chars d d₁ d₂ : List ℕ) (two : header ≤ 2)
 
   pub binary-put : let front = take (header * 3) head in
       let part = take (length d₁ - header * 3) (drop (header * 3) d₁) in
-      d₁ ≡ take (length front) front ++ drop (length front) d
+      d₁ ≡ front ++ drop (header * 3) d
       → (length chars ≤ 4194304 → length chars ≤ first_stranger chars → d₂ ≡ to_binary (filled_text chars) ++ drop (3 * text_count (length chars)) part)
       → length chars ≤ 4194304 → length chars ≤ first_stranger chars
       → take (header * 3) d₁ ++ (d₂ ++ drop (length d₁ - header * 3) (drop (header * 3) d₁))
@@ -99,5 +99,4 @@ module _ (header : ℕ) (head chars d d₁ d₂ : List ℕ) (two : header ≤ 2)
   binary-put p f short clean =
       let front = take (header * 3) head in
       let l = front_length in
-      let a : d₁ ≡ front ++ drop (header * 3) d = copied front d d₁ p ∙ rw l in
-      behind front d d₁ (header * 3) l a (to_binary (filled_text chars)) d₂ (3 * text_count (length chars)) (rw (lent front d d₁ (header * 3) l a) at (f short clean))
+      behind front d d₁ (header * 3) l p (to_binary (filled_text chars)) d₂ (3 * text_count (length chars)) (rw (lent front d d₁ (header * 3) l p) at (f short clean))

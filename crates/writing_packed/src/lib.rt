@@ -41,7 +41,7 @@ fn put_binary(header: usize, head: [u8; 9], chars: &[u8], out: &mut [u8])
     ensures { length chars.now ≤ 4194304 → length chars.now ≤ first_stranger chars.now → out.new ≡ take (header * 3) head ++ to_binary (filled_text chars.now) ++ drop (header * 3 + 3 * text_count (length chars.now)) out.old }
 {
     let start = header * 3;
-    copying::copy(&head[..start], out);
+    out[..start].copy_from_slice(&head[..start]);
     put_packed(chars, &mut out[start..]);
 }
 

@@ -1,5 +1,5 @@
 -- What a buffer holds when two parts are written, the second into what is lent behind the first; and when they are what stands before a
--- raw value and the raw value, in either form. Assumes nothing.
+-- raw value and the raw value, as text. Assumes nothing.
 use mathlib.Core.Path.{◌≡◌, refl, ◌∙◌}
 use mathlib.Core.List.{List, [], ◌++◌, append_assoc, append-nil}
 use Prim.Native.Nat.{ℕ, ◌+◌, ◌-◌, ◌*◌, ◌/◌, ◌%◌, ◌≤◌}
@@ -20,9 +20,6 @@ pub to_end : (s : List ℕ) (from : ℕ) → take (length s - from) (drop from s
 to_end s from = take_all (length s - from) (drop from s) (omega (arith, length-drop from s))
 
 -- ---- one part
-
-pub copied : (s d d' : List ℕ) → d' ≡ take (length s) s ++ drop (length s) d → d' ≡ s ++ drop (length s) d
-copied s d d' e = e ∙ rw (take_all (length s) s (omega arith))
 
 -- a conversion that has room
 pub converted-text : (b d d' : List ℕ) (r : ToText) → length b ≤ 3145728 → length b % 3 ≡ 0 → length b / 3 * 4 ≤ length d → r ≡ binary_to_text b (length d)
@@ -64,16 +61,6 @@ binary-append p q w =
     rw (e, take_at p q (length p) refl, drop_at p q (length p) refl) at (binary-joins (p ++ q) (length p / 4) (omega arith))
 
 -- ---- what stands before a raw value, and the raw value
-
-pub put-binary : (head raw d d₁ d₂ : List ℕ) (start : ℕ) → start ≤ 9 → length head ≡ 9
-    → d₁ ≡ take (length (take start head)) (take start head) ++ drop (length (take start head)) d
-    → d₂ ≡ take (length raw) raw ++ drop (length raw) (take (length d₁ - start) (drop start d₁))
-    → take start d₁ ++ (d₂ ++ drop (length d₁ - start) (drop start d₁)) ≡ take start head ++ raw ++ drop (start + length raw) d
-put-binary head raw d d₁ d₂ start s nine e f =
-    let l = length-take-le start head (omega arith) in
-    let p : d₁ ≡ take start head ++ drop start d = copied (take start head) d d₁ e ∙ rw l in
-    let q : d₂ ≡ raw ++ drop (length raw) (drop start d) = copied raw (drop start d) d₂ (rw (lent (take start head) d d₁ start l p) at f) in
-    behind (take start head) d d₁ start l p raw d₂ (length raw) q
 
 -- the units of the first bytes with the raw ones that fill the last of them, then the raw value's own
 joined-text : (p raw : List ℕ) (k : ℕ) → length (p ++ take k raw) % 3 ≡ 0 → to_text (p ++ raw) ≡ to_text (p ++ take k raw) ++ to_text (drop k raw)

@@ -16,8 +16,8 @@ fn put_binary(head: [u8; 9], start: usize, raw: &[u8], out: &mut [u8])
     requires { (start ≤ 9) × (start + length raw.now ≤ length out.old) }
     ensures { out.new ≡ take start head ++ raw.now ++ drop (start + length raw.now) out.old }
 {
-    copying::copy(&head[..start], out);
-    copying::copy(raw, &mut out[start..]);
+    out[..start].copy_from_slice(&head[..start]);
+    out[start..start + raw.len()].copy_from_slice(raw);
 }
 
 // The raw bytes that fill the unit in which the others end.
@@ -27,11 +27,7 @@ fn join(head: [u8; 9], start: usize, raw: &[u8]) -> [u8; 9]
 {
     let mut joined = head;
     let k = raw.len() % 3;
-    let mut i = 0;
-    while i < k {
-        joined[start + i] = raw[i];
-        i += 1;
-    }
+    joined[start..start + k].copy_from_slice(&raw[..k]);
     joined
 }
 

@@ -15,11 +15,11 @@ pub fn is_short(n: Named, raw: usize) -> bool
         Named::Row(_) => true,
         Named::Variable { letter: _, head } => {
             let triplets = writing_sizes::count_for(raw);
-            judging_header::is_shortest(writing_code::wide(head), triplets)
+            judging_header::is_shortest(usize::from(head), triplets)
         }
         Named::Textual { head } => {
             let quadlets = writing_sizes::text_count(raw);
-            judging_header::is_shortest(writing_code::wide(head), quadlets)
+            judging_header::is_shortest(usize::from(head), quadlets)
         }
     }
 }

@@ -17,10 +17,9 @@ fn put_chars(chars: &[u8], out: &mut [u8])
     requires { 4 * text_count (length chars.now) ≤ length out.old }
     ensures { out.new ≡ filled_text chars.now ++ drop (4 * text_count (length chars.now)) out.old }
 {
-    let fill = [b'A'; 3];
     let n = writing_sizes::fill_for(chars.len());
-    copying::copy(&fill[..n], out);
-    copying::copy(chars, &mut out[n..]);
+    out[..n].fill(b'A');
+    out[n..n + chars.len()].copy_from_slice(chars);
 }
 
 // ---- behind the header

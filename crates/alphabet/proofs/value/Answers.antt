@@ -5,4 +5,4 @@ use Rattle.alphabet.proofs.value.Goals as goal
 
 pub returns : goal.returns
 unfolding sextet_table
-returns c = record { value = search rules; value_2 = λ e. rw e (get_or-table sextet_of 256 c.args.c (search rules)) }
+returns c = record { value = rw c.from.ensures; value_2 = λ e. rw (c.from.ensures, e) (get_or-table sextet_of 256 c.args.c (search rules)) }

@@ -1,9 +1,9 @@
--- `stranger` meets its contract: what its callees say of their results is what `scanned` asks. Assumes nothing.
+-- `stranger` meets its contract: it computes the least distance. Assumes nothing.
 use Rattle.std.proofs.Common.{rules}
-use Rattle.alphabet_scan.proofs.Laws.{scanned}
+use Rattle.alphabet_scan.proofs.Laws.{distance-right}
 use Rattle.alphabet_scan.proofs.stranger.Goals as goal
 
 pub returns : goal.returns
 returns c =
-    scanned c.args.c c.wrapping_sub_u8.result c.wrapping_sub_u8-2.result c.least-3.result
-    (search rules) (search rules) (search rules) (search rules) (search rules) (cc)
+    rw (c.min-3.ensures, c.min.ensures, c.min-2.ensures, c.saturating_sub-letter.ensures, c.saturating_sub-digit.ensures)
+    (distance-right c.args.c (search rules))

@@ -1,5 +1,4 @@
 -- `first_stranger` meets its contract. The loop's invariant: no stranger stands before i. Assumes nothing.
-use Prim.Native.Nat.{◌-◌}
 use mathlib.Core.Path.{sym, ◌∙◌}
 use native.Mathlib.Omega.{arith}
 use borrow.Author.Tests.{eq-eqb}

@@ -1,5 +1,4 @@
 -- `stranger_from` meets its contract. The loop's invariant: no stranger stands between `from` and i. Assumes nothing.
-use Prim.Native.Nat.{◌-◌}
 use native.Mathlib.Omega.{arith}
 use lib.ListN.{get_or}
 use borrow.Author.Tests.{lt-ltb, le-ltb}
@@ -20,7 +19,7 @@ loop-i-preserved c =
     let s = c.args.s.now in
     let v = c.value.ensures.value_2 c.sextets-values.ensures in
     let g = lt-ltb (sextet_of (get_or s c.loop-i.i 0)) 64 (omega (arith, v, c.if-value-gt63.false)) in
-    (search rules, omega (arith, known-here s c.loop-i.i (search rules) g))
+    omega (arith, known-here s c.loop-i.i (search rules) g)
 
 pub returns : goal.returns
 returns c = omega (arith, none_left c.args.s.now c.loop-i.i (omega arith))

@@ -1,5 +1,4 @@
 -- `passes` meets its contract. Assumes nothing.
-use Prim.Native.Nat.{◌-◌}
 use Rattle.comparison.proofs.Laws.{none-passing, hit-passing, miss-passing, all-passing}
 use borrow.Author.Rules.{rules}
 use Rattle.comparison.proofs.passes.Goals as goal

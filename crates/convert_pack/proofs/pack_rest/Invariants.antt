@@ -1,12 +1,6 @@
-use mathlib.Core.Path.{◌≡◌}
-use mathlib.Core.List.{List}
-use Prim.Native.Nat.{ℕ, ◌-◌, ◌≤◌}
-use lib.ListN.{length}
+use Rattle.std.proofs.Common.{ℕ, List}
 use Rattle.convert_pack.specs.Left.{Packed}
 use Rattle.convert_pack.proofs.pack_rest.Given as goal
 
 abbrev pub invariant-loop-i : goal.invariant-loop-i
-invariant-loop-i l = (l.i ≤ l.n) × (length l.dst ≡ length l.initial.dst) × ((o : List ℕ) → Packed l.done l.src o l.initial.dst → Packed l.i l.src o l.dst)
-
-abbrev pub decreases-loop-i : goal.decreases-loop-i
-decreases-loop-i l = l.n - l.i
+invariant-loop-i l = (o : List ℕ) → Packed l.done l.src o l.initial.dst → Packed l.i l.src o l.dst

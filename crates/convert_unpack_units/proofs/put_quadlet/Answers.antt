@@ -1,18 +1,7 @@
 -- `put_quadlet` meets its contract. Assumes nothing.
-use native.Mathlib.Omega.{arith}
-use lib.ListN.{length-set}
 use Rattle.base.specs.Stores.{store4}
 use borrow.Author.Rules.{rules}
 use Rattle.convert_unpack_units.proofs.put_quadlet.Goals as goal
-
-pub bounds-d-at-2 : goal.bounds-d-at-2
-bounds-d-at-2 c = simp length-set (omega arith)
-
-pub bounds-d-at-3 : goal.bounds-d-at-3
-bounds-d-at-3 c = simp length-set (omega arith)
-
-pub bounds-d-at-4 : goal.bounds-d-at-4
-bounds-d-at-4 c = simp length-set (omega arith)
 
 pub returns : goal.returns
 returns c = store4 c.args.d.now c.args.q c.args.at (search rules) (search rules)

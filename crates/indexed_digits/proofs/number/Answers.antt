@@ -5,18 +5,15 @@ use Rattle.indexed_digits.proofs.Digits.{one-digit, two_digits, three-digits}
 use borrow.Author.Rules.{rules}
 use Rattle.indexed_digits.proofs.number.Goals as goal
 
-pub returns-then-count-eq0 : goal.returns-then-count-eq0
-returns-then-count-eq0 c = λ _. rw c.if-count-eq0.true
-
 pub returns-then-count-eq1 : goal.returns-then-count-eq1
 returns-then-count-eq1 c = λ _.
-    rw (c.if-count-eq1.true, c.wide-a.ensures.0) (one-digit c.args.cs c.args.from (search rules))
+    rw (c.if-count-eq1.true, c.from-a.ensures) (one-digit c.args.cs c.args.from (search rules))
 
 pub returns-then-count-eq2 : goal.returns-then-count-eq2
 returns-then-count-eq2 c = λ _.
-    rw (c.if-count-eq2.true, c.wide-a.ensures.0, c.wide-b.ensures.0) (two_digits c.args.cs c.args.from (search rules))
+    rw (c.if-count-eq2.true, c.from-a.ensures, c.from-b.ensures) (two_digits c.args.cs c.args.from (search rules))
 
 pub returns : goal.returns
 returns c = λ h.
     let all : c.args.count ≡ 3 = omega arith in
-    rw (all, c.wide-a.ensures.0, c.wide-b.ensures.0, c.wide-d.ensures.0) (three-digits c.args.cs c.args.from (search rules))
+    rw (all, c.from-a.ensures, c.from-b.ensures, c.from-d.ensures) (three-digits c.args.cs c.args.from (search rules))

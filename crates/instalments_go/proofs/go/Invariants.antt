@@ -1,5 +1,4 @@
-use Prim.Native.Nat.{◌-◌, ◌≤◌}
-use mathlib.Core.Path.{◌≡◌}
+use Prim.Native.Nat.{◌≤◌}
 use lib.ListN.{length}
 use Rattle.format.specs.Judging.{max_depth}
 use Rattle.walk_state.specs.Lent.{walk_at}
@@ -9,7 +8,4 @@ use Rattle.instalments_go.proofs.go.Given as goal
 
 abbrev pub invariant-loop-items : goal.invariant-loop-items
 invariant-loop-items l =
-    (length l.slots ≡ length l.initial.slots) × (max_depth ≤ length l.initial.slots → Fits l.form l.s (walk_at l.initial.slots l.initial.q) → Going l.form l.s l.budget l.initial.slots l.initial.q l.slots l.q l.items)
-
-abbrev pub decreases-loop-items : goal.decreases-loop-items
-decreases-loop-items l = l.budget - l.items
+    max_depth ≤ length l.initial.slots → Fits l.form l.s (walk_at l.initial.slots l.initial.q) → Going l.form l.s l.budget l.initial.slots l.initial.q l.slots l.q l.items

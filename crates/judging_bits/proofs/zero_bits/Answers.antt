@@ -9,13 +9,4 @@ returns-then-i-ge12 c = sym (zero-past c.args.cs c.args.i _ (search rules) (sear
 
 pub returns : goal.returns
 unfolding zero_bits
-returns c =
-    rw (
-      c.shift_for-k.ensures.0,
-      c.wide-c.ensures.0,
-      c.sextet_at-3.ensures,
-      c.wide-b.ensures.0,
-      c.sextet_at-2.ensures,
-      c.wide-a.ensures.0,
-      c.sextet_at.ensures,
-    )
+returns c = cc

@@ -1,5 +1,4 @@
 use mathlib.Core.Path.{sym, ◌∙◌}
-use borrow.Author.Tests.{not-true, not-false}
 use Rattle.format.specs.Judging.{unless}
 use Rattle.judging_header.proofs.Laws.{no-levels, some-levels}
 use Rattle.judging_header.proofs.group_checks.Goals as goal

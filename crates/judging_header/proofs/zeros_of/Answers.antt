@@ -1,8 +1,9 @@
+use native.Mathlib.Omega.{arith}
 use borrow.Author.Tests.{eq-eqb, ne_eqb}
 use Rattle.judging_header.proofs.zeros_of.Goals as goal
 
 pub returns-then-c-eq0 : goal.returns-then-c-eq0
-returns-then-c-eq0 c = simp (eq-eqb _ _ c.if-c-eq0.true, c.wide-then-c-eq0.ensures.0, c.wide.ensures.0)
+returns-then-c-eq0 c = simp (eq-eqb _ _ c.if-c-eq0.true) (omega arith)
 
 pub returns-else-c-eq0 : goal.returns-else-c-eq0
 returns-else-c-eq0 c = simp (ne_eqb _ _ c.if-c-eq0.false)

@@ -12,4 +12,4 @@ pub returns : goal.returns
 unfolding ondex_right ondex_of
 returns c =
     simp (ne_eqb _ _ c.if-c-eq0.false)
-    (rw (c.wide.ensures.0, c.wide-2.ensures.0, c.wide-3.ensures.0) at c.digits_zero.ensures)
+    (rw (c.from.ensures, c.from-2.ensures, c.from-3.ensures) at c.digits_zero.ensures)

@@ -1,5 +1,4 @@
 use mathlib.Core.Path.{sym, ◌∙◌}
-use borrow.Author.Tests.{not-true, not-false}
 use Rattle.format.specs.Judging.{and_then, unless}
 use Rattle.judging_variable.specs.Checks.{variable_checks}
 use Rattle.judging_variable.proofs.variable_checks.Goals as goal

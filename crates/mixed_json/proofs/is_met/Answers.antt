@@ -10,7 +10,7 @@ pub returns-then-p-eq0 : goal.returns-then-p-eq0
 returns-then-p-eq0 c = search capital
 
 pub returns-then-p-eq1 : goal.returns-then-p-eq1
-returns-then-p-eq1 c = hexed _ _ (search rules) (search rules) _ c.hex.ensures.0
+returns-then-p-eq1 c = search (hexed, rules)
 
 pub returns : goal.returns
 returns c = search itself

@@ -1,7 +1,5 @@
 -- `are_accepted` meets its contract. Assumes nothing.
-use Prim.Native.Nat.{◌-◌}
 use Rattle.passing.proofs.Laws.{none-looked, one_more, one-refused, all-looked}
-use borrow.Author.Rules.{rules}
 use Rattle.passing.proofs.are_accepted.Goals as goal
 
 pub loop-i-init : goal.loop-i-init
@@ -14,4 +12,4 @@ pub loop-i-preserved : goal.loop-i-preserved
 loop-i-preserved c = search one_more
 
 pub returns : goal.returns
-returns c = all-looked _ _ _ c.loop-i.invariant (search rules)
+returns c = search all-looked

@@ -1,10 +1,6 @@
 -- `pieces_stage::settled` meets its contract. Assumes nothing.
-use native.Mathlib.Omega.{arith}
 use Rattle.pieces_stage.proofs.Laws.{settled_on, settled-end, settled-refused}
 use Rattle.pieces_stage.proofs.settled.Goals as goal
-
-pub returns-then-g-gt-FAR : goal.returns-then-g-gt-FAR
-returns-then-g-gt-FAR c = λ _ l. absurd (omega arith)
 
 pub returns-then-g-w : goal.returns-then-g-w
 returns-then-g-w c = λ _ _. search settled_on

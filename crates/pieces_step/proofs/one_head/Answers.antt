@@ -4,4 +4,4 @@ use borrow.Author.Rules.{rules}
 use Rattle.pieces_step.proofs.one_head.Goals as goal
 
 pub returns : goal.returns
-returns c = one-head c.args.q (search rules)
+returns c = rw c.copy_from_slice.ensures.after (one-head c.args.q (search rules))

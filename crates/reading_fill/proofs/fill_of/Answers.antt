@@ -14,4 +14,4 @@ returns-else-first-eq0 c = (simp (eq-eqb _ _ c.if-lead-eq0.true, ne_eqb _ _ c.if
 
 pub returns : goal.returns
 unfolding fill_by
-returns c = (simp (ne_eqb _ _ c.if-lead-eq0.false, c.wide.ensures.0), omega arith)
+returns c = (simp (ne_eqb _ _ c.if-lead-eq0.false) (omega arith), omega arith)

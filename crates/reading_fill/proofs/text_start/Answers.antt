@@ -11,25 +11,25 @@ unfolding text_start is_text
 returns-then-letter-eq0 c =
     let a = c.args in
     λ few small.
-    let h : c.at_most-i.result ≡ a.h = omega (arith, c.at_most-i.ensures) in
+    let h : c.min-i.result ≡ a.h = omega arith in
     rw (c.in-Variable.is, eq-eqb _ _ c.if-letter-eq0.true, c.fill_of.ensures.0, h)
 
 pub returns-in-Fixed : goal.returns-in-Fixed
 unfolding text_start is_text
-returns-in-Fixed c = λ few small. rw c.in-Fixed.is (omega (arith, c.at_most-end.ensures))
+returns-in-Fixed c = λ few small. rw c.in-Fixed.is (omega arith)
 
 pub returns-else-letter-eq0 : goal.returns-else-letter-eq0
 unfolding text_start is_text
-returns-else-letter-eq0 c = λ few small. rw (c.in-Variable.is, ne_eqb _ _ c.if-letter-eq0.false) (omega (arith, c.at_most-end.ensures))
+returns-else-letter-eq0 c = λ few small. rw (c.in-Variable.is, ne_eqb _ _ c.if-letter-eq0.false) (omega arith)
 
 pub returns-in-Group : goal.returns-in-Group
 unfolding text_start is_text
-returns-in-Group c = λ few small. rw c.in-Group.is (omega (arith, c.at_most-end.ensures))
+returns-in-Group c = λ few small. rw c.in-Group.is (omega arith)
 
 pub returns-in-Genus : goal.returns-in-Genus
 unfolding text_start is_text
-returns-in-Genus c = λ few small. rw c.in-Genus.is (omega (arith, c.at_most-end.ensures))
+returns-in-Genus c = λ few small. rw c.in-Genus.is (omega arith)
 
 pub returns-in-Indexed : goal.returns-in-Indexed
 unfolding text_start is_text
-returns-in-Indexed c = λ few small. rw c.in-Indexed.is (omega (arith, c.at_most-end.ensures))
+returns-in-Indexed c = λ few small. rw c.in-Indexed.is (omega arith)

@@ -9,7 +9,7 @@ unfolding primitive_of
 returns c =
     let a = c.args in
     λ few small shape.
-    let h : c.at_most-few.result ≡ a.h = omega (arith, c.at_most-few.ensures) in
-    let n : c.at_most-units.result ≡ a.n = omega (arith, c.at_most-units.ensures) in
+    let h : c.min-few.result ≡ a.h = omega arith in
+    let n : c.min-units.result ≡ a.n = omega arith in
     let r = c.raw_start-start.ensures (rw (h, n) shape) in
-    rw (c.tags_of-tags.ensures, c.code_of-code.ensures, c.left-raw.ensures, r, h, n)
+    rw (c.tags_of-tags.ensures, c.code_of-code.ensures, c.saturating_sub-raw.ensures, r, h, n)

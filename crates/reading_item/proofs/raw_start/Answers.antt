@@ -16,7 +16,7 @@ returns-in-Fixed c = λ _. rw c.in-Fixed.is c.fixed_start.ensures.0
 
 pub returns-else-letter-eq0 : goal.returns-else-letter-eq0
 unfolding raw_start is_text
-returns-else-letter-eq0 c = λ _. rw (c.in-Variable.is, ne_eqb _ _ c.if-letter-eq0.false, c.wide.ensures.0)
+returns-else-letter-eq0 c = λ _. rw (c.in-Variable.is, ne_eqb _ _ c.if-letter-eq0.false) (omega arith)
 
 pub returns-in-Group : goal.returns-in-Group
 unfolding raw_start is_text

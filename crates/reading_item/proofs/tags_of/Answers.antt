@@ -1,10 +1,11 @@
 -- `reading_item::tags_of` meets its contract. Assumes nothing.
+use native.Mathlib.Omega.{arith}
 use Rattle.format.specs.Reading.{tags_of}
 use Rattle.reading_item.proofs.tags_of.Goals as goal
 
 pub returns-in-Fixed : goal.returns-in-Fixed
 unfolding tags_of
-returns-in-Fixed c = rw (c.in-Fixed.is, c.wide.ensures.0)
+returns-in-Fixed c = rw c.in-Fixed.is (omega arith)
 
 pub returns-in-Variable : goal.returns-in-Variable
 unfolding tags_of

@@ -3,15 +3,14 @@ use native.Mathlib.Omega.{arith}
 use borrow.Author.Tests.{eq-eqb, ne_eqb}
 use Rattle.format.specs.Values.{raw_start}
 use Rattle.laws.specs.Offsets.{in-binary-is}
-use borrow.Author.Rules.{rules}
 use Rattle.reading_start.proofs.fixed_start.Goals as goal
 
 pub returns-then-c-eq0 : goal.returns-then-c-eq0
 unfolding raw_start
-returns-then-c-eq0 c = (simp (eq-eqb _ _ c.if-c-eq0.true, c.wide-then-c-eq0-2.ensures.0, c.wide-then-c-eq0.ensures.0, c.wide.ensures.0), search rules)
+returns-then-c-eq0 c = (simp (eq-eqb _ _ c.if-c-eq0.true) (omega arith), omega arith)
 
 pub returns-else-c-eq0 : goal.returns-else-c-eq0
 unfolding raw_start
 returns-else-c-eq0 c =
     let b = in-binary-is _ c.in_binary.ensures in
-    (simp (ne_eqb _ _ c.if-c-eq0.false, ← c.wide-else-c-eq0.ensures.0) b, omega (arith, b, c.wide-else-c-eq0.ensures.1))
+    (simp (ne_eqb _ _ c.if-c-eq0.false) (omega (arith, b)), omega (arith, b))

@@ -1,13 +1,10 @@
 -- `registry_reading::prepad` meets its contract. Assumes nothing.
-use borrow.Author.Tests.{eq-eqb, ne_eqb}
 use native.Mathlib.Omega.{arith}
+use borrow.Author.Tests.{eq-eqb, ne_eqb}
 use Rattle.registry_reading.proofs.prepad.Goals as goal
 
 pub returns-then-c-eq0 : goal.returns-then-c-eq0
 returns-then-c-eq0 c = simp (eq-eqb _ _ c.if-c-eq0.true)
 
-pub returns-then-used-full : goal.returns-then-used-full
-returns-then-used-full c = simp (ne_eqb _ _ c.if-c-eq0.false)
-
-pub returns-else-used-full : goal.returns-else-used-full
-returns-else-used-full c = simp (ne_eqb _ _ c.if-c-eq0.false) (omega arith)
+pub returns : goal.returns
+returns c = simp (ne_eqb _ _ c.if-c-eq0.false) (omega arith)

@@ -2,8 +2,5 @@ use Rattle.report_rows.specs.Stores.{run-start}
 use Rattle.report_alike.specs.Alike.{alike-none}
 use Rattle.report_alike.proofs.put_alike.Goals as goal
 
-pub store_most-requires : goal.store_most-requires
-store_most-requires c = c.is_run.ensures c.if-is_run.true
-
 pub returns : goal.returns
 returns c = (alike-none _ _ _ _ _ _ _ _, run-start _ _ _ _)

@@ -1,10 +1,7 @@
 use mathlib.Core.Path.{refl}
 use Rattle.format.specs.Report.{be4}
-use Rattle.report_rows.specs.Stores.{test_fits, test-put, test-left}
+use Rattle.report_rows.specs.Stores.{test-put, test-left}
 use Rattle.report_rows.proofs.put_number.Goals as goal
-
-pub store4-requires : goal.store4-requires
-store4-requires c = test_fits c.args.out.now c.args.at 4 _ c.has_room.ensures c.if-has_room.true
 
 pub returns-then-has_room : goal.returns-then-has_room
 unfolding be4

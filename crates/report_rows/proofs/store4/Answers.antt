@@ -1,18 +1,12 @@
-use native.Mathlib.Omega.{arith}
-use native.Mathlib.Numerals.{towards_suc}
-use lib.ListN.{length-set}
+use Rattle.std.proofs.Common.{◌≡◌, ◌+◌, ◌-◌, take, drop, sym, ◌∙◌, arith, append_assoc, drop-drop}
+use Rattle.std.proofs.lemmas.List.Edits.{sets-eq}
 use Rattle.format.specs.Report.{be4}
 use Rattle.report_rows.proofs.store4.Goals as goal
 
-pub bounds-out-at-2 : goal.bounds-out-at-2
-bounds-out-at-2 c = simp length-set (omega arith)
-
-pub bounds-out-at-3 : goal.bounds-out-at-3
-bounds-out-at-3 c = simp length-set (omega arith)
-
-pub bounds-out-at-4 : goal.bounds-out-at-4
-bounds-out-at-4 c = simp length-set (omega arith)
-
 pub returns : goal.returns
 unfolding be4
-returns c = simp towards_suc
+returns c =
+    let k : c.args.at + 4 - c.args.at ≡ 4 = omega arith in
+    let out = c.args.out.now in
+    rw (k, c.copy_from_slice.ensures.after, c.to_be_bytes.ensures, drop-drop 4 c.args.at)
+    (sym (append_assoc (take c.args.at out) (be4 c.args.v) (drop (c.args.at + 4) out)) ∙ sym (sets-eq (be4 c.args.v) out c.args.at c.requires))

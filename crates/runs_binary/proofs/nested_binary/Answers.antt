@@ -1,10 +1,11 @@
 -- `runs_binary::nested_binary` meets its contract. The invariant: so many units are left. Assumes nothing.
-use mathlib.Core.Path.{sym, ◌∙◌}
+use mathlib.Core.Path.{refl, sym, ◌∙◌, ◌≡◌}
+use Prim.Native.Nat.{◌+◌, ◌-◌}
 use native.Mathlib.Omega.{arith}
+use native.Mathlib.Numerals.{unary_clauses}
 use borrow.Author.Tests.{lt-ltb}
-use borrow.Author.Rules.{rules}
 use Rattle.runs.specs.Plain.{nested_at}
-use Rattle.runs.specs.Nesting.{left-start, left-inside, left_other, left-more, left_end}
+use Rattle.runs.specs.Nesting.{left-start, left_other, left-more, left_end}
 use Rattle.runs.specs.Runs.{nested_is}
 use Rattle.runs_binary.proofs.nested_binary.Goals as goal
 
@@ -12,29 +13,22 @@ pub returns-then-s-stop : goal.returns-then-s-stop
 unfolding nested_at
 returns-then-s-stop c = rw (lt-ltb _ _ c.if-s-stop.true)
 
-pub loop-left-init : goal.loop-left-init
-loop-left-init c = left-start c.beyond-all.ensures c.beyond-low.ensures
+pub loop-n-init : goal.loop-n-init
+loop-n-init c = simp unary_clauses (left-start c.saturating_sub-all.ensures refl)
 
-pub overflow_sub-stop : goal.overflow_sub-stop
-overflow_sub-stop c = omega (arith, left-inside c.loop-left.invariant c.loop-left-test.true)
+pub returns-then-group_in_binary-all : goal.returns-then-group_in_binary-all
+returns-then-group_in_binary-all c =
+    let z : c.args.stop - (c.saturating_sub-all.result - c.loop-n.n) ≡ c.args.at + c.loop-n.n = omega (arith, c.loop-n.invariant.is_all) in
+    let r = left_other c.loop-n.invariant (omega arith) (λ e. omega (arith, c.group_in_binary.ensures, rw z at e)) in
+    omega (arith, r) ∙ sym (nested_is _ _ _ _ _ c.if-s-stop.false)
 
-pub group_in_binary-requires : goal.group_in_binary-requires
-group_in_binary-requires c = omega (arith, left-inside c.loop-left.invariant c.loop-left-test.true, c.if-s-stop.false)
-
-pub overflow_sub-result : goal.overflow_sub-result
-overflow_sub-result c = omega (arith, c.loop-left.invariant.few)
-
-pub returns-then-group_in_binary-left : goal.returns-then-group_in_binary-left
-returns-then-group_in_binary-left c = left_other c.loop-left.invariant c.loop-left-test.true (λ e. omega (arith, c.group_in_binary.ensures)) ∙ sym (nested_is _ _ _ _ _ c.if-s-stop.false)
-
-pub loop-left-smaller : goal.loop-left-smaller
-loop-left-smaller c = omega (arith, c.loop-left-test.true)
-
-pub loop-left-preserved : goal.loop-left-preserved
-loop-left-preserved c = left-more c.loop-left.invariant c.loop-left-test.true (omega (arith, c.group_in_binary.ensures))
-
-pub overflow_sub-result-2 : goal.overflow_sub-result-2
-overflow_sub-result-2 c = omega (arith, c.loop-left.invariant.few)
+pub loop-n-preserved : goal.loop-n-preserved
+loop-n-preserved c =
+    let z : c.args.stop - (c.saturating_sub-all.result - c.loop-n.n) ≡ c.args.at + c.loop-n.n = omega (arith, c.loop-n.invariant.is_all) in
+    let y : c.saturating_sub-all.result - (c.loop-n.n + 1) ≡ c.saturating_sub-all.result - c.loop-n.n - 1 = omega arith in
+    rw y (left-more c.loop-n.invariant (omega arith) (rw z (omega (arith, c.group_in_binary.ensures))))
 
 pub returns : goal.returns
-returns c = left_end c.loop-left.invariant (search rules) ∙ sym (nested_is _ _ _ _ _ c.if-s-stop.false)
+returns c =
+    let r = left_end c.loop-n.invariant (omega arith) in
+    omega (arith, r) ∙ sym (nested_is _ _ _ _ _ c.if-s-stop.false)

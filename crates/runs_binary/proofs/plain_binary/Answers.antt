@@ -1,10 +1,6 @@
 -- `runs_binary::plain_binary` meets its contract. Assumes nothing.
-use mathlib.Core.Path.{◌∙◌}
 use Rattle.runs_binary.proofs.Laws.{binary-past}
 use Rattle.runs_binary.proofs.plain_binary.Goals as goal
 
 pub returns-then-s-at : goal.returns-then-s-at
 returns-then-s-at c = binary-past _ _ _ c.if-s-at.true
-
-pub returns : goal.returns
-returns c = c.plain.ensures ∙ c.unit-u.ensures _

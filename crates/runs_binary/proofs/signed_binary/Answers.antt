@@ -7,4 +7,4 @@ pub returns-then-s-at : goal.returns-then-s-at
 returns-then-s-at c = signed-past _ _ c.if-s-at.true
 
 pub returns : goal.returns
-returns c = signed-unit _ _ (search rules) (c.unit.ensures (λ a b c d. b)) _ c.wide.ensures.0 _ c.is_signed.ensures
+returns c = signed-unit _ _ (search rules) (c.unit.ensures (λ a b c d. b)) _ (search rules) _ c.is_signed.ensures

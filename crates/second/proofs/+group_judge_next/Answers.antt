@@ -2,7 +2,7 @@
 use Rattle.std.proofs.Common.{rules}
 use Rattle.second.proofs.Groups.{next-none, size_fits, own-long, next-asks, next-some}
 use Rattle.second.proofs.Groups.{judged-fixed, judged-variable, judged-indexed, judged-genus, judged-group, group-refused}
-use Rattle.second.proofs.Groups.{left-start, left_end, left-unframed, place-fits, end_fits, less, left-refused, left-place, left-on}
+use Rattle.second.proofs.Groups.{left-start, left_end, left-unframed, end_fits, less, left-refused, left-on}
 use Rattle.second.proofs.+group_judge_next.Goals as goal
 
 pub group-returns-in-Refused : goal.group-returns-in-Refused
@@ -11,14 +11,8 @@ group-returns-in-Refused t c = search group-refused
 pub group-loop-start-init : goal.group-loop-start-init
 group-loop-start-init t c = search left-start
 
-pub group-overflow_add-start : goal.group-overflow_add-start
-group-overflow_add-start t c = search place-fits
-
 pub group-returns-in-Unframed : goal.group-returns-in-Unframed
 group-returns-in-Unframed t c = search left-unframed
-
-pub group-overflow_add-start-in-Refused-verdict : goal.group-overflow_add-start-in-Refused-verdict
-group-overflow_add-start-in-Refused-verdict t c = search left-place
 
 pub group-returns-in-Refused-verdict : goal.group-returns-in-Refused-verdict
 group-returns-in-Refused-verdict t c = search left-refused

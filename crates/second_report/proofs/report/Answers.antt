@@ -1,5 +1,5 @@
 -- `second_report::report` meets its contract. Assumes nothing.
-use Rattle.second_report.proofs.Rows.{no_room, reached-start, offset-fits, refusals-fit, rows_fit, end-asks, written-end, written-rest, item-asks, end_fits, less, i-fits, k-fits, reached-more}
+use Rattle.second_report.proofs.Rows.{no_room, reached-start, refusals-fit, rows_fit, end-asks, written-end, written-rest, item-asks, end_fits, less, k-fits, reached-more}
 use Rattle.second_report.proofs.report.Goals as goal
 
 pub returns-then-out-n : goal.returns-then-out-n
@@ -7,9 +7,6 @@ returns-then-out-n c = search no_room
 
 pub loop-start-init : goal.loop-start-init
 loop-start-init c = search reached-start
-
-pub overflow_mul-unit : goal.overflow_mul-unit
-overflow_mul-unit c = search (offset-fits c.loop-start.invariant)
 
 pub put_end-requires : goal.put_end-requires
 put_end-requires c = search end-asks
@@ -34,9 +31,6 @@ overflow_add-k c = search k-fits
 pub overflow_add-start : goal.overflow_add-start
 overflow_add-start c =
     end_fits c.loop-start.invariant c.loop-start-test.true _ c.next.ensures _ _ c.in-Item.is
-
-pub overflow_add-i : goal.overflow_add-i
-overflow_add-i c = search i-fits
 
 pub loop-start-smaller : goal.loop-start-smaller
 loop-start-smaller c =

@@ -1,8 +1,5 @@
-use Rattle.std.specs.Prelude.{◌≤◌, ◌<◌, ◌-◌, length}
+use Rattle.std.specs.Prelude.{◌<◌}
 use Rattle.vectors_long.proofs.checksum.Given as goal
 
-abbrev pub invariant-loop-i : goal.invariant-loop-i
-invariant-loop-i l = (l.i ≤ length l.s) × (l.sum < 4294967291)
-
-abbrev pub decreases-loop-i : goal.decreases-loop-i
-decreases-loop-i l = length l.s - l.i
+abbrev pub invariant-loop-b : goal.invariant-loop-b
+invariant-loop-b l = l.sum < 4294967291

@@ -1,10 +1,6 @@
 -- `walk_state::advance` meets its contract. Assumes nothing.
-use native.Mathlib.Omega.{arith}
 use Rattle.walk_state.proofs.Lent.{advance-into, advance-past}
 use Rattle.walk_state.proofs.advance.Goals as goal
-
-pub returns-then-slots-lt-MAX_DEPTH : goal.returns-then-slots-lt-MAX_DEPTH
-returns-then-slots-lt-MAX_DEPTH c = λ l. absurd (omega arith)
 
 pub returns-then-opens : goal.returns-then-opens
 returns-then-opens c = λ l.

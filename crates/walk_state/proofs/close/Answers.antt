@@ -1,17 +1,18 @@
 -- `walk_state::close` meets its contract. The invariant: closing what is left gives what closing all gave. Assumes nothing.
-use lib.ListN.{length-set}
-use Rattle.walk_state.proofs.Lent.{closing-starts, closing-more, closing-stops, closing-ends}
+use mathlib.Core.Path.{◌≡◌}
+use Prim.Native.Nat.{◌+◌, ◌-◌}
+use native.Mathlib.Omega.{arith}
+use Rattle.walk_state.proofs.Lent.{closing-more, closing-stops, closing-ends}
 use borrow.Author.Rules.{rules}
 use Rattle.walk_state.proofs.close.Goals as goal
 
-pub loop-still-init : goal.loop-still-init
-loop-still-init c = (search rules, search rules, closing-starts _ _ _)
-
 pub returns-then-slots-top : goal.returns-then-slots-top
-returns-then-slots-top c = closing-stops c.loop-still.invariant.2 (search rules) (search rules) c.if-slots-top.true
+returns-then-slots-top c =
+    let e : c.loop-top.top - 1 + 1 ≡ c.loop-top.top = omega arith in
+    rw e (closing-stops c.loop-top.invariant (search rules) (search rules) c.if-slots-top.true)
 
-pub loop-still-preserved : goal.loop-still-preserved
-loop-still-preserved c = let l = c.loop-still in (search rules, simp length-set (search rules), closing-more l.invariant.2 (search rules) (search rules) c.if-slots-top.false)
+pub loop-top-preserved : goal.loop-top-preserved
+loop-top-preserved c = closing-more c.loop-top.invariant (search rules) (search rules) c.if-slots-top.false
 
 pub returns : goal.returns
-returns c = closing-ends c.loop-still.invariant.2 (search rules)
+returns c = let e : c.loop-top.top ≡ 0 = omega arith in rw e at (closing-ends c.loop-top.invariant (omega arith))

@@ -17,4 +17,4 @@ returns-in-Variable c = rw (c.units_of-units.ensures, c.in-Variable.is)
 
 pub returns-in-Textual : goal.returns-in-Textual
 unfolding planned_of as_named
-returns-in-Textual c = rw c.in-Textual.is
+returns-in-Textual c = rw (c.from.ensures, c.in-Textual.is)

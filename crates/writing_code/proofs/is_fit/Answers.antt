@@ -9,13 +9,13 @@ pub returns-in-Unknown : goal.returns-in-Unknown
 unfolding is_fit as_named
 returns-in-Unknown c = rw c.in-Unknown.is
 
-pub returns-then-tags-wide : goal.returns-then-tags-wide
+pub returns-then-tags-from : goal.returns-then-tags-from
 unfolding as_named
-returns-then-tags-wide c = rw c.in-Row.is (fits-row _ _ _ _ _ c.wide.ensures.0 c.if-tags-wide.true c.raw_size.ensures)
+returns-then-tags-from c = rw c.in-Row.is (fits-row _ _ _ _ _ c.from.ensures c.if-tags-from.true c.raw_size.ensures)
 
-pub returns-else-tags-wide : goal.returns-else-tags-wide
+pub returns-else-tags-from : goal.returns-else-tags-from
 unfolding is_fit fits_row as_named
-returns-else-tags-wide c = rw (c.in-Row.is, ← c.wide.ensures.0, ne_eqb _ _ c.if-tags-wide.false)
+returns-else-tags-from c = rw (c.in-Row.is, ← c.from.ensures, ne_eqb _ _ c.if-tags-from.false)
 
 pub returns-then-tags-eq0 : goal.returns-then-tags-eq0
 unfolding is_fit fits_variable as_named

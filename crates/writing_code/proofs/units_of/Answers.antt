@@ -9,12 +9,12 @@ returns-in-Unknown c = rw c.in-Unknown.is
 
 pub returns-in-Row : goal.returns-in-Row
 unfolding units_of as_named
-returns-in-Row c = rw (c.in-Row.is, c.wide.ensures.0)
+returns-in-Row c = rw (c.in-Row.is, c.from.ensures)
 
 pub returns-in-Variable : goal.returns-in-Variable
 unfolding units_of as_named
-returns-in-Variable c = rw (c.in-Variable.is, c.wide-in-Variable.ensures.0, c.count_for.ensures.0)
+returns-in-Variable c = rw (c.in-Variable.is, c.from-in-Variable.ensures, c.count_for.ensures.0)
 
 pub returns-in-Textual : goal.returns-in-Textual
 unfolding units_of as_named
-returns-in-Textual c = rw (c.in-Textual.is, c.wide-in-Textual.ensures.0, c.text_count.ensures.0)
+returns-in-Textual c = rw (c.in-Textual.is, c.from-in-Textual.ensures, c.text_count.ensures.0)

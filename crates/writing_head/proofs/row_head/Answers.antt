@@ -14,4 +14,4 @@ returns-then-at-tags-gt12 c = λ s e. absurd (omega (arith, (code-room _ s).0, c
 pub returns : goal.returns
 returns c =
     let a = c.args in
-    λ s e. c.put_tag.ensures ∙ row-filled a.c c.code_head-cs.result a.tag a.tags _ s e (search rules) c.prepad_of-prepad.ensures (c.code_head-cs.ensures s c.prepad_of-prepad.ensures)
+    λ s e. c.put_tag.ensures ∙ rw c.from.ensures (row-filled a.c c.code_head-cs.result a.tag a.tags _ s e (search rules) c.prepad_of-prepad.ensures (c.code_head-cs.ensures s c.prepad_of-prepad.ensures))

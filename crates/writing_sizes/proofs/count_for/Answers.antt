@@ -3,13 +3,6 @@ use native.Mathlib.Omega.{arith}
 use Rattle.format.specs.Writing.{lead_for, count_for}
 use Rattle.writing_sizes.proofs.count_for.Goals as goal
 
-pub overflow_add-result : goal.overflow_add-result
-overflow_add-result c = omega arith
-
-pub returns-then-raw-eq0 : goal.returns-then-raw-eq0
+pub returns : goal.returns
 unfolding count_for lead_for
-returns-then-raw-eq0 c = (omega arith, omega arith)
-
-pub returns-else-raw-eq0 : goal.returns-else-raw-eq0
-unfolding count_for lead_for
-returns-else-raw-eq0 c = (omega arith, omega arith)
+returns c = (omega arith, omega arith)

@@ -3,10 +3,6 @@ use native.Mathlib.Omega.{arith}
 use Rattle.format.specs.Texts.{fill_for, text_count}
 use Rattle.writing_sizes.proofs.text_count.Goals as goal
 
-pub returns-then-chars-eq0 : goal.returns-then-chars-eq0
+pub returns : goal.returns
 unfolding text_count fill_for
-returns-then-chars-eq0 c = (omega arith, omega arith)
-
-pub returns-else-chars-eq0 : goal.returns-else-chars-eq0
-unfolding text_count fill_for
-returns-else-chars-eq0 c = (omega arith, omega arith)
+returns c = (omega arith, omega arith)

