@@ -20,7 +20,8 @@ use Rattle.damage.proofs.Damage as D
 use Rattle.laws.specs.Domains.{reader}
 use Rattle.runs.specs.Levels.{Clear}
 use Rattle.judging.proofs.Laws.{to_end}
-use Rattle.report_first.specs.First.{Lent}
+use Rattle.runs_tables.specs.declared.Tables.{Tables}
+use Rattle.runs_tables.specs.Lent.{Lent}
 use Rattle.report_followers.specs.Followers.{Followers}
 use Rattle.report_sizes.specs.Sizes as S
 use Rattle.mixed.specs.declared.Start.{Start}
@@ -48,28 +49,28 @@ unfolding size_of
 size-within s at (Item k h n) e l = let w = frames-mixed.within (drop at s) k h n e in omega (arith, w.2, length-drop at s)
 size-within s at (Unframed m p) e l = omega arith
 
-pub by_general : (values classes rows s : List ℕ) (at to r : ℕ) → r ≡ size_of (frame_mixed (drop at s)) → at ≤ length s → Next values classes rows s at to r 0
-by_general values classes rows s at to r e l = record {
+pub by_general : (tables : Tables) (s : List ℕ) (at to r : ℕ) → r ≡ size_of (frame_mixed (drop at s)) → at ≤ length s → Next tables s at to r 0
+by_general tables s at to r e l = record {
   within = let z : r + 0 * r ≡ r = omega arith in rw (z, e) (size-within s at (frame_mixed (drop at s)) refl l);
   right = λ L K. one (drop at s) r e;
 }
 
 -- ---- CESR items
 
-module _ (f : Form) (values classes rows part : List ℕ) (clean n : ℕ) where
-  pub by-header : (n ≤ length part / (domain f).unit - 0) × (Lent values classes rows → S.Grouped (domain f) part clean 0 n) → (m : ℕ)
-      → Followers f part true clean 0 n m → 0 < n → Begun f values classes rows part clean n m
+module _ (f : Form) (tables : Tables) (part : List ℕ) (clean n : ℕ) where
+  pub by-header : (n ≤ length part / (domain f).unit - 0) × (Lent tables → S.Grouped (domain f) part clean 0 n) → (m : ℕ)
+      → Followers f part true clean 0 n m → 0 < n → Begun f tables part clean n m
   by-header G m F p =
       record { within = omega (arith, F.few, G.0); right = λ L K e. groups f part clean n m e K p (G.1 L) (F.run p) }
 
   pub by_size : (n ≤ length part / (domain f).unit - 0)
-      × (Lent values classes rows → Clear ((domain f).sextets part) 0 clean → n ≡ S.size_at (domain f) part 0) → Begun f values classes rows part clean n 0
+      × (Lent tables → Clear ((domain f).sextets part) 0 clean → n ≡ S.size_at (domain f) part 0) → Begun f tables part clean n 0
   by_size v = record { within = omega (arith, v.0); right = λ L K e. one-cesr f part n e (v.1 L K) }
 
 -- in bytes
-module _ (f : Form) (values classes rows s : List ℕ) (at to clean n m u : ℕ) (q : u ≡ (domain f).unit)
-    (B : Begun f values classes rows (take (length s - at) (drop at s)) clean n m) where
-  own : Begun f values classes rows (drop at s) clean n m
+module _ (f : Form) (tables : Tables) (s : List ℕ) (at to clean n m u : ℕ) (q : u ≡ (domain f).unit)
+    (B : Begun f tables (take (length s - at) (drop at s)) clean n m) where
+  own : Begun f tables (drop at s) clean n m
   own = rw (to_end s at) at B
 
   few_bytes : n * u + m * (n * u) ≤ length (drop at s)
@@ -80,15 +81,15 @@ module _ (f : Form) (values classes rows s : List ℕ) (at to clean n m u : ℕ)
   pub bytes_fit : length s * 1 < 2 ^ 63 → val.Fits w64 (n * u)
   bytes_fit b = omega (arith, few_bytes, length-drop at s)
 
-  pub in_bytes : (Known s at to → Clear ((domain f).sextets (drop at s)) 0 clean) → at ≤ length s → NextBy f values classes rows s at to (n * u) m
+  pub in_bytes : (Known s at to → Clear ((domain f).sextets (drop at s)) 0 clean) → at ≤ length s → NextBy f tables s at to (n * u) m
   in_bytes k l = record {
     within = omega (arith, few_bytes, length-drop at s);
     right = λ L K e. rw q (own.right L (k K) (starts-here s at ∙ e));
   }
 
-pub by_form : (values classes rows s : List ℕ) (at to n m : ℕ) (t : Start) → t ≡ start_at s at → (f : Form) → t ≡ Cesr f → NextBy f values classes rows s at to n m
-    → Next values classes rows s at to n m
-by_form values classes rows s at to n m t e f q N = record { within = N.within; right = λ L K. N.right L K (sym e ∙ q) }
+pub by_form : (tables : Tables) (s : List ℕ) (at to n m : ℕ) (t : Start) → t ≡ start_at s at → (f : Form) → t ≡ Cesr f → NextBy f tables s at to n m
+    → Next tables s at to n m
+by_form tables s at to n m t e f q N = record { within = N.within; right = λ L K. N.right L K (sym e ∙ q) }
 
 -- ---- the count
 
@@ -97,14 +98,14 @@ abbrev rows_at : List ℕ → ℕ → List ItemRow
 rows_at s at = D.rows_from frame_mixed judge_mixed at (drop at s)
 
 -- i items are counted, up to a byte
-pub record Counted (values classes rows s : List ℕ) (known to at i : ℕ) : Type 0 where
+pub record Counted (tables : Tables) (s : List ℕ) (known to at i : ℕ) : Type 0 where
   pub within : at ≤ length s
   pub few : i ≤ at
-  pub right : Lent values classes rows → Known s 0 known → Known s at to × (length (rows_mixed s) ≡ i + length (rows_at s at))
+  pub right : Lent tables → Known s 0 known → Known s at to × (length (rows_mixed s) ≡ i + length (rows_at s at))
 
-pub counted_start : (values classes rows s : List ℕ) (known : ℕ) → Counted values classes rows s known known 0 0
+pub counted_start : (tables : Tables) (s : List ℕ) (known : ℕ) → Counted tables s known known 0 0
 unfolding rows
-counted_start values classes rows s known = record { within = omega arith; few = omega arith; right = λ L K. (K, omega arith) }
+counted_start tables s known = record { within = omega arith; few = omega arith; right = λ L K. (K, omega arith) }
 
 -- an item, or nothing
 next_row : (s : List ℕ) (at : ℕ) (f : Framed) → frame_mixed (drop at s) ≡ f → (n : ℕ) → n ≡ size_of f → 0 < n
@@ -141,13 +142,13 @@ module _ (s : List ℕ) (at n m : ℕ) (A : Alike (drop at s) n m) where
   step-none : n ≡ 0 → size_of (frame_mixed (drop at s)) ≡ 0
   step-none z = let y : 0 * n ≡ 0 = omega arith in sym (rw y at (A.each 0 (omega arith))) ∙ z
 
-module _ {values classes rows s : List ℕ} {known to at i : ℕ} (K : Counted values classes rows s known to at i) where
-  pub counted-end : length s ≤ at → Total values classes rows s known i
+module _ {tables : Tables} {s : List ℕ} {known to at i : ℕ} (K : Counted tables s known to at i) where
+  pub counted-end : length s ≤ at → Total tables s known i
   counted-end h = record { few = omega (arith, K.few, K.within); right = λ L k. omega (arith, (K.right L k).1, at-end s at h) }
 
   -- a step, where characters are known up to another byte
-  module _ {to' n m : ℕ} (k : Known s at to → Known s at to') (N : Next values classes rows s at to' n m) where
-    pub counted_stop : n ≡ 0 → at < length s → Total values classes rows s known i
+  module _ {to' n m : ℕ} (k : Known s at to → Known s at to') (N : Next tables s at to' n m) where
+    pub counted_stop : n ≡ 0 → at < length s → Total tables s known i
     counted_stop z l = record {
       few = omega (arith, K.few, K.within);
       right = λ L f.
@@ -158,7 +159,7 @@ module _ {values classes rows s : List ℕ} {known to at i : ℕ} (K : Counted v
     more-few : (n ≡ 0 → ⊥) → m ≤ m * n
     more-few z = let y : m * 1 ≤ m * n = mul-le-mul_left m (pos_of_ne-zero z) in omega arith
 
-    pub counted-more : (n ≡ 0 → ⊥) → Counted values classes rows s known to' (at + (n + m * n)) (i + (1 + m))
+    pub counted-more : (n ≡ 0 → ⊥) → Counted tables s known to' (at + (n + m * n)) (i + (1 + m))
     counted-more z = record {
       within = N.within;
       few = omega (arith, K.few, more-few z, pos_of_ne-zero z);

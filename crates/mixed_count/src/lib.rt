@@ -9,6 +9,7 @@ ghost use Rattle.mixed_count.specs.Sizes.{size_of, Begun, NextBy, Next, Total};
 
 use format::{Form, Framed};
 use mixed::Start;
+use runs_tables::Tables;
 
 // An item of so many elements or units, and how many more of that size behind it are counted at once; no size where nothing is framed.
 #[derive(Clone, Copy)]
@@ -36,40 +37,25 @@ fn size_general(s: &[u8], at: usize) -> usize
 }
 
 // The CESR item of a form at a part's start, in units: with the small groups behind it that have its header, if it is one.
-fn begun(
-    form: Form,
-    values: &[u8; 256],
-    classes: &[u8; 256],
-    rows: &[u16; 192],
-    part: &[u8],
-    clean: usize,
-) -> Step
-    ensures { Begun form values.now classes.now rows.now part.now clean result.size result.more }
+fn begun(form: Form, tables: &Tables, part: &[u8], clean: usize) -> Step
+    ensures { Begun form tables.now part.now clean result.size result.more }
 {
-    let g = report_sizes::group_size(form, values, classes, rows, part, clean, 0);
+    let g = report_sizes::group_size(form, tables, part, clean, 0);
     if 0 < g {
         let more = report_followers::followers(form, part, true, clean, 0, g);
         return Step { size: g, more };
     }
-    let size = report_sizes::size(form, values, classes, rows, part, clean, 0);
+    let size = report_sizes::size(form, tables, part, clean, 0);
     Step { size, more: 0 }
 }
 
 // The same at a byte, in bytes.
-fn next_cesr(
-    form: Form,
-    values: &[u8; 256],
-    classes: &[u8; 256],
-    rows: &[u16; 192],
-    s: &[u8],
-    at: usize,
-    to: usize,
-) -> Step
+fn next_cesr(form: Form, tables: &Tables, s: &[u8], at: usize, to: usize) -> Step
     requires { at ≤ length s.now }
-    ensures { NextBy form values.now classes.now rows.now s.now at to result.size result.more }
+    ensures { NextBy form tables.now s.now at to result.size result.more }
 {
     let clean = mixed_known::clean(form, s, at, to);
-    let l = begun(form, values, classes, rows, &s[at..], clean);
+    let l = begun(form, tables, &s[at..], clean);
     Step {
         size: l.size * report_units::unit(form),
         more: l.more,
@@ -77,19 +63,12 @@ fn next_cesr(
 }
 
 // Either way.
-fn next(
-    values: &[u8; 256],
-    classes: &[u8; 256],
-    rows: &[u16; 192],
-    s: &[u8],
-    at: usize,
-    to: usize,
-) -> Step
+fn next(tables: &Tables, s: &[u8], at: usize, to: usize) -> Step
     requires { at ≤ length s.now }
-    ensures { Next values.now classes.now rows.now s.now at to result.size result.more }
+    ensures { Next tables.now s.now at to result.size result.more }
 {
     if let Start::Cesr(form) = mixed_frame::start(s, at) {
-        return next_cesr(form, values, classes, rows, s, at, to);
+        return next_cesr(form, tables, s, at, to);
     }
     Step {
         size: size_general(s, at),
@@ -97,21 +76,15 @@ fn next(
     }
 }
 
-pub fn count(
-    values: &[u8; 256],
-    classes: &[u8; 256],
-    rows: &[u16; 192],
-    s: &[u8],
-    known: usize,
-) -> usize
-    ensures { Total values.now classes.now rows.now s.now known result }
+pub fn count(tables: &Tables, s: &[u8], known: usize) -> usize
+    ensures { Total tables.now s.now known result }
 {
     let mut to = known;
     let mut at = 0;
     let mut i = 0;
     while at < s.len() {
         to = mixed_known::known(s, at, to);
-        let l = next(values, classes, rows, s, at, to);
+        let l = next(tables, s, at, to);
         if l.size == 0 {
             return i;
         }

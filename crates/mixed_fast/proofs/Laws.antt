@@ -24,7 +24,8 @@ use Rattle.runs.specs.Plain.{small_at, group_at, letter_at}
 use Rattle.runs.specs.Levels.{Clear}
 use Rattle.judging.proofs.Laws.{to_end}
 use Rattle.report_found.specs.Limits.{longest}
-use Rattle.report_first.specs.First.{Lent}
+use Rattle.runs_tables.specs.declared.Tables.{Tables}
+use Rattle.runs_tables.specs.Lent.{Lent}
 use Rattle.report_fast_laws.specs.Fast.{Good, Accepts}
 use Rattle.report_fast_laws.specs.Laws.{master-size}
 use Rattle.report_sizes.specs.Sizes.{Grouped}
@@ -36,24 +37,24 @@ use Rattle.mixed_fast.specs.Found.{Found, Units, Fast}
 
 -- ---- a part's start
 
-module _ (f : Form) (values classes rows part : List ℕ) (clean g : ℕ) where
-  pub by-group : (g ≤ length part / (domain f).unit - 0) × (Lent values classes rows → Grouped (domain f) part clean 0 g) → 0 < g → (t b : Bool)
-      → (Lent values classes rows → 0 < small_at ((domain f).sextets part) 0 → t ≡ is_indexed (letter_at ((domain f).sextets part) 0)) → not t ≡ true
-      → (length part ≤ longest → Lent values classes rows → Clear ((domain f).sextets part) 0 clean → group_at ((domain f).sextets part) 0 ≡ g → b ≡ true
+module _ (f : Form) (tables : Tables) (part : List ℕ) (clean g : ℕ) where
+  pub by-group : (g ≤ length part / (domain f).unit - 0) × (Lent tables → Grouped (domain f) part clean 0 g) → 0 < g → (t b : Bool)
+      → (Lent tables → 0 < small_at ((domain f).sextets part) 0 → t ≡ is_indexed (letter_at ((domain f).sextets part) 0)) → not t ≡ true
+      → (length part ≤ longest → Lent tables → Clear ((domain f).sextets part) 0 clean → group_at ((domain f).sextets part) 0 ≡ g → b ≡ true
       → Good (domain f) part 0 g)
-      → b ≡ true → Units f values classes rows part clean g
+      → b ≡ true → Units f tables part clean g
   by-group s p t b o is v y = record {
     few = omega (arith, s.0);
     right = λ l L K _. v l L K (master-size _ _ _ _ (s.1 L p).0 p (o L) (not-true _ is)) y;
   }
 
   pub by_first : (g ≤ length part / (domain f).unit - 0)
-      × (length part ≤ longest → Lent values classes rows → Clear ((domain f).sextets part) 0 clean → Accepts (domain f) part 0 g)
-      → Units f values classes rows part clean g
+      × (length part ≤ longest → Lent tables → Clear ((domain f).sextets part) 0 clean → Accepts (domain f) part 0 g)
+      → Units f tables part clean g
   by_first v = record { few = omega (arith, v.0); right = v.1 }
 
-pub nothing : (f : Form) (values classes rows part : List ℕ) (clean : ℕ) → Units f values classes rows part clean 0
-nothing f values classes rows part clean = record { few = omega arith; right = λ l L K p. absurd (omega arith) }
+pub nothing : (f : Form) (tables : Tables) (part : List ℕ) (clean : ℕ) → Units f tables part clean 0
+nothing f tables part clean = record { few = omega arith; right = λ l L K p. absurd (omega arith) }
 
 -- ---- the item at a byte
 
@@ -92,25 +93,25 @@ good-found f s at n e g p =
 
 -- ---- the answers
 
-module _ (f : Form) (values classes rows s : List ℕ) (at to : ℕ) where
-  pub behind : Fast f values classes rows s at to 0
+module _ (f : Form) (tables : Tables) (s : List ℕ) (at to : ℕ) where
+  pub behind : Fast f tables s at to 0
   behind = record { right = λ L l K e p. absurd (omega arith) }
 
   module _ (clean n : ℕ) (k : Known s at to → Clear ((domain f).sextets (drop at s)) 0 clean)
-      (U : Units f values classes rows (take (length s - at) (drop at s)) clean n) where
-    own : Units f values classes rows (drop at s) clean n
+      (U : Units f tables (take (length s - at) (drop at s)) clean n) where
+    own : Units f tables (drop at s) clean n
     own = rw (to_end s at) at U
 
-    pub in_bytes : (u : ℕ) → u ≡ (domain f).unit → Fast f values classes rows s at to (n * u)
+    pub in_bytes : (u : ℕ) → u ≡ (domain f).unit → Fast f tables s at to (n * u)
     in_bytes u q = record {
       right = λ L l K e p.
           let r : 0 < n * (domain f).unit = rw q at p in
           rw q (good-found f s at n e (own.right (omega (arith, length-drop at s)) L (k K) (some n (domain f).unit r)) r);
     }
 
-pub bytes_fit : (f : Form) (values classes rows s : List ℕ) (at clean n u : ℕ) → Units f values classes rows (take (length s - at) (drop at s)) clean n
+pub bytes_fit : (f : Form) (tables : Tables) (s : List ℕ) (at clean n u : ℕ) → Units f tables (take (length s - at) (drop at s)) clean n
     → u ≡ (domain f).unit → length s * 1 < 2 ^ 63 → val.Fits w64 (n * u)
-bytes_fit f values classes rows s at clean n u U q b =
-    let O : Units f values classes rows (drop at s) clean n = rw (to_end s at) at U in
+bytes_fit f tables s at clean n u U q b =
+    let O : Units f tables (drop at s) clean n = rw (to_end s at) at U in
     let m : n * u ≤ length (drop at s) = rw q ((le-div_iff_mul-le (reader f).pos).0 O.few) in
     omega (arith, length-drop at s)

@@ -9,7 +9,8 @@ use Rattle.format.specs.Units.{domain}
 use Rattle.format.specs.Judging.{shift}
 use Rattle.runs.specs.Levels.{Clear}
 use Rattle.report_found.specs.Limits.{longest}
-use Rattle.report_first.specs.First.{Lent}
+use Rattle.runs_tables.specs.declared.Tables.{Tables}
+use Rattle.runs_tables.specs.Lent.{Lent}
 use Rattle.report_fast_laws.specs.Fast.{Accepts}
 use Rattle.mixed.specs.declared.Start.TheVariants.{Cesr}
 use Rattle.mixed.specs.Mixed.{start_at, frame_mixed, judge_mixed}
@@ -23,10 +24,10 @@ pub record Found (s : List ℕ) (at n : ℕ) (v : Verdict) : Type 0 where
   pub judged : v ≡ shift at (judge_mixed (take n (drop at s)))
 
 -- the units of an accepted item at a part's start; 0 says nothing
-pub record Units (f : Form) (values classes rows part : List ℕ) (clean r : ℕ) : Type 0 where
+pub record Units (f : Form) (tables : Tables) (part : List ℕ) (clean r : ℕ) : Type 0 where
   pub few : r ≤ length part / (domain f).unit
-  pub right : length part ≤ longest → Lent values classes rows → Clear ((domain f).sextets part) 0 clean → Accepts (domain f) part 0 r
+  pub right : length part ≤ longest → Lent tables → Clear ((domain f).sextets part) 0 clean → Accepts (domain f) part 0 r
 
 -- the bytes of an accepted item of a form; 0 says nothing
-pub record Fast (f : Form) (values classes rows s : List ℕ) (at to r : ℕ) : Type 0 where
-  pub right : Lent values classes rows → length s ≤ longest → Known s at to → start_at s at ≡ Cesr f → 0 < r → Found s at r Accepted
+pub record Fast (f : Form) (tables : Tables) (s : List ℕ) (at to r : ℕ) : Type 0 where
+  pub right : Lent tables → length s ≤ longest → Known s at to → start_at s at ≡ Cesr f → 0 < r → Found s at r Accepted

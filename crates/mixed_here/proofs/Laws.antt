@@ -19,6 +19,7 @@ use Rattle.mixed_item.specs.Items.{Judges}
 use Rattle.mixed_here.specs.declared.Standing.{Standing}
 use Rattle.mixed_here.specs.declared.Standing.TheVariants.{Item, Rest}
 use Rattle.mixed_here.specs.Here.{General, Judged}
+use Rattle.runs_tables.specs.declared.Tables.{Tables}
 
 -- ---- the general way
 
@@ -36,13 +37,13 @@ module _ (s : List ℕ) (at : ℕ) (f : Framed) (e : f ≡ frame_mixed (take (le
 
 -- ---- either
 
-module _ (values classes rows s : List ℕ) (at to : ℕ) where
-  pub behind : (r : Standing) → length s < at → Judged values classes rows s at to r
+module _ (tables : Tables) (s : List ℕ) (at to : ℕ) where
+  pub behind : (r : Standing) → length s < at → Judged tables s at to r
   behind r l = record { right = λ L few h K. absurd (omega arith) }
 
-  pub by-fast : (t : Start) → t ≡ start_at s at → (f : Form) → t ≡ Cesr f → (n : ℕ) → Fast f values classes rows s at to n → 0 < n
-      → (b : ℕ) → b ≡ form_byte (Cesr f) → Judged values classes rows s at to (Item n Accepted b)
+  pub by-fast : (t : Start) → t ≡ start_at s at → (f : Form) → t ≡ Cesr f → (n : ℕ) → Fast f tables s at to n → 0 < n
+      → (b : ℕ) → b ≡ form_byte (Cesr f) → Judged tables s at to (Item n Accepted b)
   by-fast t e f q n A p b eb = record { right = λ L few h K. (A.right L few K (sym e ∙ q) p, eb ∙ ap form_byte (sym q ∙ e)) }
 
-  pub by_general : (r : Standing) → General s at r → Judged values classes rows s at to r
+  pub by_general : (r : Standing) → General s at r → Judged tables s at to r
   by_general r G = record { right = λ L few h K. G.right few }

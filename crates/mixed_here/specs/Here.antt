@@ -2,7 +2,8 @@
 use Rattle.std.specs.Prelude.{ℕ, ◌≤◌, ◌≡◌, List, length, drop}
 use Rattle.format.specs.declared.Framed.TheVariants.{Unframed}
 use Rattle.report_found.specs.Limits.{longest}
-use Rattle.report_first.specs.First.{Lent}
+use Rattle.runs_tables.specs.declared.Tables.{Tables}
+use Rattle.runs_tables.specs.Lent.{Lent}
 use Rattle.mixed.specs.Mixed.{start_at, form_byte, frame_mixed}
 use Rattle.mixed_known.specs.Known.{Known}
 use Rattle.mixed_fast.specs.Found.{Found}
@@ -19,5 +20,5 @@ pub record General (s : List ℕ) (at : ℕ) (r : Standing) : Type 0 where
   pub right : length s ≤ longest → Stands s at r
 
 -- and where the tables are right and characters are known
-pub record Judged (values classes rows s : List ℕ) (at to : ℕ) (r : Standing) : Type 0 where
-  pub right : Lent values classes rows → length s ≤ longest → at ≤ length s → Known s at to → Stands s at r
+pub record Judged (tables : Tables) (s : List ℕ) (at to : ℕ) (r : Standing) : Type 0 where
+  pub right : Lent tables → length s ≤ longest → at ≤ length s → Known s at to → Stands s at r

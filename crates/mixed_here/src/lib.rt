@@ -7,6 +7,7 @@ ghost use Rattle.mixed_here.specs.Here.{General, Judged};
 
 use format::{Framed, Verdict};
 use mixed::Start;
+use runs_tables::Tables;
 
 // An item of so many bytes with its verdict, its place in the stream, and the byte of its form; or nothing is framed, for this reason.
 #[derive(Clone, Copy)]
@@ -45,21 +46,14 @@ fn general(s: &[u8], at: usize) -> Standing
 }
 
 // By the fast way where that accepts it. Past the end no refusal's number is told.
-pub fn judged(
-    values: &[u8; 256],
-    classes: &[u8; 256],
-    rows: &[u16; 192],
-    s: &[u8],
-    at: usize,
-    to: usize,
-) -> Standing
-    ensures { Judged values.now classes.now rows.now s.now at to result }
+pub fn judged(tables: &Tables, s: &[u8], at: usize, to: usize) -> Standing
+    ensures { Judged tables.now s.now at to result }
 {
     if s.len() < at {
         return Standing::Rest { number: 0 };
     }
     if let Start::Cesr(form) = mixed_frame::start(s, at) {
-        let size = mixed_fast::accepted(form, values, classes, rows, s, at, to);
+        let size = mixed_fast::accepted(form, tables, s, at, to);
         if 0 < size {
             return Standing::Item {
                 size,

@@ -28,6 +28,7 @@ use Rattle.mixed_turn.specs.declared.Turn.{Turn}
 use Rattle.mixed_turn.specs.declared.Turn.TheVariants.{Stored, Rest}
 use Rattle.mixed_turn.specs.Turns.{Fill, Filling, After, Turns}
 use Rattle.mixed_report.specs.Turns.{Read, Counted, Begun, Ends, Ended, Written, Answered}
+use Rattle.runs_tables.specs.declared.Tables.{Tables}
 
 -- the report is that of the mixed framing, judge and rows
 report-is : (s : List ℕ) → mixed_report s ≡ report_of frame_mixed judge_mixed frames-mixed (mixed_row_bytes s) 10 (row-ten s) s
@@ -40,18 +41,18 @@ begin s o n = filled-start frame_mixed judge_mixed frames-mixed (mixed_row_bytes
 -- ---- all turns
 
 -- some items are stored, up to a byte
-pub record Reached (values classes rows s : List ℕ) (first n : ℕ) (out out₁ : List ℕ) (to at i k : ℕ) : Type 0 where
-  pub begun : Begun values classes rows s first n out
+pub record Reached (tables : Tables) (s : List ℕ) (first n : ℕ) (out out₁ : List ℕ) (to at i k : ℕ) : Type 0 where
+  pub begun : Begun tables s first n out
   pub inside : at ≤ length s
   pub long : length out₁ ≡ length out
   pub known : Known s at to
   pub fills : (o : List ℕ) → Fill s o n 0 0 0 out → Fill s o n at i k out₁
 
-module _ {values classes rows s : List ℕ} {first n : ℕ} {out : List ℕ} where
-  pub reached-start : Begun values classes rows s first n out → Reached values classes rows s first n out out first 0 0 0
+module _ {tables : Tables} {s : List ℕ} {first n : ℕ} {out : List ℕ} where
+  pub reached-start : Begun tables s first n out → Reached tables s first n out out first 0 0 0
   reached-start B = record { begun = B; inside = omega arith; long = refl; known = B.counted.read.clean; fills = λ o φ. φ }
 
-  module _ {out₁ : List ℕ} {to at i k : ℕ} (T : Reached values classes rows s first n out out₁ to at i k) where
+  module _ {out₁ : List ℕ} {to at i k : ℕ} (T : Reached tables s first n out out₁ to at i k) where
     asks : at < length s → Filling s n at i k out₁
     asks l = record {
       few = T.begun.counted.read.few;
@@ -63,7 +64,7 @@ module _ {values classes rows s : List ℕ} {first n : ℕ} {out : List ℕ} whe
     }
 
     -- a turn, where characters are known up to another byte
-    module _ {to' : ℕ} {r : Turn} {out₂ : List ℕ} (A : Turns values classes rows s n to' at i k out₁ r out₂)
+    module _ {to' : ℕ} {r : Turn} {out₂ : List ℕ} (A : Turns tables s n to' at i k out₁ r out₂)
         (known-to : Known s at to → Known s at to') (l : at < length s) where
       after : (o : List ℕ) → Fill s o n 0 0 0 out → After s o n at i k r out₂
       after o φ = A.right T.begun.counted.read.lent (known-to T.known) (asks l) o (T.fills o φ)
@@ -72,7 +73,7 @@ module _ {values classes rows s : List ℕ} {first n : ℕ} {out : List ℕ} whe
           → (0 < m) × (at + m ≤ length s) × Fill s o n (at + m) (i + 1) (k + b) out₂
       stored m b e o φ = subst (λ (t : Turn). After s o n at i k t out₂) e (after o φ)
 
-      pub reached-more : (m b : ℕ) → r ≡ Stored m b → length out₂ ≡ length out₁ → Reached values classes rows s first n out out₂ to' (at + m) (i + 1) (k + b)
+      pub reached-more : (m b : ℕ) → r ≡ Stored m b → length out₂ ≡ length out₁ → Reached tables s first n out out₂ to' (at + m) (i + 1) (k + b)
       reached-more m b e long₂ =
           let w = stored m b e T.begun.held T.begun.filled in
           record {
@@ -130,11 +131,11 @@ module _ {values classes rows s : List ℕ} {first n : ℕ} {out : List ℕ} whe
 
 -- ---- what is filled
 
-module _ {values classes rows s : List ℕ} {known n : ℕ} {o : List ℕ} (C : Counted values classes rows s known n o) (out : List ℕ) (p : out ≡ put o 0 (be4 n)) where
+module _ {tables : Tables} {s : List ℕ} {known n : ℕ} {o : List ℕ} (C : Counted tables s known n o) (out : List ℕ) (p : out ≡ put o 0 (be4 n)) where
   stored-count : out ≡ sets o 0 (be4 n)
   stored-count = puts o 0 (be4 n) (omega (arith, be4-long n, C.room)) p
 
-  pub begun : Begun values classes rows s known n out
+  pub begun : Begun tables s known n out
   begun = record {
     counted = record { read = C.read; count = C.count; room = omega (arith, C.room, ap length stored-count, length-sets o 0 (be4 n)) };
     held = o;
@@ -145,7 +146,7 @@ module _ {values classes rows s : List ℕ} {known n : ℕ} {o : List ℕ} (C : 
   ended r last E = E.ends o (rw stored-count (begin s o n))
 
 -- the last stores, behind rows of ten bytes, make the report
-module _ {values classes rows s : List ℕ} {known n : ℕ} {o : List ℕ} (C : Counted values classes rows s known n o) where
+module _ {tables : Tables} {s : List ℕ} {known n : ℕ} {o : List ℕ} (C : Counted tables s known n o) where
   ends-few : (e : End) (mid : List ℕ) → Ends s o n e mid → refused_of e ≤ n
   unfolding Ends refused_of
   ends-few (Whole k) mid w = w.0
@@ -179,7 +180,7 @@ pub too_long : (xs out : List ℕ) → mixed_limit < length xs → R.Refused 1 0
 unfolding mixed_answer
 too_long xs out l = rw (lt-ltb mixed_limit (length xs) l)
 
-module _ (xs out : List ℕ) {values classes rows : List ℕ} {known : ℕ} (Q : Read values classes rows xs known) (n : ℕ) (T : Total values classes rows xs known n) where
+module _ (xs out : List ℕ) {tables : Tables} {known : ℕ} (Q : Read tables xs known) (n : ℕ) (T : Total tables xs known n) where
   pub no_room : length out < 17 + 19 * n → Answered xs out (R.Refused 3 0) out
   unfolding mixed_answer mixed_left
   no_room k = record { answer = rw (le-ltb mixed_limit (length xs) Q.few, ← (T.right Q.lent Q.clean), lt-ltb (length out) (17 + 19 * n) k); left = refl }
@@ -195,5 +196,5 @@ module _ (xs out : List ℕ) {values classes rows : List ℕ} {known : ℕ} (Q :
         left = W.held ∙ sets-eq (mixed_report xs) out 0 fits ∙ rw (z, W.long);
       }
 
-  pub counted : 17 + 19 * n ≤ length out → Counted values classes rows xs known n out
+  pub counted : 17 + 19 * n ≤ length out → Counted tables xs known n out
   counted k = record { read = Q; count = T.right Q.lent Q.clean; room = k }

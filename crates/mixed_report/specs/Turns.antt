@@ -3,7 +3,8 @@ use Rattle.std.specs.Prelude.{ℕ, ◌+◌, ◌*◌, ◌≤◌, ◌≡◌, List,
 use Rattle.std.proofs.lemmas.List.Edits.{sets}
 use Rattle.format.specs.declared.Reported.{Reported}
 use Rattle.format.specs.Report.{be4}
-use Rattle.report_first.specs.First.{Lent}
+use Rattle.runs_tables.specs.declared.Tables.{Tables}
+use Rattle.runs_tables.specs.Lent.{Lent}
 use Rattle.report_last.specs.declared.End.{End}
 use Rattle.report_last.specs.declared.End.TheVariants.{Whole, Rest}
 use Rattle.mixed.specs.Mixed.{rows_mixed, mixed_report, mixed_limit, mixed_answer, mixed_left}
@@ -11,20 +12,20 @@ use Rattle.mixed_known.specs.Known.{Known}
 use Rattle.mixed_turn.specs.Turns.{Fill}
 
 -- a stream within the limit, how far its characters are known, and the tables
-pub record Read (values classes rows s : List ℕ) (known : ℕ) : Type 0 where
-  pub lent : Lent values classes rows
+pub record Read (tables : Tables) (s : List ℕ) (known : ℕ) : Type 0 where
+  pub lent : Lent tables
   pub clean : Known s 0 known
   pub few : length s ≤ mixed_limit
 
 -- its items are counted, and a buffer has room for the report
-pub record Counted (values classes rows s : List ℕ) (known n : ℕ) (out : List ℕ) : Type 0 where
-  pub read : Read values classes rows s known
+pub record Counted (tables : Tables) (s : List ℕ) (known n : ℕ) (out : List ℕ) : Type 0 where
+  pub read : Read tables s known
   pub count : n ≡ length (rows_mixed s)
   pub room : 17 + 19 * n ≤ length out
 
 -- the buffer holds their number
-pub record Begun (values classes rows s : List ℕ) (known n : ℕ) (out : List ℕ) : Type 0 where
-  pub counted : Counted values classes rows s known n out
+pub record Begun (tables : Tables) (s : List ℕ) (known n : ℕ) (out : List ℕ) : Type 0 where
+  pub counted : Counted tables s known n out
   pub held : List ℕ
   pub filled : Fill s held n 0 0 0 out
 

@@ -22,6 +22,7 @@ use Rattle.mixed_rows.specs.Rows.{item_put, row-ten, item-put}
 use Rattle.mixed_turn.specs.declared.Turn.{Turn}
 use Rattle.mixed_turn.specs.declared.Turn.TheVariants.{Stored, Rest}
 use Rattle.mixed_turn.specs.Turns.{Filling, Filled, Turns, Places}
+use Rattle.runs_tables.specs.declared.Tables.{Tables}
 
 -- ---- the rows
 
@@ -67,8 +68,8 @@ module _ (s : List ℕ) (n at i k : ℕ) (out : List ℕ) (h : Standing) where
   item-turn m v form e r out' F S = F (subst (Stands s at) e S)
 
 -- by what is judged there
-pub judged-turn : {values classes rows s : List ℕ} {n to at i k : ℕ} {out : List ℕ} (h : Standing) → Judged values classes rows s at to h → (r : Turn)
-    {out' : List ℕ} → (Stands s at h → Filled s n at i k out r out') → Turns values classes rows s n to at i k out r out'
+pub judged-turn : {tables : Tables} {s : List ℕ} {n to at i k : ℕ} {out : List ℕ} (h : Standing) → Judged tables s at to h → (r : Turn)
+    {out' : List ℕ} → (Stands s at h → Filled s n at i k out r out') → Turns tables s n to at i k out r out'
 judged-turn h J r F = record { right = λ L K Φ. F (J.right L Φ.few (omega (arith, Φ.here)) K) Φ }
 
 -- ---- what the test of places says
@@ -92,6 +93,6 @@ module _ (s : List ℕ) (room n at i k : ℕ) where
     not-placed = λ t out l Φ. omega (arith, Φ.here, leb-false at (length s) t);
   }
 
-pub turns-not : {values classes rows s : List ℕ} {n to at i k : ℕ} {out : List ℕ} (b : Bool) → Places s (length out) n at i k b → b ≡ false → (r : Turn)
-    → Turns values classes rows s n to at i k out r out
+pub turns-not : {tables : Tables} {s : List ℕ} {n to at i k : ℕ} {out : List ℕ} (b : Bool) → Places s (length out) n at i k b → b ≡ false → (r : Turn)
+    → Turns tables s n to at i k out r out
 turns-not b P e r = record { right = λ L K Φ. absurd (P.not-placed e _ refl Φ) }

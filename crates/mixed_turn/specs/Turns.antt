@@ -3,7 +3,8 @@ use Rattle.std.specs.Prelude.{ℕ, ◌+◌, ◌*◌, ◌≤◌, ◌<◌, ◌≡�
 use Rattle.format.specs.declared.Framed.TheVariants.{Unframed}
 use Rattle.filling.specs.Filling as F
 use Rattle.report_found.specs.Limits.{longest}
-use Rattle.report_first.specs.First.{Lent}
+use Rattle.runs_tables.specs.declared.Tables.{Tables}
+use Rattle.runs_tables.specs.Lent.{Lent}
 use Rattle.mixed.specs.Mixed.{frame_mixed, judge_mixed, rows_mixed, mixed_row_bytes}
 use Rattle.mixed_laws.specs.Frames.{frames-mixed}
 use Rattle.mixed_known.specs.Known.{Known}
@@ -33,8 +34,8 @@ abbrev pub Filled : List ℕ → ℕ → ℕ → ℕ → ℕ → List ℕ → Tu
 Filled s n at i k out r out' = Filling s n at i k out → (o : List ℕ) → Fill s o n at i k out → After s o n at i k r out'
 
 -- it is right where the tables are and characters are known
-pub record Turns (values classes rows s : List ℕ) (n to at i k : ℕ) (out : List ℕ) (r : Turn) (out' : List ℕ) : Type 0 where
-  pub right : Lent values classes rows → Known s at to → Filled s n at i k out r out'
+pub record Turns (tables : Tables) (s : List ℕ) (n to at i k : ℕ) (out : List ℕ) (r : Turn) (out' : List ℕ) : Type 0 where
+  pub right : Lent tables → Known s at to → Filled s n at i k out r out'
 
 -- places that are within a stream and no report passes, whatever the buffer holds
 pub record Placed (s : List ℕ) (n at i k : ℕ) : Type 0 where

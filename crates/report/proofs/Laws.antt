@@ -22,7 +22,8 @@ use Rattle.claims.proofs.Room.{report-fits}
 use Rattle.format.specs.Alphabet.{sextet_table}
 use Rattle.runs.specs.Plain.{plain_table, class_table}
 use Rattle.runs.specs.Levels.{Clear, clear-less}
-use Rattle.report_first.specs.First.{Lent}
+use Rattle.runs_tables.specs.declared.Tables.{Tables}
+use Rattle.runs_tables.specs.Lent.{Lent}
 use Rattle.filling.specs.Stores.{row-long, be4-long}
 use Rattle.report_rows.specs.Stores.{put}
 use Rattle.filling.specs.Filling.{report_of, filled-start, filled-few, filled-counts, stop-rows, end-rows, stop-all, end-all}
@@ -57,22 +58,22 @@ limit-most Binary = omega arith
 -- ---- all turns
 
 -- some items are stored, up to a unit
-pub record Reached (f : Form) (u : ℕ) (values classes rows s : List ℕ) (known n : ℕ) (out out₁ : List ℕ) (clean a i k : ℕ) : Type 0 where
-  pub begun : Begun f u values classes rows s known n out
+pub record Reached (f : Form) (u : ℕ) (tables : Tables) (s : List ℕ) (known n : ℕ) (out out₁ : List ℕ) (clean a i k : ℕ) : Type 0 where
+  pub begun : Begun f u tables s known n out
   pub inside : u * a ≤ length s
   pub long : length out₁ ≡ length out
   pub clear : Clear ((domain f).sextets s) a clean
   pub fills : (o : List ℕ) → Fill f s o n 0 0 0 out → Fill f s o n (u * a) i k out₁
 
-module _ {f : Form} {u : ℕ} {values classes rows s : List ℕ} {known n : ℕ} {out : List ℕ} where
-  pub reached-start : Begun f u values classes rows s known n out → Reached f u values classes rows s known n out out known 0 0 0
+module _ {f : Form} {u : ℕ} {tables : Tables} {s : List ℕ} {known n : ℕ} {out : List ℕ} where
+  pub reached-start : Begun f u tables s known n out → Reached f u tables s known n out out known 0 0 0
   reached-start B =
       let y : 0 * u ≡ 0 = omega arith in
       let z : u * 0 ≡ 0 = mul_comm u 0 ∙ y in
       record { begun = B; inside = rw z (omega arith); long = refl; clear = B.counted.read.clear; fills = λ o φ. rw z φ }
 
-  module _ {out₁ : List ℕ} {clean a i k : ℕ} (T : Reached f u values classes rows s known n out out₁ clean a i k) where
-    pub lent : Lent values classes rows
+  module _ {out₁ : List ℕ} {clean a i k : ℕ} (T : Reached f u tables s known n out out₁ clean a i k) where
+    pub lent : Lent tables
     lent = T.begun.counted.read.lent
 
     asks : u * a < length s → Filling f u s n a i k out₁
@@ -87,7 +88,7 @@ module _ {f : Form} {u : ℕ} {values classes rows s : List ℕ} {known n : ℕ}
     }
 
     -- a turn, where characters are known up to another unit
-    module _ {to : ℕ} {r : Turn} {out₂ : List ℕ} (A : Turns f values classes rows s n to a i k out₁ r out₂)
+    module _ {to : ℕ} {r : Turn} {out₂ : List ℕ} (A : Turns f tables s n to a i k out₁ r out₂)
         (known-to : Clear ((domain f).sextets s) a clean → Clear ((domain f).sextets s) a to) (l : u * a < length s) where
       after : (o : List ℕ) → Fill f s o n 0 0 0 out → After f u s o n a i k r out₂
       after o φ = turned (asks l) o (T.fills o φ)
@@ -100,7 +101,7 @@ module _ {f : Form} {u : ℕ} {values classes rows s : List ℕ} {known n : ℕ}
       stored m j b e o φ = subst (λ (t : Turn). After f u s o n a i k t out₂) e (after o φ)
 
       pub reached-more : (m j b : ℕ) → r ≡ Stored m j b → length out₂ ≡ length out₁
-          → Reached f u values classes rows s known n out out₂ to (a + m) (i + j) (k + b)
+          → Reached f u tables s known n out out₂ to (a + m) (i + j) (k + b)
       reached-more m j b e long₂ =
           let w = stored m j b e T.begun.held T.begun.filled in
           record {
@@ -164,12 +165,12 @@ module _ {f : Form} {u : ℕ} {values classes rows s : List ℕ} {known n : ℕ}
 
 -- ---- what is filled
 
-module _ {f : Form} {u : ℕ} {values classes rows s : List ℕ} {known n : ℕ} {o : List ℕ} (C : Counted f u values classes rows s known n o) (out : List ℕ)
+module _ {f : Form} {u : ℕ} {tables : Tables} {s : List ℕ} {known n : ℕ} {o : List ℕ} (C : Counted f u tables s known n o) (out : List ℕ)
     (p : out ≡ put o 0 (be4 n)) where
   stored-count : out ≡ sets o 0 (be4 n)
   stored-count = puts o 0 (be4 n) (omega (arith, be4-long n, C.room)) p
 
-  pub begun : Begun f u values classes rows s known n out
+  pub begun : Begun f u tables s known n out
   begun = record {
     counted = record { read = C.read; count = C.count; room = omega (arith, C.room, ap length stored-count, length-sets o 0 (be4 n)) };
     held = o;
@@ -180,7 +181,7 @@ module _ {f : Form} {u : ℕ} {values classes rows s : List ℕ} {known n : ℕ}
   ended r last E = E.ends o (rw stored-count (begin f s o n))
 
 -- the last stores make the report
-module _ {f : Form} {u : ℕ} {values classes rows s : List ℕ} {known n : ℕ} {o : List ℕ} (C : Counted f u values classes rows s known n o) where
+module _ {f : Form} {u : ℕ} {tables : Tables} {s : List ℕ} {known n : ℕ} {o : List ℕ} (C : Counted f u tables s known n o) where
   ends-few : (e : End) (mid : List ℕ) → Ends f s o n e mid → refused_of e ≤ n
   unfolding Ends refused_of
   ends-few (Whole k) mid w = w.0
@@ -208,11 +209,11 @@ module _ {f : Form} {u : ℕ} {values classes rows s : List ℕ} {known n : ℕ}
 
 -- ---- the answers
 
-module _ {f : Form} {u : ℕ} {values classes rows s : List ℕ} {known : ℕ} (Q : Read f u values classes rows s known) where
-  pub read-few : {n : ℕ} → Total f values classes rows s known n → n ≤ 4194304
+module _ {f : Form} {u : ℕ} {tables : Tables} {s : List ℕ} {known : ℕ} (Q : Read f u tables s known) where
+  pub read-few : {n : ℕ} → Total f tables s known n → n ≤ 4194304
   read-few T = omega (arith, T.few, units-few f s, Q.few, limit-most f)
 
-  pub read_count : (n : ℕ) → Total f values classes rows s known n → n ≡ length (rows_in (domain f) s)
+  pub read_count : (n : ℕ) → Total f tables s known n → n ≡ length (rows_in (domain f) s)
   read_count n T = T.right Q.lent Q.clear
 
 demand3 : (f : Form) → Demand3 (domain f)
@@ -230,8 +231,8 @@ module _ (f : Form) (xs out : List ℕ) where
   abbrev d : Domain
   d = domain f
 
-  module _ {u : ℕ} {values classes rows : List ℕ} {known n : ℕ} (Q : Read f u values classes rows xs known)
-      (T : Total f values classes rows xs known n) where
+  module _ {u : ℕ} {tables : Tables} {known n : ℕ} (Q : Read f u tables xs known)
+      (T : Total f tables xs known n) where
     pub no_room : length out < 17 + 18 * n → Answered f xs out (R.Refused 3 0) out
     unfolding report_answer report_left
     no_room k = record { answer = rw (le-ltb d.limit (length xs) Q.few, ← read_count Q n T, lt-ltb (length out) (17 + 18 * n) k); left = refl }
@@ -248,9 +249,8 @@ module _ (f : Form) (xs out : List ℕ) where
         }
 
 -- the tables as they are named, and characters known from the start
-pub reads : (f : Form) (u : ℕ) (values classes rows s : List ℕ) (known : ℕ) → u ≡ (domain f).unit → values ≡ sextet_table
-    → classes ≡ class_table → rows ≡ plain_table
+pub reads : (f : Form) (u : ℕ) (tables : Tables) (s : List ℕ) (known : ℕ) → u ≡ (domain f).unit → Lent tables
     → length s ≤ (domain f).limit → (Clear ((domain f).sextets s) 0 0 → Clear ((domain f).sextets s) 0 known)
-    → Read f u values classes rows s known
-reads f u values classes rows s known e v k r l c =
-    record { unit = e; lent = record { characters = v; letters = k; codes = r }; few = l; clear = c (known-first ((domain f).sextets s)) }
+    → Read f u tables s known
+reads f u tables s known e t l c =
+    record { unit = e; lent = t; few = l; clear = c (known-first ((domain f).sextets s)) }

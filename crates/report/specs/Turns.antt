@@ -6,27 +6,28 @@ use Rattle.format.specs.declared.Reported.{Reported}
 use Rattle.format.specs.Units.{domain}
 use Rattle.format.specs.Report.{rows_in, be4, report, report_answer, report_left}
 use Rattle.runs.specs.Levels.{Clear}
-use Rattle.report_first.specs.First.{Lent}
+use Rattle.runs_tables.specs.declared.Tables.{Tables}
+use Rattle.runs_tables.specs.Lent.{Lent}
 use Rattle.report_general.specs.Turns.{Fill}
 use Rattle.report_last.specs.declared.End.{End}
 use Rattle.report_last.specs.declared.End.TheVariants.{Whole, Rest}
 
 -- a stream within the limit, u elements to the unit, known from its start to a unit, and the tables
-pub record Read (f : Form) (u : ℕ) (values classes rows s : List ℕ) (known : ℕ) : Type 0 where
+pub record Read (f : Form) (u : ℕ) (tables : Tables) (s : List ℕ) (known : ℕ) : Type 0 where
   pub unit : u ≡ (domain f).unit
-  pub lent : Lent values classes rows
+  pub lent : Lent tables
   pub few : length s ≤ (domain f).limit
   pub clear : Clear ((domain f).sextets s) 0 known
 
 -- its items are counted, and a buffer has room for the report
-pub record Counted (f : Form) (u : ℕ) (values classes rows s : List ℕ) (known n : ℕ) (out : List ℕ) : Type 0 where
-  pub read : Read f u values classes rows s known
+pub record Counted (f : Form) (u : ℕ) (tables : Tables) (s : List ℕ) (known n : ℕ) (out : List ℕ) : Type 0 where
+  pub read : Read f u tables s known
   pub count : n ≡ length (rows_in (domain f) s)
   pub room : 17 + 18 * n ≤ length out
 
 -- the buffer holds their number
-pub record Begun (f : Form) (u : ℕ) (values classes rows s : List ℕ) (known n : ℕ) (out : List ℕ) : Type 0 where
-  pub counted : Counted f u values classes rows s known n out
+pub record Begun (f : Form) (u : ℕ) (tables : Tables) (s : List ℕ) (known n : ℕ) (out : List ℕ) : Type 0 where
+  pub counted : Counted f u tables s known n out
   pub held : List ℕ
   pub filled : Fill f s held n 0 0 0 out
 

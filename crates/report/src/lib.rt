@@ -9,9 +9,11 @@ ghost use Rattle.format.specs.Units.{domain, text, binary};
 ghost use Rattle.format.specs.Report.{report_answer, report_left};
 ghost use Rattle.report.specs.Turns.{Read, Counted, Begun, Ends, Ended, Written, Answered};
 
+use filling::Position;
 use format::{Form, Reported};
 use report_general::Turn;
 use report_last::End;
+use runs_tables::Tables;
 
 // ---- the rows
 
@@ -19,81 +21,80 @@ use report_last::End;
 fn put_all(
     form: Form,
     u: usize,
-    values: &[u8; 256],
-    classes: &[u8; 256],
-    rows: &[u16; 192],
+    tables: &Tables,
     s: &[u8],
     out: &mut [u8],
     known: usize,
     n: usize,
 ) -> End
-    requires { Begun form u values.now classes.now rows.now s.now known n out.old }
+    requires { Begun form u tables.now s.now known n out.old }
     ensures { Ended form s.now n out.old result out.new }
 {
     let mut clean = known;
-    let mut a = 0;
-    let mut i = 0;
-    let mut k = 0;
-    while u * a < s.len() {
-        clean = report_first::known(form, s, a, clean);
-        match report_turn::put_turn(form, values, classes, rows, s, out, n, clean, a, i, k) {
+    let mut at = 0;
+    let mut stored = 0;
+    let mut refused = 0;
+    while u * at < s.len() {
+        clean = report_first::known(form, s, at, clean);
+        let here = Position {
+            items: n,
+            at,
+            stored,
+            refused,
+        };
+        match report_turn::put_turn(form, tables, s, out, clean, here) {
             Turn::Rest { number } => {
-                let offset = u * a;
                 return End::Rest {
-                    offset,
-                    refused: k,
+                    offset: u * at,
+                    refused,
                     number,
                 };
             }
             Turn::Stored {
                 units,
                 items,
-                refused,
+                refused: more,
             } => {
-                a = a + units;
-                i = i + items;
-                k = k + refused;
+                at += units;
+                stored += items;
+                refused += more;
             }
         }
     }
-    End::Whole { refused: k }
+    End::Whole { refused }
 }
 
 // The number of items, and their rows.
 fn put_items(
     form: Form,
     u: usize,
-    values: &[u8; 256],
-    classes: &[u8; 256],
-    rows: &[u16; 192],
+    tables: &Tables,
     s: &[u8],
     out: &mut [u8],
     known: usize,
     n: usize,
 ) -> End
-    requires { Counted form u values.now classes.now rows.now s.now known n out.old }
+    requires { Counted form u tables.now s.now known n out.old }
     ensures { Ends form s.now out.old n result out.new }
 {
     report_rows::put_number(out, 0, n);
-    put_all(form, u, values, classes, rows, s, out, known, n)
+    put_all(form, u, tables, s, out, known, n)
 }
 
 // Writes the report of a stream, which has n items.
 fn fill(
     form: Form,
     u: usize,
-    values: &[u8; 256],
-    classes: &[u8; 256],
-    rows: &[u16; 192],
+    tables: &Tables,
     s: &[u8],
     out: &mut [u8],
     known: usize,
     n: usize,
 ) -> usize
-    requires { Counted form u values.now classes.now rows.now s.now known n out.old }
+    requires { Counted form u tables.now s.now known n out.old }
     ensures { Written form s.now out.old result out.new }
 {
-    let end = put_items(form, u, values, classes, rows, s, out, known, n);
+    let end = put_items(form, u, tables, s, out, known, n);
     report_last::put_last(out, 4 + 9 * n, end)
 }
 
@@ -103,21 +104,19 @@ fn fill(
 fn report_by(
     form: Form,
     u: usize,
-    values: &[u8; 256],
-    classes: &[u8; 256],
-    rows: &[u16; 192],
+    tables: &Tables,
     s: &[u8],
     out: &mut [u8],
     known: usize,
 ) -> Reported
-    requires { Read form u values.now classes.now rows.now s.now known }
+    requires { Read form u tables.now s.now known }
     ensures { Answered form s.now out.old result out.new }
 {
-    let n = report_count::count(form, values, classes, rows, s, known);
+    let n = report_count::count(form, tables, s, known);
     if out.len() < 17 + 18 * n {
         return Reported::Refused(3, 0);
     }
-    let length = fill(form, u, values, classes, rows, s, out, known, n);
+    let length = fill(form, u, tables, s, out, known, n);
     Reported::Written(length)
 }
 
@@ -127,20 +126,9 @@ fn report(form: Form, s: &[u8], out: &mut [u8]) -> Reported
     requires { length s.now ≤ (domain form).limit }
     ensures { Answered form s.now out.old result out.new }
 {
-    let values = alphabet::sextets();
-    let classes = runs_tables::classes();
-    let rows = runs_tables::rows();
+    let tables = Tables::new();
     let known = report_first::known(form, s, 0, 0);
-    report_by(
-        form,
-        report_units::unit(form),
-        &values,
-        &classes,
-        &rows,
-        s,
-        out,
-        known,
-    )
+    report_by(form, report_units::unit(form), &tables, s, out, known)
 }
 
 // The report of a text in a buffer: its length, or 1 or 3, which leave the buffer as it was.

@@ -21,7 +21,8 @@ use Rattle.laws.specs.Frames.{frames}
 use Rattle.laws.specs.Items.{rows_at, rows-item, rows-refused, rows-nil}
 use Rattle.runs.specs.Levels.{Clear, clear-less}
 use Rattle.runs.specs.Runs.{Run, run_none}
-use Rattle.report_first.specs.First.{Lent}
+use Rattle.runs_tables.specs.declared.Tables.{Tables}
+use Rattle.runs_tables.specs.Lent.{Lent}
 use Rattle.runs.specs.Plain.{small_at}
 use Rattle.report_sizes.specs.Sizes.{Grouped, size_of, size_at}
 use Rattle.report_sizes.proofs.Laws.{tells-small, size-told}
@@ -131,67 +132,67 @@ step-within f s at size r n j p h g T =
     let z : r * 1 ≤ r * size = mul-le-mul_left r p in
     (omega (arith, T.long), omega (arith, T.long, T.many))
 
-module _ (f : Form) (values classes rows s : List ℕ) (clean at size r : ℕ) (h : size ≤ length s / (domain f).unit - at)
+module _ (f : Form) (tables : Tables) (s : List ℕ) (clean at size r : ℕ) (h : size ≤ length s / (domain f).unit - at)
     (g : r * size ≤ length s / (domain f).unit - (at + size)) where
   pub step_small : length s * 1 < 2 ^ 63 → 0 < size → Small size r
   step_small l p = record { some = p; fits = omega (arith, units-few f s) }
 
   -- groups with one header, and items with one letter
-  pub by-headers : (n j : ℕ) → Together size r n j → 0 < size → (Lent values classes rows → Grouped (domain f) s clean at size)
+  pub by-headers : (n j : ℕ) → Together size r n j → 0 < size → (Lent tables → Grouped (domain f) s clean at size)
       → (Clear ((domain f).sextets s) at clean → small_at ((domain f).sextets s) at ≡ size → 0 < size → Run (size_at (domain f) s) size (length s / (domain f).unit) (at + size) r)
-      → Next f values classes rows s clean at n j
+      → Next f tables s clean at n j
   by-headers n j T p G R = record {
     within = step-within f s at size r n j p h g T;
     right = λ L K. stepped f s at size r n j p T (by-header f s clean at size r p (G L) R K);
   }
 
   pub by-letters : (n j : ℕ) → Together size r n j → (size ≡ 0 → ⊥)
-      → (Lent values classes rows → Clear ((domain f).sextets s) at clean → size ≡ size_at (domain f) s at)
-      → (Lent values classes rows → Clear ((domain f).sextets s) at clean → 0 < size → Run (size_at (domain f) s) size (length s / (domain f).unit) (at + size) r)
-      → Next f values classes rows s clean at n j
+      → (Lent tables → Clear ((domain f).sextets s) at clean → size ≡ size_at (domain f) s at)
+      → (Lent tables → Clear ((domain f).sextets s) at clean → 0 < size → Run (size_at (domain f) s) size (length s / (domain f).unit) (at + size) r)
+      → Next f tables s clean at n j
   by-letters n j T p E R = record {
     within = step-within f s at size r n j (pos_of_ne-zero p) h g T;
     right = λ L K. stepped f s at size r n j (pos_of_ne-zero p) T (record { first = E L K; behind = R L K });
   }
 
 -- a group by itself
-module _ (f : Form) (values classes rows s : List ℕ) (clean at size : ℕ) (h : size ≤ length s / (domain f).unit - at) where
+module _ (f : Form) (tables : Tables) (s : List ℕ) (clean at size : ℕ) (h : size ≤ length s / (domain f).unit - at) where
   pub alone-small : length s * 1 < 2 ^ 63 → 0 < size → Small size 0
-  alone-small l p = step_small f values classes rows s clean at size 0 h (omega arith) l p
+  alone-small l p = step_small f tables s clean at size 0 h (omega arith) l p
 
-  pub by-alone : (n j : ℕ) → Together size 0 n j → 0 < size → (Lent values classes rows → Grouped (domain f) s clean at size)
-      → Next f values classes rows s clean at n j
-  by-alone n j T p G = by-headers f values classes rows s clean at size 0 h (omega arith) n j T p G (λ K e q. run_none _ _ _ _ q)
+  pub by-alone : (n j : ℕ) → Together size 0 n j → 0 < size → (Lent tables → Grouped (domain f) s clean at size)
+      → Next f tables s clean at n j
+  by-alone n j T p G = by-headers f tables s clean at size 0 h (omega arith) n j T p G (λ K e q. run_none _ _ _ _ q)
 
-pub no_step : (f : Form) (values classes rows s : List ℕ) (clean at m : ℕ)
-    → (Lent values classes rows → Clear ((domain f).sextets s) at clean → m ≡ size_at (domain f) s at) → m ≡ 0
-    → Next f values classes rows s clean at 0 0
-no_step f values classes rows s clean at m E z =
+pub no_step : (f : Form) (tables : Tables) (s : List ℕ) (clean at m : ℕ)
+    → (Lent tables → Clear ((domain f).sextets s) at clean → m ≡ size_at (domain f) s at) → m ≡ 0
+    → Next f tables s clean at 0 0
+no_step f tables s clean at m E z =
     record { within = (omega arith, omega arith); right = λ L K. none-stepped f s at m (E L K) z }
 
 -- ---- the loop
 
 -- i items up to the unit a, as far as it can be said without the tables; and with them
-pub record Counting (f : Form) (values classes rows s : List ℕ) (known u clean a i : ℕ) : Type 0 where
+pub record Counting (f : Form) (tables : Tables) (s : List ℕ) (known u clean a i : ℕ) : Type 0 where
   pub unit : u ≡ (domain f).unit
   pub within : a ≤ length s / (domain f).unit
   pub few : i ≤ a
-  pub right : Lent values classes rows → Clear ((domain f).sextets s) 0 known → Counted f s a i × Clear ((domain f).sextets s) a clean
+  pub right : Lent tables → Clear ((domain f).sextets s) 0 known → Counted f s a i × Clear ((domain f).sextets s) a clean
 
-module _ {f : Form} {values classes rows s : List ℕ} {known u : ℕ} where
-  pub counting-start : u ≡ (domain f).unit → Counting f values classes rows s known u known 0 0
+module _ {f : Form} {tables : Tables} {s : List ℕ} {known u : ℕ} where
+  pub counting-start : u ≡ (domain f).unit → Counting f tables s known u known 0 0
   counting-start e = record { unit = e; within = omega arith; few = omega arith; right = λ L K. (counted_start f s, K) }
 
-  module _ {clean a i : ℕ} (C : Counting f values classes rows s known u clean a i) where
+  module _ {clean a i : ℕ} (C : Counting f tables s known u clean a i) where
     pub counting-fits : u * a ≤ length s
     counting-fits = rw (C.unit, mul_comm (domain f).unit a) ((le-div_iff_mul-le (reader f).pos).0 C.within)
 
-    pub counting-end : length s ≤ u * a → Total f values classes rows s known i
+    pub counting-end : length s ≤ u * a → Total f tables s known i
     counting-end l =
         record { few = omega (arith, C.few, C.within); right = λ L K. counted-end f s a i (C.right L K).0 (rw C.unit at l) }
 
     -- a step of n units and j items, where characters are known up to another unit
-    module _ {to n j : ℕ} (N : Next f values classes rows s to a n j) where
+    module _ {to n j : ℕ} (N : Next f tables s to a n j) where
       moves : (a + n ≤ length s / (domain f).unit) × (i + j ≤ a + n) × (a + n ≤ length s)
       moves = (omega (arith, C.within, N.within.0), omega (arith, C.few, N.within.1), omega (arith, C.within, N.within.0, units-few f s))
 
@@ -205,8 +206,8 @@ module _ {f : Form} {values classes rows s : List ℕ} {known u : ℕ} where
       falls p = omega (arith, pos_of_ne-zero p, moves)
 
     module _ {to n j : ℕ} (known-to : Clear ((domain f).sextets s) a clean → Clear ((domain f).sextets s) a to)
-        (N : Next f values classes rows s to a n j) where
-      pub counting-stop : u * a < length s → n ≡ 0 → Total f values classes rows s known i
+        (N : Next f tables s to a n j) where
+      pub counting-stop : u * a < length s → n ≡ 0 → Total f tables s known i
       counting-stop l z = record {
         few = omega (arith, C.few, C.within);
         right = λ L K.
@@ -215,7 +216,7 @@ module _ {f : Form} {values classes rows s : List ℕ} {known u : ℕ} where
             counted_stop f s a i T.size T.more q.0 T.sized (T.none z) (rw C.unit at l);
       }
 
-      pub counting-next : (n ≡ 0 → ⊥) → Counting f values classes rows s known u to (a + n) (i + j)
+      pub counting-next : (n ≡ 0 → ⊥) → Counting f tables s known u to (a + n) (i + j)
       counting-next p = record {
         unit = C.unit;
         within = (moves N).0;

@@ -5,7 +5,8 @@ use Rattle.format.specs.Units.{domain}
 use Rattle.format.specs.Report.{rows_in}
 use Rattle.runs.specs.Levels.{Clear}
 use Rattle.runs.specs.Runs.{Run}
-use Rattle.report_first.specs.First.{Lent}
+use Rattle.runs_tables.specs.declared.Tables.{Tables}
+use Rattle.runs_tables.specs.Lent.{Lent}
 use Rattle.report_sizes.specs.Sizes.{size_at}
 
 -- an item of so many units at a unit, or 0 where nothing is framed, and r of its size behind it
@@ -35,11 +36,11 @@ pub record Small (size more : ℕ) : Type 0 where
   pub fits : size + more * size ≤ 9223372036854775807
 
 -- a step from a unit: within the stream, and right where the tables are and characters are known
-pub record Next (f : Form) (values classes rows s : List ℕ) (clean at units items : ℕ) : Type 0 where
+pub record Next (f : Form) (tables : Tables) (s : List ℕ) (clean at units items : ℕ) : Type 0 where
   pub within : Within f s at units items
-  pub right : Lent values classes rows → Clear ((domain f).sextets s) at clean → Stepped f s at units items
+  pub right : Lent tables → Clear ((domain f).sextets s) at clean → Stepped f s at units items
 
 -- the number of a stream's items
-pub record Total (f : Form) (values classes rows s : List ℕ) (known n : ℕ) : Type 0 where
+pub record Total (f : Form) (tables : Tables) (s : List ℕ) (known n : ℕ) : Type 0 where
   pub few : n ≤ length s / (domain f).unit
-  pub right : Lent values classes rows → Clear ((domain f).sextets s) 0 known → n ≡ length (rows_in (domain f) s)
+  pub right : Lent tables → Clear ((domain f).sextets s) 0 known → n ≡ length (rows_in (domain f) s)

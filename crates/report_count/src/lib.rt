@@ -6,6 +6,7 @@
 ghost use Rattle.report_count.specs.Counts.{Small, Together, Next, Total};
 
 use format::Form;
+use runs_tables::Tables;
 
 // Like items that are counted at once: units and items, none where nothing is framed.
 #[derive(Clone, Copy)]
@@ -26,44 +27,26 @@ fn stepped(size: usize, followers: usize) -> Step
 }
 
 // The item at a unit, and those that begin like it.
-fn next(
-    form: Form,
-    values: &[u8; 256],
-    classes: &[u8; 256],
-    rows: &[u16; 192],
-    s: &[u8],
-    clean: usize,
-    at: usize,
-) -> Step
-    ensures { Next form values.now classes.now rows.now s.now clean at result.units result.items }
+fn next(form: Form, tables: &Tables, s: &[u8], clean: usize, at: usize) -> Step
+    ensures { Next form tables.now s.now clean at result.units result.items }
 {
-    let g = report_sizes::group_size(form, values, classes, rows, s, clean, at);
+    let g = report_sizes::group_size(form, tables, s, clean, at);
     if 0 < g {
         // Those of signatures differ in size: to ask the next one costs more than it spares.
-        if report_first::signed(form, values, classes, rows, s, at) {
+        if report_first::signed(form, tables, s, at) {
             return stepped(g, 0);
         }
         return stepped(g, report_sizes::of_header(form, s, clean, at, g));
     }
-    let m = report_sizes::size(form, values, classes, rows, s, clean, at);
+    let m = report_sizes::size(form, tables, s, clean, at);
     if m == 0 {
         return Step { units: 0, items: 0 };
     }
-    stepped(
-        m,
-        report_sizes::of_letter(form, values, classes, rows, s, clean, at, m),
-    )
+    stepped(m, report_sizes::of_letter(form, tables, s, clean, at, m))
 }
 
-pub fn count(
-    form: Form,
-    values: &[u8; 256],
-    classes: &[u8; 256],
-    rows: &[u16; 192],
-    s: &[u8],
-    known: usize,
-) -> usize
-    ensures { Total form values.now classes.now rows.now s.now known result }
+pub fn count(form: Form, tables: &Tables, s: &[u8], known: usize) -> usize
+    ensures { Total form tables.now s.now known result }
 {
     let u = report_units::unit(form);
     let mut clean = known;
@@ -71,7 +54,7 @@ pub fn count(
     let mut i = 0;
     while u * a < s.len() {
         clean = report_first::known(form, s, a, clean);
-        let l = next(form, values, classes, rows, s, clean, a);
+        let l = next(form, tables, s, clean, a);
         if l.units == 0 {
             return i;
         }

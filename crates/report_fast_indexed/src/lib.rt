@@ -8,12 +8,13 @@ ghost use Rattle.report_fast_laws.specs.Fast.{Reach, Take, Passes};
 
 use format::{Form, Framed};
 pub use report_fast_told::signatures;
+use runs_tables::Tables;
 
 // The next indexed item from a unit on, which its first unit does not tell, if it ends in front of another unit and is accepted: its
 // size, else 0. No group stands there.
 fn other_indexed(form: Form, s: &[u8], levels: usize, first: bool, at: usize, stop: usize) -> usize
     requires { at < stop }
-    ensures { (result ≤ stop - at) × (Reach form s.now at stop → (values classes rows : List ℕ) → Take form values classes rows s.now true levels first at stop result) }
+    ensures { (result ≤ stop - at) × (Reach form s.now at stop → (tables : Tables) → Take form tables s.now true levels first at stop result) }
 {
     match report_found::found(form, s, true, levels, first, at, stop) {
         Framed::Unframed {
@@ -36,21 +37,19 @@ fn other_indexed(form: Form, s: &[u8], levels: usize, first: bool, at: usize, st
 // Whether the indexed items from a unit to the end of their group are accepted. Of units that are not the stream's nothing is said.
 pub fn accepts_indexed(
     form: Form,
-    values: &[u8; 256],
-    classes: &[u8; 256],
-    rows: &[u16; 192],
+    tables: &Tables,
     s: &[u8],
     levels: usize,
     first: bool,
     at: usize,
     stop: usize,
 ) -> bool
-    ensures { Reach form s.now at stop → Passes form values.now classes.now rows.now s.now true levels first at stop result }
+    ensures { Reach form s.now at stop → Passes form tables.now s.now true levels first at stop result }
 {
     let mut i = at;
     let mut ruled = first;
     while i < stop {
-        let told = report_first::indexed(form, values, classes, rows, s, i);
+        let told = report_first::indexed(form, tables, s, i);
         if 0 < told {
             if stop - i < told {
                 return false;

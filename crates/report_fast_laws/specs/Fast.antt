@@ -14,7 +14,8 @@ use Rattle.runs.specs.Plain.{small_at, letter_at}
 use Rattle.runs.specs.Levels.{Clear}
 use Rattle.report_found.specs.Limits.{longest}
 use Rattle.report_item.specs.Items.{Takes}
-use Rattle.report_first.specs.First.{Lent}
+use Rattle.runs_tables.specs.declared.Tables.{Tables}
+use Rattle.runs_tables.specs.Lent.{Lent}
 
 -- units of a stream
 pub record Reach (f : Form) (s : List ℕ) (at stop : ℕ) : Type 0 where
@@ -22,9 +23,9 @@ pub record Reach (f : Form) (s : List ℕ) (at stop : ℕ) : Type 0 where
   pub room : stop ≤ length s / (domain f).unit
 
 -- the stream is not too long, the tables are right, and all from a unit to another is known
-pub record Ready (f : Form) (values classes rows s : List ℕ) (at stop : ℕ) : Type 0 where
+pub record Ready (f : Form) (tables : Tables) (s : List ℕ) (at stop : ℕ) : Type 0 where
   pub few : length s ≤ longest
-  pub lent : Lent values classes rows
+  pub lent : Lent tables
   pub clear : Clear ((domain f).sextets s) at stop
 
 -- the item at a unit of a stream is framed as at top level, has r units, and its own bytes are accepted
@@ -39,15 +40,15 @@ abbrev pub Accepts : Domain → List ℕ → ℕ → ℕ → Type 0
 Accepts d xs at r = 0 < r → Good d xs at r
 
 -- a small group of so many units stands at a unit, and the indexed table frames its items
-pub record Signed (f : Form) (values classes rows s : List ℕ) (at n : ℕ) : Type 0 where
-  pub sized : Lent values classes rows → small_at ((domain f).sextets s) at ≡ n
-  pub lettered : Lent values classes rows → true ≡ is_indexed (letter_at ((domain f).sextets s) at)
+pub record Signed (f : Form) (tables : Tables) (s : List ℕ) (at n : ℕ) : Type 0 where
+  pub sized : Lent tables → small_at ((domain f).sextets s) at ≡ n
+  pub lettered : Lent tables → true ≡ is_indexed (letter_at ((domain f).sextets s) at)
 
 -- the next item from a unit on by the table that is asked, if it ends in front of another and is accepted; 0 says nothing
-pub record Take (f : Form) (values classes rows s : List ℕ) (t : Bool) (l : ℕ) (first : Bool) (at stop r : ℕ) : Type 0 where
+pub record Take (f : Form) (tables : Tables) (s : List ℕ) (t : Bool) (l : ℕ) (first : Bool) (at stop r : ℕ) : Type 0 where
   pub few : r ≤ stop - at
-  pub right : Ready f values classes rows s at stop → Takes ((domain f).sextets s) t l first at stop r
+  pub right : Ready f tables s at stop → Takes ((domain f).sextets s) t l first at stop r
 
 -- all items from a unit to another are accepted; false says nothing
-pub record Passes (f : Form) (values classes rows s : List ℕ) (t : Bool) (l : ℕ) (first : Bool) (at stop : ℕ) (r : Bool) : Type 0 where
-  pub right : Ready f values classes rows s at stop → r ≡ true → level ((domain f).sextets s) t l first at stop ≡ Accepted
+pub record Passes (f : Form) (tables : Tables) (s : List ℕ) (t : Bool) (l : ℕ) (first : Bool) (at stop : ℕ) (r : Bool) : Type 0 where
+  pub right : Ready f tables s at stop → r ≡ true → level ((domain f).sextets s) t l first at stop ≡ Accepted

@@ -27,14 +27,15 @@ use Rattle.report_found.specs.Finds.{Inside, Fits, Finds}
 use Rattle.report_item.specs.Items.{Takes}
 use Rattle.report_found.proofs.Laws.{wide, inner-levels}
 use Rattle.report_item.proofs.Laws.{judged-good, Left, left-start, left_end, left-more, taken-found, taken-entered}
-use Rattle.report_first.specs.First.{Lent}
+use Rattle.runs_tables.specs.declared.Tables.{Tables}
+use Rattle.runs_tables.specs.Lent.{Lent}
 use Rattle.report_fast_laws.specs.Fast.{Reach, Ready, Accepts, Signed, Take, Passes}
 use Rattle.report_fast_laws.specs.Fast as Fast
 
 -- ---- the next item, as first units tell it
 
-module _ (f : Form) (values classes rows s : List ℕ) (l at stop : ℕ) (I : Inside (domain f) s at stop) (lt : at < stop)
-    (R : Ready f values classes rows s at stop) where
+module _ (f : Form) (tables : Tables) (s : List ℕ) (l at stop : ℕ) (I : Inside (domain f) s at stop) (lt : at < stop)
+    (R : Ready f tables s at stop) where
   abbrev own : List ℕ
   own = (domain f).sextets s
 
@@ -55,15 +56,15 @@ module _ (f : Form) (values classes rows s : List ℕ) (l at stop : ℕ) (I : In
   by_units : (first : Bool) (k : ℕ) → valued_at own at ≡ k → k ≤ stop - at → Takes own false l first at stop k
   by_units first k e h p = valued-taken own l stop long first at k stop e p (omega arith) R.clear (omega arith)
 
-pub ready-part : (f : Form) (values classes rows s : List ℕ) (at stop i to : ℕ) → Ready f values classes rows s at stop → at ≤ i → to ≤ stop
-    → Ready f values classes rows s i to
-ready-part f values classes rows s at stop i to R a b =
+pub ready-part : (f : Form) (tables : Tables) (s : List ℕ) (at stop i to : ℕ) → Ready f tables s at stop → at ≤ i → to ≤ stop
+    → Ready f tables s i to
+ready-part f tables s at stop i to R a b =
     record { few = R.few; lent = R.lent; clear = clear-less ((domain f).sextets s) at stop i to R.clear a b }
 
 -- ---- units within a stream
 
-pub inside : {f : Form} {values classes rows s : List ℕ} {at stop : ℕ} {i to : ℕ} → Reach f s at stop → Ready f values classes rows s i to → Inside (domain f) s at stop
-inside {f} {values} {classes} {rows} {s} {at} {stop} W R = record {
+pub inside : {f : Form} {tables : Tables} {s : List ℕ} {at stop : ℕ} {i to : ℕ} → Reach f s at stop → Ready f tables s i to → Inside (domain f) s at stop
+inside {f} {tables} {s} {at} {stop} W R = record {
   order = W.order;
   room = rw (mul_comm (domain f).unit stop) ((le-div_iff_mul-le (reader f).pos).0 W.room);
   few = R.few;
@@ -80,8 +81,8 @@ pub reach-units : {f : Form} {s : List ℕ} {at stop u : ℕ} → u ≡ length s
 reach-units e h l = record { order = l; room = omega (arith, e, h) }
 
 -- false says nothing
-pub none_passes : {f : Form} {values classes rows s : List ℕ} {t : Bool} {l : ℕ} {first : Bool} {at stop : ℕ}
-    → Passes f values classes rows s t l first at stop false
+pub none_passes : {f : Form} {tables : Tables} {s : List ℕ} {t : Bool} {l : ℕ} {first : Bool} {at stop : ℕ}
+    → Passes f tables s t l first at stop false
 none_passes = record { right = λ _ e. absurd (let y : ◌≡◌ {A = ℕ} 0 1 = cc in omega arith) }
 
 -- ---- a turn of the loop over a group's items
@@ -124,86 +125,86 @@ taken-good f s at stop r I t =
     record { kind = t.kind; head = t.head; framed = framed; judged = judged-good d (reader f) s at r t.kind t.head framed t.judged }
 
 -- within the end of what is known, where so many units are left
-module _ (f : Form) (values classes rows s : List ℕ) (at clean units stop : ℕ) (e : stop ≡ min clean units) (is-u : units ≡ length s / (domain f).unit)
+module _ (f : Form) (tables : Tables) (s : List ℕ) (at clean units stop : ℕ) (e : stop ≡ min clean units) (is-u : units ≡ length s / (domain f).unit)
     (here : at < stop) where
   pub top-reach : Reach f s at stop × (at < stop)
   top-reach = (record { order = omega arith; room = rw (← is-u, e) (min-le_right clean units) }, here)
 
-  pub top-good : (r : ℕ) → Take f values classes rows s false max_depth true at stop r
+  pub top-good : (r : ℕ) → Take f tables s false max_depth true at stop r
       → (r ≤ length s / (domain f).unit - at)
-      × (length s ≤ longest → Lent values classes rows → Clear ((domain f).sextets s) at clean → Accepts (domain f) s at r)
+      × (length s ≤ longest → Lent tables → Clear ((domain f).sextets s) at clean → Accepts (domain f) s at r)
   top-good r t = (
     omega (arith, t.few, min-le_right clean units),
     λ l L K p.
-        let R : Ready f values classes rows s at stop = record { few = l; lent = L; clear = clear-less ((domain f).sextets s) at clean at stop K (omega arith) (omega (arith, min-le_left clean units)) } in
+        let R : Ready f tables s at stop = record { few = l; lent = L; clear = clear-less ((domain f).sextets s) at clean at stop K (omega arith) (omega (arith, min-le_left clean units)) } in
         taken-good f s at stop r (inside top-reach.0 R) (t.right R p),
   )
 
 -- ---- a group's items
 
 -- the items up to a unit are accepted, and what is said of all is said of those that are left
-pub record Going (f : Form) (values classes rows s : List ℕ) (t : Bool) (l : ℕ) (first : Bool) (at stop : ℕ) (ruled : Bool) (i : ℕ) : Type 0 where
+pub record Going (f : Form) (tables : Tables) (s : List ℕ) (t : Bool) (l : ℕ) (first : Bool) (at stop : ℕ) (ruled : Bool) (i : ℕ) : Type 0 where
   pub reach : Reach f s at stop
   pub from : at ≤ i
   pub to : i ≤ stop
-  pub left : Ready f values classes rows s at stop → Left ((domain f).sextets s) t l first at stop ruled i
+  pub left : Ready f tables s at stop → Left ((domain f).sextets s) t l first at stop ruled i
 
-module _ {f : Form} {values classes rows s : List ℕ} {t : Bool} {l : ℕ} {first : Bool} {at stop : ℕ} where
-  pub going_start : Reach f s at stop → Going f values classes rows s t l first at stop first at
+module _ {f : Form} {tables : Tables} {s : List ℕ} {t : Bool} {l : ℕ} {first : Bool} {at stop : ℕ} where
+  pub going_start : Reach f s at stop → Going f tables s t l first at stop first at
   going_start W = record { reach = W; from = omega arith; to = W.order; left = λ R. left-start _ _ _ _ _ _ W.order }
 
-  module _ {ruled : Bool} {i : ℕ} (G : Going f values classes rows s t l first at stop ruled i) where
+  module _ {ruled : Bool} {i : ℕ} (G : Going f tables s t l first at stop ruled i) where
     pub going-reach : i < stop → Reach f s i stop × (i < stop)
     going-reach h = (reach-on i G.reach G.to, h)
 
-    going_more : (n : ℕ) → n ≤ stop - i → 0 < n → (Ready f values classes rows s i stop → Takes ((domain f).sextets s) t l ruled i stop n)
-        → Going f values classes rows s t l first at stop false (i + n)
+    going_more : (n : ℕ) → n ≤ stop - i → 0 < n → (Ready f tables s i stop → Takes ((domain f).sextets s) t l ruled i stop n)
+        → Going f tables s t l first at stop false (i + n)
     going_more n h p k = record {
       reach = G.reach;
       from = omega (arith, G.from);
       to = omega (arith, G.to);
       left = λ R.
-          turn-left f s t l first at stop (inside G.reach R) ruled i n (k (ready-part f values classes rows s at stop i stop R G.from (omega arith))) (λ z. omega arith)
+          turn-left f s t l first at stop (inside G.reach R) ruled i n (k (ready-part f tables s at stop i stop R G.from (omega arith))) (λ z. omega arith)
           (G.left R);
     }
 
-    pub going-taken : (n : ℕ) → Take f values classes rows s t l ruled i stop n → (n ≡ 0 → ⊥)
-        → Going f values classes rows s t l first at stop false (i + n)
+    pub going-taken : (n : ℕ) → Take f tables s t l ruled i stop n → (n ≡ 0 → ⊥)
+        → Going f tables s t l first at stop false (i + n)
     going-taken n k p = going_more n k.few (pos_of_ne-zero p) k.right
 
     -- whatever the level and the mark
-    pub going-valued : (n : ℕ) → (n ≤ stop - i) × (Reach f s i stop → (m : ℕ) (b : Bool) → Take f values classes rows s t m b i stop n) → 0 < n
-        → Going f values classes rows s t l first at stop false (i + n)
+    pub going-valued : (n : ℕ) → (n ≤ stop - i) × (Reach f s i stop → (m : ℕ) (b : Bool) → Take f tables s t m b i stop n) → 0 < n
+        → Going f tables s t l first at stop false (i + n)
     going-valued n k p = going_more n k.0 p (k.1 (reach-on i G.reach G.to) l ruled).right
 
-    pub going_less : (n : ℕ) → Take f values classes rows s t l ruled i stop n → (n ≡ 0 → ⊥) → i < stop → stop - (i + n) < stop - i
+    pub going_less : (n : ℕ) → Take f tables s t l ruled i stop n → (n ≡ 0 → ⊥) → i < stop → stop - (i + n) < stop - i
     going_less n k p h = omega (arith, pos_of_ne-zero p, k.few)
 
     -- whatever the tables
-    pub going-other : (n : ℕ) → ((v c w : List ℕ) → Take f v c w s t l ruled i stop n) → (n ≡ 0 → ⊥)
-        → Going f values classes rows s t l first at stop false (i + n)
-    going-other n k p = going-taken n (k values classes rows) p
+    pub going-other : (n : ℕ) → ((v : Tables) → Take f v s t l ruled i stop n) → (n ≡ 0 → ⊥)
+        → Going f tables s t l first at stop false (i + n)
+    going-other n k p = going-taken n (k tables) p
 
-    pub going_end : stop ≤ i → Passes f values classes rows s t l first at stop true
+    pub going_end : stop ≤ i → Passes f tables s t l first at stop true
     going_end h = record { right = λ R _. sym (left_end _ _ _ _ _ _ _ _ (G.left R) h) }
 
 -- what a first unit tells, by the master table and by the indexed one
-module _ {f : Form} {values classes rows s : List ℕ} {l : ℕ} {first : Bool} {at stop : ℕ} {ruled : Bool} {i : ℕ} where
-  pub going-plain : Going f values classes rows s false l first at stop ruled i → (k : ℕ)
-      → (Lent values classes rows → plain_at plain_table ((domain f).sextets s) i ≡ k) → 0 < k → k ≤ stop - i → i < stop
-      → Going f values classes rows s false l first at stop false (i + k)
+module _ {f : Form} {tables : Tables} {s : List ℕ} {l : ℕ} {first : Bool} {at stop : ℕ} {ruled : Bool} {i : ℕ} where
+  pub going-plain : Going f tables s false l first at stop ruled i → (k : ℕ)
+      → (Lent tables → plain_at plain_table ((domain f).sextets s) i ≡ k) → 0 < k → k ≤ stop - i → i < stop
+      → Going f tables s false l first at stop false (i + k)
   going-plain G k e p h lt =
-      going_more G k h p (λ R. by-plain f values classes rows s l i stop (inside (going-reach G lt).0 R) lt R ruled k (e R.lent) h)
+      going_more G k h p (λ R. by-plain f tables s l i stop (inside (going-reach G lt).0 R) lt R ruled k (e R.lent) h)
 
-  pub going-indexed : Going f values classes rows s true l first at stop ruled i → (k : ℕ)
-      → (Lent values classes rows → indexed_at ((domain f).sextets s) i ≡ k) → 0 < k → k ≤ stop - i → i < stop
-      → Going f values classes rows s true l first at stop false (i + k)
+  pub going-indexed : Going f tables s true l first at stop ruled i → (k : ℕ)
+      → (Lent tables → indexed_at ((domain f).sextets s) i ≡ k) → 0 < k → k ≤ stop - i → i < stop
+      → Going f tables s true l first at stop false (i + k)
   going-indexed G k e p h lt =
-      going_more G k h p (λ R. by-indexed f values classes rows s l i stop (inside (going-reach G lt).0 R) lt R ruled k (e R.lent) h)
+      going_more G k h p (λ R. by-indexed f tables s l i stop (inside (going-reach G lt).0 R) lt R ruled k (e R.lent) h)
 
-pub no-pass : (f : Form) (values classes rows s : List ℕ) (t : Bool) (l : ℕ) (first : Bool) (at stop : ℕ)
-    → Passes f values classes rows s t l first at stop false
-no-pass f values classes rows s t l first at stop = record { right = λ R e. absurd (let y : ◌≡◌ {A = ℕ} 0 1 = cc in omega arith) }
+pub no-pass : (f : Form) (tables : Tables) (s : List ℕ) (t : Bool) (l : ℕ) (first : Bool) (at stop : ℕ)
+    → Passes f tables s t l first at stop false
+no-pass f tables s t l first at stop = record { right = λ R e. absurd (let y : ◌≡◌ {A = ℕ} 0 1 = cc in omega arith) }
 
 -- ---- the next item
 
@@ -228,27 +229,27 @@ pub own-few : {f : Form} {s : List ℕ} {t : Bool} {l : ℕ} {first : Bool} {at 
     → (k : Kind) (h n : ℕ) → g ≡ Item k h n → n ≤ stop - at
 own-few g F k h n e = omega (arith, (F.fits.each k h n e).2)
 
-module _ (f : Form) (values classes rows s : List ℕ) (t : Bool) (l : ℕ) (first : Bool) (at stop : ℕ) where
-  pub nothing : Take f values classes rows s t l first at stop 0
+module _ (f : Form) (tables : Tables) (s : List ℕ) (t : Bool) (l : ℕ) (first : Bool) (at stop : ℕ) where
+  pub nothing : Take f tables s t l first at stop 0
   nothing = record { few = omega arith; right = λ R p. absurd (omega arith) }
 
   module _ (W : Reach f s at stop) (lt : at < stop) where
     -- as the general way finds it
     module _ (g : Framed) (F : Finds f s t l first at stop g) (k : Kind) (h n : ℕ) (e : g ≡ Item k h n) (b : Bool)
         (is : b ≡ is_entered k) where
-      pub by-contents : b ≡ true → (v : Bool) → Passes f values classes rows s (holds_indexed k) (l - 1) (is_ruled k) (at + h) (at + n) v
+      pub by-contents : b ≡ true → (v : Bool) → Passes f tables s (holds_indexed k) (l - 1) (is_ruled k) (at + h) (at + n) v
           → v ≡ true
-          → Take f values classes rows s t l first at stop n
+          → Take f tables s t l first at stop n
       by-contents y v c w = record {
         few = omega (arith, (F.fits.each k h n e).2);
         right = λ R p.
             let I = inside W R in
             taken-entered ((domain f).sextets s) t l first at stop (wide f s t l first at stop I) lt g (F.right I lt) k h n e (sym is ∙ y) (holds_indexed k)
             refl (is_ruled k) refl
-            (c.right (ready-part f values classes rows s at stop (at + h) (at + n) R (omega arith) (F.fits.each k h n e).2) w);
+            (c.right (ready-part f tables s at stop (at + h) (at + n) R (omega arith) (F.fits.each k h n e).2) w);
       }
 
-      pub by-own : b ≡ false → Take f values classes rows s t l first at stop n
+      pub by-own : b ≡ false → Take f tables s t l first at stop n
       by-own y = record {
         few = omega (arith, (F.fits.each k h n e).2);
         right = λ R p.
@@ -257,10 +258,10 @@ module _ (f : Form) (values classes rows s : List ℕ) (t : Bool) (l : ℕ) (fir
       }
 
 -- as a test says
-pub signs : {f : Form} {values classes rows s : List ℕ} {at : ℕ} (n : ℕ) (t : Bool) → 0 < n
-    → (Lent values classes rows → small_at ((domain f).sextets s) at ≡ n)
-    → (Lent values classes rows → 0 < small_at ((domain f).sextets s) at → t ≡ is_indexed (letter_at ((domain f).sextets s) at)) → t ≡ true
-    → Signed f values classes rows s at n
+pub signs : {f : Form} {tables : Tables} {s : List ℕ} {at : ℕ} (n : ℕ) (t : Bool) → 0 < n
+    → (Lent tables → small_at ((domain f).sextets s) at ≡ n)
+    → (Lent tables → 0 < small_at ((domain f).sextets s) at → t ≡ is_indexed (letter_at ((domain f).sextets s) at)) → t ≡ true
+    → Signed f tables s at n
 signs n t p e o is = record { sized = e; lettered = λ L. sym is ∙ o L (rw (e L) p) }
 
 -- or that the master table frames its items
@@ -278,64 +279,64 @@ unmarked b e = go (eqb b 10) refl e
     go false f q = le-ltb b 3 (omega (arith, eqb-true b 11 q))
 
 -- a group's items, by the table that is asked, and by the one that its kind says
-module _ {f : Form} {values classes rows s : List ℕ} {l at stop : ℕ} where
-  pub by-table : (b t : Bool) → b ≡ t → (m r : Bool) → Passes f values classes rows s t l m at stop r → Passes f values classes rows s b l m at stop r
+module _ {f : Form} {tables : Tables} {s : List ℕ} {l at stop : ℕ} where
+  pub by-table : (b t : Bool) → b ≡ t → (m r : Bool) → Passes f tables s t l m at stop r → Passes f tables s b l m at stop r
   by-table b t q m r c = rw q c
 
   pub by_kind : (k : Kind) (b : Bool) → b ≡ holds_indexed k → (t : Bool) → b ≡ t → (m : Bool) → m ≡ is_ruled k → (r : Bool)
-      → Passes f values classes rows s t l m at stop r
-      → Passes f values classes rows s (holds_indexed k) l (is_ruled k) at stop r
+      → Passes f tables s t l m at stop r
+      → Passes f tables s (holds_indexed k) l (is_ruled k) at stop r
   by_kind k b e t q m z r c = rw (← e, ← z) (by-table b t q m r c)
 
 -- as first units tell it, by the master table
-module _ (f : Form) (values classes rows s : List ℕ) (l : ℕ) (first : Bool) (at stop : ℕ) (W : Reach f s at stop) (lt : at < stop) where
+module _ (f : Form) (tables : Tables) (s : List ℕ) (l : ℕ) (first : Bool) (at stop : ℕ) (W : Reach f s at stop) (lt : at < stop) where
   -- a small group, by the table that its letter says
-  by-letter : (n : ℕ) (t m v : Bool) → Passes f values classes rows s t (l - 1) m (at + 1) (at + n) v → v ≡ true → 0 < n → n ≤ stop - at → 0 < l
-      → (Lent values classes rows → small_at ((domain f).sextets s) at ≡ n)
-      → (Lent values classes rows → t ≡ is_indexed (letter_at ((domain f).sextets s) at))
-      → (Lent values classes rows → m ≡ is_overrideable (letter_at ((domain f).sextets s) at))
-      → Take f values classes rows s false l first at stop n
+  by-letter : (n : ℕ) (t m v : Bool) → Passes f tables s t (l - 1) m (at + 1) (at + n) v → v ≡ true → 0 < n → n ≤ stop - at → 0 < l
+      → (Lent tables → small_at ((domain f).sextets s) at ≡ n)
+      → (Lent tables → t ≡ is_indexed (letter_at ((domain f).sextets s) at))
+      → (Lent tables → m ≡ is_overrideable (letter_at ((domain f).sextets s) at))
+      → Take f tables s false l first at stop n
   by-letter n t m v c y p h q e o z = record {
     few = h;
     right = λ R.
-        by-small f values classes rows s l at stop (inside W R) lt R first n t (o R.lent) (e R.lent) p h q m (z R.lent)
-        (c.right (ready-part f values classes rows s at stop (at + 1) (at + n) R (omega arith) (omega arith)) y);
+        by-small f tables s l at stop (inside W R) lt R first n t (o R.lent) (e R.lent) p h q m (z R.lent)
+        (c.right (ready-part f tables s at stop (at + 1) (at + n) R (omega arith) (omega arith)) y);
   }
 
   -- one that a test says to be read by the master table
-  pub by-inner : (n : ℕ) (t m v : Bool) → Passes f values classes rows s false (l - 1) m (at + 1) (at + n) v → v ≡ true → 0 < n → n ≤ stop - at
-      → (Lent values classes rows → small_at ((domain f).sextets s) at ≡ n)
+  pub by-inner : (n : ℕ) (t m v : Bool) → Passes f tables s false (l - 1) m (at + 1) (at + n) v → v ≡ true → 0 < n → n ≤ stop - at
+      → (Lent tables → small_at ((domain f).sextets s) at ≡ n)
       → (l ≡ 0 → ⊥)
-      → (Lent values classes rows → 0 < small_at ((domain f).sextets s) at → t ≡ is_indexed (letter_at ((domain f).sextets s) at)) → t ≡ false
-      → (Lent values classes rows → 0 < group_at ((domain f).sextets s) at → m ≡ is_overrideable (letter_at ((domain f).sextets s) at))
-      → Take f values classes rows s false l first at stop n
+      → (Lent tables → 0 < small_at ((domain f).sextets s) at → t ≡ is_indexed (letter_at ((domain f).sextets s) at)) → t ≡ false
+      → (Lent tables → 0 < group_at ((domain f).sextets s) at → m ≡ is_overrideable (letter_at ((domain f).sextets s) at))
+      → Take f tables s false l first at stop n
   by-inner n t m v c y p h e q o is z =
       by-letter n false m v c y p h (pos_of_ne-zero q) e unsigned (λ L. z L (rw (← (small-is-group ((domain f).sextets s) at (sym (unsigned L))), e L) p))
     where
-      unsigned : Lent values classes rows → false ≡ is_indexed (letter_at ((domain f).sextets s) at)
+      unsigned : Lent tables → false ≡ is_indexed (letter_at ((domain f).sextets s) at)
       unsigned L = sym is ∙ o L (rw (e L) p)
 
   -- and by the indexed one
-  pub by-signed : (n : ℕ) (v : Bool) → Passes f values classes rows s true (l - 1) false (at + 1) (at + n) v → v ≡ true → 0 < n → n ≤ stop - at → 0 < l
-      → Signed f values classes rows s at n
-      → Take f values classes rows s false l first at stop n
+  pub by-signed : (n : ℕ) (v : Bool) → Passes f tables s true (l - 1) false (at + 1) (at + n) v → v ≡ true → 0 < n → n ≤ stop - at → 0 < l
+      → Signed f tables s at n
+      → Take f tables s false l first at stop n
   by-signed n v c y p h q G = by-letter n true false v c y p h q G.sized G.lettered (λ L. sym (unmarked _ (sym (G.lettered L))))
 
   -- or nothing is said, where its items are told whatever the level
-  pub by-told : (n : ℕ) (t v : Bool) → (Reach f s (at + 1) (at + n) → (m : ℕ) → Passes f values classes rows s true m false (at + 1) (at + n) v)
+  pub by-told : (n : ℕ) (t v : Bool) → (Reach f s (at + 1) (at + n) → (m : ℕ) → Passes f tables s true m false (at + 1) (at + n) v)
       → v ≡ true → n ≤ stop - at → 0 < l
-      → (Lent values classes rows → small_at ((domain f).sextets s) at ≡ n)
-      → (Lent values classes rows → 0 < small_at ((domain f).sextets s) at → t ≡ is_indexed (letter_at ((domain f).sextets s) at)) → t ≡ true
-      → Take f values classes rows s false l first at stop n
+      → (Lent tables → small_at ((domain f).sextets s) at ≡ n)
+      → (Lent tables → 0 < small_at ((domain f).sextets s) at → t ≡ is_indexed (letter_at ((domain f).sextets s) at)) → t ≡ true
+      → Take f tables s false l first at stop n
   by-told n t v c y h q e o is =
       record { few = h; right = λ R p. (by-signed n v (c (group-inner f s at stop n W lt h p) (l - 1)) y p h q (signs n t p e o is)).right R p }
 
   -- a small variable value
-  pub by_value : (k : ℕ) → k ≤ stop - at → (Lent values classes rows → valued_at ((domain f).sextets s) at ≡ k)
-      → Take f values classes rows s false l first at stop k
-  by_value k h e = record { few = h; right = λ R. by_units f values classes rows s l at stop (inside W R) lt R first k (e R.lent) h }
+  pub by_value : (k : ℕ) → k ≤ stop - at → (Lent tables → valued_at ((domain f).sextets s) at ≡ k)
+      → Take f tables s false l first at stop k
+  by_value k h e = record { few = h; right = λ R. by_units f tables s l at stop (inside W R) lt R first k (e R.lent) h }
 
   -- a plain primitive
-  pub by_first : (k : ℕ) → k ≤ stop - at → (Lent values classes rows → plain_at plain_table ((domain f).sextets s) at ≡ k)
-      → Take f values classes rows s false l first at stop k
-  by_first k h e = record { few = h; right = λ R. by-plain f values classes rows s l at stop (inside W R) lt R first k (e R.lent) h }
+  pub by_first : (k : ℕ) → k ≤ stop - at → (Lent tables → plain_at plain_table ((domain f).sextets s) at ≡ k)
+      → Take f tables s false l first at stop k
+  by_first k h e = record { few = h; right = λ R. by-plain f tables s l at stop (inside W R) lt R first k (e R.lent) h }

@@ -23,47 +23,48 @@ use Rattle.runs.specs.Levels.{Clear, clear-below}
 use Rattle.runs.specs.Runs.{clear-from, small_by_lem, nested-by, signed_by, marks-by, signed-at, marks-at, nested_is}
 use Rattle.runs_value.specs.Values.{valued_at}
 use Rattle.runs_indexed.specs.Indexed.{indexed_at}
-use Rattle.report_first.specs.First.{Lent}
+use Rattle.runs_tables.specs.declared.Tables.{Tables}
+use Rattle.runs_tables.specs.Lent.{Lent}
 
 -- ---- first units: a text by its tables
 
-module _ (values classes rows s : List ℕ) (L : Lent values classes rows) (b : (i : ℕ) → get_or s i 0 < 256) (at : ℕ) where
-  pub text-plain : (k : ℕ) → k ≡ plain_at rows (sextets_by values s) at → plain_at plain_table (text_sextets s) at ≡ k
+module _ (tables : Tables) (s : List ℕ) (L : Lent tables) (b : (i : ℕ) → get_or s i 0 < 256) (at : ℕ) where
+  pub text-plain : (k : ℕ) → k ≡ plain_at tables.rows (sextets_by tables.values s) at → plain_at plain_table (text_sextets s) at ≡ k
   text-plain k q = sym (q ∙ rw (L.codes, L.characters, by-table s b))
 
-  pub text-sized : (k : ℕ) → k ≡ sized_at rows (sextets_by values s) at → sized_at plain_table (text_sextets s) at ≡ k
+  pub text-sized : (k : ℕ) → k ≡ sized_at tables.rows (sextets_by tables.values s) at → sized_at plain_table (text_sextets s) at ≡ k
   text-sized k q = sym (q ∙ rw (L.codes, L.characters, by-table s b))
 
-  pub text-valued : (k : ℕ) → k ≡ valued_at (sextets_by values s) at → valued_at (text_sextets s) at ≡ k
+  pub text-valued : (k : ℕ) → k ≡ valued_at (sextets_by tables.values s) at → valued_at (text_sextets s) at ≡ k
   text-valued k q = sym (q ∙ rw (L.characters, by-table s b))
 
-  pub text-indexed : (k : ℕ) → k ≡ indexed_at (sextets_by values s) at → indexed_at (text_sextets s) at ≡ k
+  pub text-indexed : (k : ℕ) → k ≡ indexed_at (sextets_by tables.values s) at → indexed_at (text_sextets s) at ≡ k
   text-indexed k q = sym (q ∙ rw (L.characters, by-table s b))
 
-  pub text-small : (g : ℕ) → g ≡ group_by values classes 2 s at → small_at (text_sextets s) at ≡ g
+  pub text-small : (g : ℕ) → g ≡ group_by tables.values tables.classes 2 s at → small_at (text_sextets s) at ≡ g
   text-small g q = sym (q ∙ rw (L.letters, L.characters) (small_by_lem s b at))
 
-  pub text-signed : (m : Bool) → 0 < small_at (text_sextets s) at → m ≡ class_by classes 2 s at → m ≡ is_indexed (letter_at (text_sextets s) at)
+  pub text-signed : (m : Bool) → 0 < small_at (text_sextets s) at → m ≡ class_by tables.classes 2 s at → m ≡ is_indexed (letter_at (text_sextets s) at)
   text-signed m p q = q ∙ rw L.letters (signed_by s b at _ refl p)
 
-  pub text-marks : (m : Bool) → 0 < group_at (text_sextets s) at → m ≡ class_by classes 1 s at → m ≡ is_overrideable (letter_at (text_sextets s) at)
+  pub text-marks : (m : Bool) → 0 < group_at (text_sextets s) at → m ≡ class_by tables.classes 1 s at → m ≡ is_overrideable (letter_at (text_sextets s) at)
   text-marks m p q = q ∙ rw L.letters (marks-by s b at _ refl p)
 
-  pub text-nested : (stop n d : ℕ) → stop ≤ length s / 4 → d ≡ nested_at (group_by values classes 1 s) (length s / 4) stop n at
+  pub text-nested : (stop n d : ℕ) → stop ≤ length s / 4 → d ≡ nested_at (group_by tables.values tables.classes 1 s) (length s / 4) stop n at
       → nested (group_at (text_sextets s)) stop n at ≡ d
   text-nested stop n d h q =
-      let w : d ≡ nested (group_by values classes 1 s) stop n at = q ∙ nested_is (group_by values classes 1 s) (length s / 4) stop n at h in
+      let w : d ≡ nested (group_by tables.values tables.classes 1 s) stop n at = q ∙ nested_is (group_by tables.values tables.classes 1 s) (length s / 4) stop n at h in
       sym (w ∙ rw (L.letters, L.characters) (nested-by s b stop n at))
 
 -- ---- a binary
 
-pub binary-codes : (values classes rows s : List ℕ) → Lent values classes rows → (at k : ℕ) → k ≡ plain_at rows (binary_sextets s) at
+pub binary-codes : (tables : Tables) (s : List ℕ) → Lent tables → (at k : ℕ) → k ≡ plain_at tables.rows (binary_sextets s) at
     → plain_at plain_table (binary_sextets s) at ≡ k
-binary-codes values classes rows s L at k q = sym (q ∙ rw L.codes)
+binary-codes tables s L at k q = sym (q ∙ rw L.codes)
 
-pub binary-sizes : (values classes rows s : List ℕ) → Lent values classes rows → (at k : ℕ) → k ≡ sized_at rows (binary_sextets s) at
+pub binary-sizes : (tables : Tables) (s : List ℕ) → Lent tables → (at k : ℕ) → k ≡ sized_at tables.rows (binary_sextets s) at
     → sized_at plain_table (binary_sextets s) at ≡ k
-binary-sizes values classes rows s L at k q = sym (q ∙ rw L.codes)
+binary-sizes tables s L at k q = sym (q ∙ rw L.codes)
 
 unit-within : (f : ℕ → ℕ → ℕ → ℕ → ℕ) (s : List ℕ) (at : ℕ) → 0 < unit_by f s at → at < length s / 4
 unfolding unit_by

@@ -10,154 +10,98 @@ ghost use Rattle.runs.specs.Plain.{plain_table, plain_at, sized_at, small_at, gr
 ghost use Rattle.runs.specs.Levels.{Clear};
 ghost use Rattle.runs_value.specs.Values.{valued_at};
 ghost use Rattle.runs_indexed.specs.Indexed.{indexed_at};
-ghost use Rattle.report_first.specs.First.{Lent};
+ghost use Rattle.runs_tables.specs.Lent.{Lent};
 
 use format::Form;
+use runs_tables::Tables;
 
-pub fn plain(
-    form: Form,
-    values: &[u8; 256],
-    classes: &[u8; 256],
-    rows: &[u16; 192],
-    s: &[u8],
-    at: usize,
-) -> usize
-    ensures { Lent values.now classes.now rows.now → plain_at plain_table ((domain form).sextets s.now) at ≡ result }
+pub fn plain(form: Form, tables: &Tables, s: &[u8], at: usize) -> usize
+    ensures { Lent tables.now → plain_at plain_table ((domain form).sextets s.now) at ≡ result }
 {
     match form {
-        Form::Text => runs_text::plain_text(values, rows, s, at),
-        Form::Binary => runs_binary::plain_binary(rows, s, at),
+        Form::Text => runs_text::plain_text(&tables.values, &tables.rows, s, at),
+        Form::Binary => runs_binary::plain_binary(&tables.rows, s, at),
     }
 }
 
-pub fn sized(
-    form: Form,
-    values: &[u8; 256],
-    classes: &[u8; 256],
-    rows: &[u16; 192],
-    s: &[u8],
-    at: usize,
-) -> usize
-    ensures { Lent values.now classes.now rows.now → sized_at plain_table ((domain form).sextets s.now) at ≡ result }
+pub fn sized(form: Form, tables: &Tables, s: &[u8], at: usize) -> usize
+    ensures { Lent tables.now → sized_at plain_table ((domain form).sextets s.now) at ≡ result }
 {
     match form {
-        Form::Text => runs_text::sized_text(values, rows, s, at),
-        Form::Binary => runs_binary::sized_binary(rows, s, at),
+        Form::Text => runs_text::sized_text(&tables.values, &tables.rows, s, at),
+        Form::Binary => runs_binary::sized_binary(&tables.rows, s, at),
     }
 }
 
 // A small variable value that is accepted, by its header and the unit behind it.
-pub fn valued(
-    form: Form,
-    values: &[u8; 256],
-    classes: &[u8; 256],
-    rows: &[u16; 192],
-    s: &[u8],
-    at: usize,
-) -> usize
-    ensures { Lent values.now classes.now rows.now → valued_at ((domain form).sextets s.now) at ≡ result }
+pub fn valued(form: Form, tables: &Tables, s: &[u8], at: usize) -> usize
+    ensures { Lent tables.now → valued_at ((domain form).sextets s.now) at ≡ result }
 {
     match form {
-        Form::Text => runs_text::valued_text(values, s, at),
+        Form::Text => runs_text::valued_text(&tables.values, s, at),
         Form::Binary => runs_binary::valued_binary(s, at),
     }
 }
 
 // An indexed item that is accepted, by its header.
-pub fn indexed(
-    form: Form,
-    values: &[u8; 256],
-    classes: &[u8; 256],
-    rows: &[u16; 192],
-    s: &[u8],
-    at: usize,
-) -> usize
-    ensures { Lent values.now classes.now rows.now → indexed_at ((domain form).sextets s.now) at ≡ result }
+pub fn indexed(form: Form, tables: &Tables, s: &[u8], at: usize) -> usize
+    ensures { Lent tables.now → indexed_at ((domain form).sextets s.now) at ≡ result }
 {
     match form {
-        Form::Text => runs_text::indexed_text(values, s, at),
+        Form::Text => runs_text::indexed_text(&tables.values, s, at),
         Form::Binary => runs_binary::indexed_binary(s, at),
     }
 }
 
 // A small group, whichever table frames its items.
-pub fn small(
-    form: Form,
-    values: &[u8; 256],
-    classes: &[u8; 256],
-    rows: &[u16; 192],
-    s: &[u8],
-    at: usize,
-) -> usize
-    ensures { Lent values.now classes.now rows.now → small_at ((domain form).sextets s.now) at ≡ result }
+pub fn small(form: Form, tables: &Tables, s: &[u8], at: usize) -> usize
+    ensures { Lent tables.now → small_at ((domain form).sextets s.now) at ≡ result }
 {
     match form {
-        Form::Text => runs_text_groups::small_text(values, classes, s, at),
+        Form::Text => runs_text_groups::small_text(&tables.values, &tables.classes, s, at),
         Form::Binary => runs_binary::small_binary(s, at),
     }
 }
 
 // Whether the indexed table frames its items.
-pub fn signed(
-    form: Form,
-    values: &[u8; 256],
-    classes: &[u8; 256],
-    rows: &[u16; 192],
-    s: &[u8],
-    at: usize,
-) -> bool
-    ensures { Lent values.now classes.now rows.now → 0 < small_at ((domain form).sextets s.now) at → result ≡ is_indexed (letter_at ((domain form).sextets s.now) at) }
+pub fn signed(form: Form, tables: &Tables, s: &[u8], at: usize) -> bool
+    ensures { Lent tables.now → 0 < small_at ((domain form).sextets s.now) at → result ≡ is_indexed (letter_at ((domain form).sextets s.now) at) }
 {
     match form {
-        Form::Text => runs_text_groups::signed_text(classes, s, at),
+        Form::Text => runs_text_groups::signed_text(&tables.classes, s, at),
         Form::Binary => runs_binary::signed_binary(s, at),
     }
 }
 
 // Whether 7 is asked of its first item, where the master table frames them.
-pub fn marks(
-    form: Form,
-    values: &[u8; 256],
-    classes: &[u8; 256],
-    rows: &[u16; 192],
-    s: &[u8],
-    at: usize,
-) -> bool
-    ensures { Lent values.now classes.now rows.now → 0 < group_at ((domain form).sextets s.now) at → result ≡ is_overrideable (letter_at ((domain form).sextets s.now) at) }
+pub fn marks(form: Form, tables: &Tables, s: &[u8], at: usize) -> bool
+    ensures { Lent tables.now → 0 < group_at ((domain form).sextets s.now) at → result ≡ is_overrideable (letter_at ((domain form).sextets s.now) at) }
 {
     match form {
-        Form::Text => runs_text_groups::marks_text(classes, s, at),
+        Form::Text => runs_text_groups::marks_text(&tables.classes, s, at),
         Form::Binary => runs_binary::marks_binary(s, at),
     }
 }
 
 // How many small groups whose items the master table frames, of so many at most, stand one in the other from a unit on, each all that is
 // left up to another unit.
-pub fn nested(
-    form: Form,
-    values: &[u8; 256],
-    classes: &[u8; 256],
-    rows: &[u16; 192],
-    s: &[u8],
-    at: usize,
-    stop: usize,
-    most: usize,
-) -> usize
-    ensures { (result ≤ most) × (result ≤ stop - at) × (Lent values.now classes.now rows.now → stop ≤ length s.now / (domain form).unit → nested (group_at ((domain form).sextets s.now)) stop most at ≡ result) }
+pub fn nested(form: Form, tables: &Tables, s: &[u8], at: usize, stop: usize, most: usize) -> usize
+    ensures { (result ≤ most) × (result ≤ stop - at) × (Lent tables.now → stop ≤ length s.now / (domain form).unit → nested (group_at ((domain form).sextets s.now)) stop most at ≡ result) }
 {
     match form {
-        Form::Text => runs_text_groups::nested_text(values, classes, s, at, stop, most),
+        Form::Text => runs_text_groups::nested_text(
+            &tables.values,
+            &tables.classes,
+            s,
+            at,
+            stop,
+            most,
+        ),
         Form::Binary => runs_binary::nested_binary(s, at, stop, most),
     }
 }
 
 // ---- known characters
-
-pub fn least(x: usize, y: usize) -> usize
-    ensures { result ≡ min x y }
-{
-    if x < y { x } else { y }
-}
 
 // How far the characters from a unit on are known, where they are known up to another.
 pub fn known(form: Form, s: &[u8], at: usize, clean: usize) -> usize

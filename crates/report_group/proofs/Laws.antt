@@ -21,7 +21,8 @@ use Rattle.runs.specs.Levels.{Clear, clear-less, plain-level, group-is-small, Ne
 use Rattle.report_found.specs.Limits.{longest}
 use Rattle.report_found.specs.Finds.{Inside}
 use Rattle.report_found.proofs.Laws.{wide, in-units}
-use Rattle.report_first.specs.First.{Lent}
+use Rattle.runs_tables.specs.declared.Tables.{Tables}
+use Rattle.runs_tables.specs.Lent.{Lent}
 use Rattle.report_fast_laws.specs.Fast.{Reach, Ready, Good}
 use Rattle.report_fast_laws.specs.Laws.{inside, by-small, taken-good}
 
@@ -45,8 +46,8 @@ nested-last g stop (suc n) at d e = go (λ k q. nested-last g stop n (at + 1) k 
     go rest true false p q r = absurd (omega arith)
     go rest true true p q r = inner rest d (eqb-true _ _ q) (ltb-true _ _ p) (omega arith)
 
-module _ (f : Form) (values classes rows s : List ℕ) (l at stop : ℕ) (I : Inside (domain f) s at stop) (lt : at < stop)
-    (R : Ready f values classes rows s at stop) where
+module _ (f : Form) (tables : Tables) (s : List ℕ) (l at stop : ℕ) (I : Inside (domain f) s at stop) (lt : at < stop)
+    (R : Ready f tables s at stop) where
   abbrev own : List ℕ
   own = (domain f).sextets s
 
@@ -110,17 +111,17 @@ module _ (f : Form) (values classes rows s : List ℕ) (l at stop : ℕ) (I : In
             ∙ rw y (level-end own false (l - 1 - d) false stop)
 
 -- a group of so many units
-module _ (f : Form) (values classes rows s : List ℕ) (at size clean units stop : ℕ) (e : stop ≡ min clean units) (is-u : units ≡ length s / (domain f).unit)
+module _ (f : Form) (tables : Tables) (s : List ℕ) (at size clean units stop : ℕ) (e : stop ≡ min clean units) (is-u : units ≡ length s / (domain f).unit)
     (here : at < stop) (h : size ≤ stop - at) (p : 0 < size) where
   pub group-reach : Reach f s at (at + size) × (at < at + size)
   group-reach = (record { order = omega arith; room = omega (arith, is-u, e, min-le_right clean units) }, omega arith)
 
-  pub group-good : (r : Bool) → (Ready f values classes rows s at (at + size) → group_at ((domain f).sextets s) at ≡ at + size - at → r ≡ true
+  pub group-good : (r : Bool) → (Ready f tables s at (at + size) → group_at ((domain f).sextets s) at ≡ at + size - at → r ≡ true
       → level ((domain f).sextets s) false (max_depth - 1) (is_overrideable (letter_at ((domain f).sextets s) at)) (at + 1) (at + size) ≡ Accepted)
-      → length s ≤ longest → Lent values classes rows → Clear ((domain f).sextets s) at clean → group_at ((domain f).sextets s) at ≡ size → r ≡ true
+      → length s ≤ longest → Lent tables → Clear ((domain f).sextets s) at clean → group_at ((domain f).sextets s) at ≡ size → r ≡ true
       → Good (domain f) s at size
   group-good r v l L K q t =
-      let R : Ready f values classes rows s at (at + size) = record {
+      let R : Ready f tables s at (at + size) = record {
         few = l;
         lent = L;
         clear = clear-less ((domain f).sextets s) at clean at (at + size) K (omega arith) (omega (arith, e, min-le_left clean units));
@@ -129,5 +130,5 @@ module _ (f : Form) (values classes rows s : List ℕ) (at size clean units stop
       let z : size ≡ at + size - at = omega arith in
       let w = group-is-small ((domain f).sextets s) at size q p in
       taken-good f s at (at + size) size I
-      (by-small f values classes rows s max_depth at (at + size) I (omega arith) R true size false (sym w.1) w.0 p (omega arith) (omega arith) _ refl
+      (by-small f tables s max_depth at (at + size) I (omega arith) R true size false (sym w.1) w.0 p (omega arith) (omega arith) _ refl
       (v R (q ∙ z) t) p)

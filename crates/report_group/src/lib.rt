@@ -11,61 +11,41 @@ ghost use Rattle.format.specs.Judging.{max_depth};
 ghost use Rattle.laws.specs.Levels.{level};
 ghost use Rattle.runs.specs.Plain.{group_at, letter_at};
 ghost use Rattle.runs.specs.Levels.{Clear};
-ghost use Rattle.report_first.specs.First.{Lent};
+ghost use Rattle.runs_tables.specs.Lent.{Lent};
 ghost use Rattle.report_found.specs.Limits.{longest};
 ghost use Rattle.report_fast_laws.specs.Fast.{Reach, Ready, Good};
 
 use format::Form;
 use judging::MAX_DEPTH;
+use runs_tables::Tables;
 
 // The contents of a small group that ends in front of another unit.
-fn inside_accepted(
-    form: Form,
-    values: &[u8; 256],
-    classes: &[u8; 256],
-    rows: &[u16; 192],
-    s: &[u8],
-    at: usize,
-    stop: usize,
-) -> bool
+fn inside_accepted(form: Form, tables: &Tables, s: &[u8], at: usize, stop: usize) -> bool
     requires { Reach form s.now at stop × (at < stop) }
-    ensures { Ready form values.now classes.now rows.now s.now at stop → group_at ((domain form).sextets s.now) at ≡ stop - at → result ≡ true → level ((domain form).sextets s.now) false (max_depth - 1) (is_overrideable (letter_at ((domain form).sextets s.now) at)) (at + 1) stop ≡ Accepted }
+    ensures { Ready form tables.now s.now at stop → group_at ((domain form).sextets s.now) at ≡ stop - at → result ≡ true → level ((domain form).sextets s.now) false (max_depth - 1) (is_overrideable (letter_at ((domain form).sextets s.now) at)) (at + 1) stop ≡ Accepted }
 {
-    let d = report_first::nested(form, values, classes, rows, s, at + 1, stop, MAX_DEPTH - 1);
+    let d = report_first::nested(form, tables, s, at + 1, stop, MAX_DEPTH - 1);
     let i = at + 1 + d;
-    if report_first::plain(form, values, classes, rows, s, i) == stop - i {
+    if report_first::plain(form, tables, s, i) == stop - i {
         return true;
     }
-    let first = report_first::marks(form, values, classes, rows, s, at + d);
-    report_fast::passes(
-        form,
-        values,
-        classes,
-        rows,
-        s,
-        false,
-        MAX_DEPTH - 1 - d,
-        first,
-        i,
-        stop,
-    )
+    let first = report_first::marks(form, tables, s, at + d);
+    report_fast::passes(form, tables, s, false, MAX_DEPTH - 1 - d, first, i, stop)
 }
 
 // Whether the small group of so many units at a unit of a stream is accepted and known up to a unit. Groups that stand one in the other
 // are entered at once.
 pub fn group_accepted(
     form: Form,
-    values: &[u8; 256],
-    classes: &[u8; 256],
-    rows: &[u16; 192],
+    tables: &Tables,
     s: &[u8],
     clean: usize,
     at: usize,
     size: usize,
 ) -> bool
-    ensures { length s.now ≤ longest → Lent values.now classes.now rows.now → Clear ((domain form).sextets s.now) at clean → group_at ((domain form).sextets s.now) at ≡ size → result ≡ true → Good (domain form) s.now at size }
+    ensures { length s.now ≤ longest → Lent tables.now → Clear ((domain form).sextets s.now) at clean → group_at ((domain form).sextets s.now) at ≡ size → result ≡ true → Good (domain form) s.now at size }
 {
-    let end = report_first::least(clean, report_units::units(form, s.len()));
+    let end = clean.min(report_units::units(form, s.len()));
     if end <= at {
         return false;
     }
@@ -75,5 +55,5 @@ pub fn group_accepted(
     if size == 0 {
         return false;
     }
-    inside_accepted(form, values, classes, rows, s, at, at + size)
+    inside_accepted(form, tables, s, at, at + size)
 }

@@ -26,7 +26,8 @@ use Rattle.runs.specs.Runs.{Run, run_none, plain-by-letter, text-sextet, text-lo
 use Rattle.filling.specs.Stores.{run_of}
 use Rattle.report_rows.specs.Stores.{run-start}
 use Rattle.report_alike.specs.Alike.{is_alike, Alike, alike-units}
-use Rattle.report_first.specs.First.{Lent}
+use Rattle.runs_tables.specs.declared.Tables.{Tables}
+use Rattle.runs_tables.specs.Lent.{Lent}
 use Rattle.report_plain.specs.Plain.{Like, Behind, Followed}
 
 both : (a b : Bool) → pick a b false ≡ true → (a ≡ true) × (b ≡ true)
@@ -144,7 +145,7 @@ behind-fits W h = omega (arith, W.fits, h)
 pub within : (f : Form) (s : List ℕ) (clean units end : ℕ) → units ≡ length s / (domain f).unit → end ≡ min clean units → end ≤ length s / (domain f).unit
 within f s clean units end e q = rw (← e, q) (min-le_right clean units)
 
-module _ (f : Form) (values classes rows s : List ℕ) (clean units end : ℕ) (is-units : units ≡ length s / (domain f).unit) (is-end : end ≡ min clean units) where
-  pub known-run : (at size r : ℕ) → (0 < size → values ≡ sextet_table → rows ≡ plain_table → Run (plain_at plain_table ((domain f).sextets s)) size end (at + size) r)
-      → 0 < size → Lent values classes rows → Run (plain_at plain_table ((domain f).sextets s)) size (min clean (length s / (domain f).unit)) (at + size) r
+module _ (f : Form) (tables : Tables) (s : List ℕ) (clean units end : ℕ) (is-units : units ≡ length s / (domain f).unit) (is-end : end ≡ min clean units) where
+  pub known-run : (at size r : ℕ) → (0 < size → tables.values ≡ sextet_table → tables.rows ≡ plain_table → Run (plain_at plain_table ((domain f).sextets s)) size end (at + size) r)
+      → 0 < size → Lent tables → Run (plain_at plain_table ((domain f).sextets s)) size (min clean (length s / (domain f).unit)) (at + size) r
   known-run at size r R p L = rw (← is-units, ← is-end) (R p L.characters L.codes)

@@ -19,7 +19,8 @@ use Rattle.runs.specs.Plain.{plain_table, row_of, unit_by, small_at}
 use Rattle.runs.specs.Tables.{value}
 use Rattle.runs.specs.Levels.{Clear, clear-less}
 use Rattle.runs.specs.Runs.{Run, run_none, sized-by-letter, text-sextet}
-use Rattle.report_first.specs.First.{Lent}
+use Rattle.runs_tables.specs.declared.Tables.{Tables}
+use Rattle.runs_tables.specs.Lent.{Lent}
 use Rattle.report_followers.specs.Followers.{same, same_two, same_unit, is_like, like_in}
 use Rattle.report_followers.proofs.Laws.{picked}
 use Rattle.report_sizes.specs.Sizes.{Tells, size_at, letter_by}
@@ -179,9 +180,9 @@ header-follows f s clean at size (suc r) K e p R =
     let z = R.each 0 (omega arith) in
     header-sizes f s clean at size (suc r) K p (omega (arith, z.1, min-le_right clean (length s / (domain f).unit))) e R
 
-pub letter-follows : (f : Form) (values classes rows s : List ℕ) (clean at size r a row : ℕ) → ((j : ℕ) → get_or s j 0 < 256)
-    → (values ≡ sextet_table → a ≡ letter_by f (get_or s ((domain f).unit * at) 0)) → a ≤ 51 → row ≡ row_of rows 0 a → row % 64 ≡ size
-    → (0 < size → Run (like_in f s false at size) size (min clean (length s / (domain f).unit)) (at + size) r) → Lent values classes rows
+pub letter-follows : (f : Form) (tables : Tables) (s : List ℕ) (clean at size r a row : ℕ) → ((j : ℕ) → get_or s j 0 < 256)
+    → (tables.values ≡ sextet_table → a ≡ letter_by f (get_or s ((domain f).unit * at) 0)) → a ≤ 51 → row ≡ row_of tables.rows 0 a → row % 64 ≡ size
+    → (0 < size → Run (like_in f s false at size) size (min clean (length s / (domain f).unit)) (at + size) r) → Lent tables
     → Clear ((domain f).sextets s) at clean → 0 < size → Run (size_at (domain f) s) size (length s / (domain f).unit) (at + size) r
-letter-follows f values classes rows s clean at size r a row b e l q z R L K p =
+letter-follows f tables s clean at size r a row b e l q z R L K p =
     letter-sizes f s clean at size r K p b a (e L.characters) l (rw (q, L.codes) at z) (R p)

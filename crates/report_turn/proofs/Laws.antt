@@ -27,7 +27,8 @@ use Rattle.runs.specs.Runs.{Run}
 use Rattle.report_found.specs.Limits.{longest, within-longest}
 use Rattle.report_found.specs.Finds.{Inside}
 use Rattle.report_found.proofs.Laws.{wide}
-use Rattle.report_first.specs.First.{Lent}
+use Rattle.runs_tables.specs.declared.Tables.{Tables}
+use Rattle.runs_tables.specs.Lent.{Lent}
 use Rattle.report_fast_laws.specs.Fast.{Reach, Good, Take}
 use Rattle.report_fast_laws.specs.Laws.{taken-good, top-reach, top-good}
 use Rattle.filling.specs.Stores.{row_with, run_of, be4-long, row-long}
@@ -168,23 +169,23 @@ in_parts {out} {out₁} {out₂} i offset size c₁ c₂ = record { long = longs
         (rw x at (c₂ ∙ put-fits out₁ (8 + 9 * i) (be4 size ++ (0 ∷ [])) (omega (arith, b, be4-long size))))
         ∙ sym (put-fits out (4 + 9 * i) (be4 offset ++ (be4 size ++ (0 ∷ []))) (omega (arith, b, l, be4-long size, be4-long offset)))
 
-pub none-next : {f : Form} {values classes rows s : List ℕ} {n end a i : ℕ} → Next f values classes rows s n end a i 0
+pub none-next : {f : Form} {tables : Tables} {s : List ℕ} {n end a i : ℕ} → Next f tables s n end a i 0
 none-next = record { fits = omega arith; left = λ p. absurd (omega arith); right = λ clean e few L K p. absurd (omega arith) }
 
-pub told-next : {f : Form} {values classes rows s : List ℕ} {n end a i : ℕ} (r : ℕ) → i < n → r ≤ end - a
-    → (Reach f s a end → (l : ℕ) (first : Bool) → 0 < l → Take f values classes rows s false l first a end r)
-    → Next f values classes rows s n end a i r
-told-next {f} {values} {classes} {rows} {s} {n} {end} {a} {i} r l h T = record {
+pub told-next : {f : Form} {tables : Tables} {s : List ℕ} {n end a i : ℕ} (r : ℕ) → i < n → r ≤ end - a
+    → (Reach f s a end → (l : ℕ) (first : Bool) → 0 < l → Take f tables s false l first a end r)
+    → Next f tables s n end a i r
+told-next {f} {tables} {s} {n} {end} {a} {i} r l h T = record {
   fits = h;
   left = λ p. l;
   right = λ clean e few L K p.
       let here : a < end = omega arith in
-      let W = top-reach f values classes rows s a clean (length s / (domain f).unit) end e refl here in
-      (top-good f values classes rows s a clean (length s / (domain f).unit) end e refl here r (T W.0 max_depth true (omega arith))).1 few L K p;
+      let W = top-reach f tables s a clean (length s / (domain f).unit) end e refl here in
+      (top-good f tables s a clean (length s / (domain f).unit) end e refl here r (T W.0 max_depth true (omega arith))).1 few L K p;
 }
 
 -- those from a unit to another are stored, and so many rows with them
-pub record Passed (f : Form) (u : ℕ) (values classes rows s : List ℕ) (n clean end a i k : ℕ) (out : List ℕ) (at j : ℕ) (out₁ : List ℕ)
+pub record Passed (f : Form) (u : ℕ) (tables : Tables) (s : List ℕ) (n clean end a i k : ℕ) (out : List ℕ) (at j : ℕ) (out₁ : List ℕ)
     : Type 0 where
   pub ends : end ≡ min clean (length s / (domain f).unit)
   pub placed : Placed f u s n at j k
@@ -192,16 +193,16 @@ pub record Passed (f : Form) (u : ℕ) (values classes rows s : List ℕ) (n cle
   pub from : a ≤ at
   pub since : i ≤ j
   pub each : j - i ≤ at - a
-  pub fills : Lent values classes rows → Clear ((domain f).sextets s) a clean → Filling f u s n a i k out → (o : List ℕ) → Fill f s o n (u * a) i k out
+  pub fills : Lent tables → Clear ((domain f).sextets s) a clean → Filling f u s n a i k out → (o : List ℕ) → Fill f s o n (u * a) i k out
       → Fill f s o n (u * at) j k out₁
 
-module _ {f : Form} {u : ℕ} {values classes rows s : List ℕ} {n clean end a i k : ℕ} {out : List ℕ} where
-  pub passed_start : end ≡ min clean (length s / (domain f).unit) → Placed f u s n a i k → Passed f u values classes rows s n clean end a i k out a i out
+module _ {f : Form} {u : ℕ} {tables : Tables} {s : List ℕ} {n clean end a i k : ℕ} {out : List ℕ} where
+  pub passed_start : end ≡ min clean (length s / (domain f).unit) → Placed f u s n a i k → Passed f u tables s n clean end a i k out a i out
   passed_start e P = record { ends = e; placed = P; long = refl; from = omega arith; since = omega arith; each = omega arith; fills = λ L K Φ o φ. φ }
 
-  module _ {at j : ℕ} {out₁ : List ℕ} (S : Passed f u values classes rows s n clean end a i k out at j out₁) where
+  module _ {at j : ℕ} {out₁ : List ℕ} (S : Passed f u tables s n clean end a i k out at j out₁) where
     -- what a turn from there would ask
-    asks : Lent values classes rows → Clear ((domain f).sextets s) a clean → Filling f u s n a i k out → at < length s / (domain f).unit
+    asks : Lent tables → Clear ((domain f).sextets s) a clean → Filling f u s n a i k out → at < length s / (domain f).unit
         → Filling f u s n at j k out₁
     asks L K Φ h = record {
       unit = Φ.unit;
@@ -213,7 +214,7 @@ module _ {f : Form} {u : ℕ} {values classes rows s : List ℕ} {n clean end a 
       filled = S.fills L K Φ Φ.held Φ.filled;
     }
 
-    module _ {size : ℕ} (N : Next f values classes rows s n end at j size) where
+    module _ {size : ℕ} (N : Next f tables s n end at j size) where
       pub next_fits : size ≤ length s / (domain f).unit - at
       next_fits = omega (arith, N.fits, S.ends, min-le_right clean (length s / (domain f).unit))
 
@@ -225,7 +226,7 @@ module _ {f : Form} {u : ℕ} {values classes rows s : List ℕ} {n clean end a 
 
       -- one more
       pub passed-more : 0 < size → (out₂ : List ℕ) → RowPut out₁ j (u * at) (u * size) out₂
-          → Passed f u values classes rows s n clean end a i k out (at + size) (j + 1) out₂
+          → Passed f u tables s n clean end a i k out (at + size) (j + 1) out₂
       passed-more p out₂ c = record {
         ends = S.ends;
         placed = record {
@@ -246,7 +247,7 @@ module _ {f : Form} {u : ℕ} {values classes rows s : List ℕ} {n clean end a 
       }
 
     -- some are stored
-    pub passed-some : a < at → Lent values classes rows → Clear ((domain f).sextets s) a clean → Turned f u s n a i k out (Stored (at - a) (j - i) 0) out₁
+    pub passed-some : a < at → Lent tables → Clear ((domain f).sextets s) a clean → Turned f u s n a i k out (Stored (at - a) (j - i) 0) out₁
     passed-some h L K Φ o φ =
         let x : a + (at - a) ≡ at = omega arith in
         let y : i + (j - i) ≡ j = omega (arith, S.since) in
@@ -254,7 +255,7 @@ module _ {f : Form} {u : ℕ} {values classes rows s : List ℕ} {n clean end a 
         (omega arith, rw x (placed-fits S.placed).0, rw (x, y, z) (S.fills L K Φ o φ))
 
     -- or none, and the turn goes on
-    module _ (h : at ≤ a) (L : Lent values classes rows) (K : Clear ((domain f).sextets s) a clean) (Φ : Filling f u s n a i k out) where
+    module _ (h : at ≤ a) (L : Lent tables) (K : Clear ((domain f).sextets s) a clean) (Φ : Filling f u s n a i k out) where
       pub passed-fill : (o : List ℕ) → Fill f s o n (u * a) i k out → Fill f s o n (u * a) i k out₁
       passed-fill o φ =
           let x : at ≡ a = omega (arith, S.from) in
@@ -272,8 +273,8 @@ module _ {f : Form} {u : ℕ} {values classes rows s : List ℕ} {n clean end a 
         filled = passed-fill Φ.held Φ.filled;
       }
 
-pub by-unit : (f : Form) (u : ℕ) (values classes rows s : List ℕ) (n clean a i k : ℕ) (out : List ℕ) (r : Turn) (out' : List ℕ)
+pub by-unit : (f : Form) (u : ℕ) (tables : Tables) (s : List ℕ) (n clean a i k : ℕ) (out : List ℕ) (r : Turn) (out' : List ℕ)
     → u ≡ (domain f).unit
-    → (Lent values classes rows → Clear ((domain f).sextets s) a clean → Turned f u s n a i k out r out')
-    → Turns f values classes rows s n clean a i k out r out'
-by-unit f u values classes rows s n clean a i k out r out' e T = record { right = λ L K. rw (← e) (T L K) }
+    → (Lent tables → Clear ((domain f).sextets s) a clean → Turned f u s n a i k out r out')
+    → Turns f tables s n clean a i k out r out'
+by-unit f u tables s n clean a i k out r out' e T = record { right = λ L K. rw (← e) (T L K) }

@@ -8,75 +8,65 @@ ghost use Rattle.std.specs.Prelude.{◌≡◌, ◌-◌, ◌*◌, ◌/◌, ◌≤
 ghost use Rattle.format.specs.Units.{domain};
 ghost use Rattle.runs.specs.Plain.{group_at};
 ghost use Rattle.runs.specs.Levels.{Clear};
-ghost use Rattle.report_first.specs.First.{Lent};
+ghost use Rattle.runs_tables.specs.Lent.{Lent};
 ghost use Rattle.report_fast_laws.specs.Fast.{Good};
 ghost use Rattle.report_general.specs.Turns.{Placed, Turned};
 ghost use Rattle.report_turn.specs.Turns.{Next, RowPut, Turns};
 
+use filling::Position;
 use format::Form;
 use report_general::Turn;
+use runs_tables::Tables;
 
 // A small group of so many units, by the fast way where that accepts it.
 fn put_group(
     form: Form,
     u: usize,
-    values: &[u8; 256],
-    classes: &[u8; 256],
-    rows: &[u16; 192],
+    tables: &Tables,
     s: &[u8],
     out: &mut [u8],
-    n: usize,
     clean: usize,
-    a: usize,
-    i: usize,
-    k: usize,
+    here: Position,
     size: usize,
 ) -> Turn
-    requires { Placed form u s.now n a i k × (size ≤ length s.now / (domain form).unit - a) }
-    ensures { Lent values.now classes.now rows.now → Clear ((domain form).sextets s.now) a clean → group_at ((domain form).sextets s.now) a ≡ size → Turned form u s.now n a i k out.old result out.new }
+    requires { Placed form u s.now here.items here.at here.stored here.refused × (size ≤ length s.now / (domain form).unit - here.at) }
+    ensures { Lent tables.now → Clear ((domain form).sextets s.now) here.at clean → group_at ((domain form).sextets s.now) here.at ≡ size → Turned form u s.now here.items here.at here.stored here.refused out.old result out.new }
 {
-    if report_group::group_accepted(form, values, classes, rows, s, clean, a, size) {
-        report_rows::put_row(out, 4 + 9 * i, u * a, u * size, 0);
+    if report_group::group_accepted(form, tables, s, clean, here.at, size) {
+        report_rows::put_row(out, 4 + 9 * here.stored, u * here.at, u * size, 0);
         return Turn::Stored {
             units: size,
             items: 1,
             refused: 0,
         };
     }
-    report_general::put_general(form, s, out, n, a, i, k)
+    report_general::put_general(form, s, out, here)
 }
 
 // An accepted item of so many units, and the plain primitives of its letter that follow it.
 fn put_accepted(
     form: Form,
     u: usize,
-    values: &[u8; 256],
-    classes: &[u8; 256],
-    rows: &[u16; 192],
+    tables: &Tables,
     s: &[u8],
     out: &mut [u8],
-    n: usize,
     clean: usize,
-    a: usize,
-    i: usize,
-    k: usize,
+    here: Position,
     size: usize,
 ) -> Turn
-    requires { Placed form u s.now n a i k × (size ≤ length s.now / (domain form).unit - a) × (0 < size) }
-    ensures { Lent values.now classes.now rows.now → Clear ((domain form).sextets s.now) a clean → Good (domain form) s.now a size → Turned form u s.now n a i k out.old result out.new }
+    requires { Placed form u s.now here.items here.at here.stored here.refused × (size ≤ length s.now / (domain form).unit - here.at) × (0 < size) }
+    ensures { Lent tables.now → Clear ((domain form).sextets s.now) here.at clean → Good (domain form) s.now here.at size → Turned form u s.now here.items here.at here.stored here.refused out.old result out.new }
 {
-    report_rows::put_row(out, 4 + 9 * i, u * a, u * size, 0);
+    report_rows::put_row(out, 4 + 9 * here.stored, u * here.at, u * size, 0);
     let r = report_plain::put_followers(
         form,
-        values,
-        classes,
-        rows,
+        tables,
         s,
         clean,
-        a,
+        here.at,
         size,
         out,
-        13 + 9 * i,
+        13 + 9 * here.stored,
     );
     Turn::Stored {
         units: size + r * size,
@@ -89,67 +79,56 @@ fn put_accepted(
 fn put_other(
     form: Form,
     u: usize,
-    values: &[u8; 256],
-    classes: &[u8; 256],
-    rows: &[u16; 192],
+    tables: &Tables,
     s: &[u8],
     out: &mut [u8],
-    n: usize,
     clean: usize,
-    a: usize,
-    i: usize,
-    k: usize,
+    here: Position,
 ) -> Turn
-    requires { Placed form u s.now n a i k }
-    ensures { Lent values.now classes.now rows.now → Clear ((domain form).sextets s.now) a clean → Turned form u s.now n a i k out.old result out.new }
+    requires { Placed form u s.now here.items here.at here.stored here.refused }
+    ensures { Lent tables.now → Clear ((domain form).sextets s.now) here.at clean → Turned form u s.now here.items here.at here.stored here.refused out.old result out.new }
 {
-    let p = report_fast::accepted(form, values, classes, rows, s, clean, a);
+    let p = report_fast::accepted(form, tables, s, clean, here.at);
     if 0 < p {
-        return put_accepted(form, u, values, classes, rows, s, out, n, clean, a, i, k, p);
+        return put_accepted(form, u, tables, s, out, clean, here, p);
     }
-    report_general::put_general(form, s, out, n, a, i, k)
+    report_general::put_general(form, s, out, here)
 }
 
 // The size of the signature group at a unit, if it ends in front of another, first units tell that it is accepted and a row is left for it;
 // else 0.
 fn next_signed(
     form: Form,
-    values: &[u8; 256],
-    classes: &[u8; 256],
-    rows: &[u16; 192],
+    tables: &Tables,
     s: &[u8],
-    n: usize,
+    items: usize,
     end: usize,
-    a: usize,
-    i: usize,
+    at: usize,
+    stored: usize,
 ) -> usize
-    ensures { Next form values.now classes.now rows.now s.now n end a i result }
+    ensures { Next form tables.now s.now items end at stored result }
 {
-    if n <= i {
+    if items <= stored {
         return 0;
     }
-    report_fast_indexed::signatures(form, values, classes, rows, s, a, end)
+    report_fast_indexed::signatures(form, tables, s, at, end)
 }
 
 // The same where a small group of so many units stands, or none.
 fn first_signed(
     form: Form,
-    values: &[u8; 256],
-    classes: &[u8; 256],
-    rows: &[u16; 192],
+    tables: &Tables,
     s: &[u8],
-    n: usize,
     end: usize,
-    a: usize,
-    i: usize,
+    here: Position,
     g: usize,
 ) -> usize
-    ensures { Next form values.now classes.now rows.now s.now n end a i result }
+    ensures { Next form tables.now s.now here.items end here.at here.stored result }
 {
     if g == 0 {
         return 0;
     }
-    next_signed(form, values, classes, rows, s, n, end, a, i)
+    next_signed(form, tables, s, here.items, end, here.at, here.stored)
 }
 
 // The row of an accepted item. It is stored in two parts, each where it has room, so that the compiler joins the bytes of the offset to
@@ -167,89 +146,74 @@ fn put_taken(out: &mut [u8], i: usize, offset: usize, size: usize)
 fn put_signed(
     form: Form,
     u: usize,
-    values: &[u8; 256],
-    classes: &[u8; 256],
-    rows: &[u16; 192],
+    tables: &Tables,
     s: &[u8],
     out: &mut [u8],
-    n: usize,
     clean: usize,
-    a: usize,
-    i: usize,
-    k: usize,
+    here: Position,
     g: usize,
 ) -> Turn
-    requires { Placed form u s.now n a i k }
-    ensures { Lent values.now classes.now rows.now → Clear ((domain form).sextets s.now) a clean → Turned form u s.now n a i k out.old result out.new }
+    requires { Placed form u s.now here.items here.at here.stored here.refused }
+    ensures { Lent tables.now → Clear ((domain form).sextets s.now) here.at clean → Turned form u s.now here.items here.at here.stored here.refused out.old result out.new }
 {
-    let end = report_first::least(clean, report_units::units(form, s.len()));
-    let mut at = a;
-    let mut j = i;
-    let mut size = first_signed(form, values, classes, rows, s, n, end, a, i, g);
+    let end = clean.min(report_units::units(form, s.len()));
+    let mut at = here.at;
+    let mut stored = here.stored;
+    let mut size = first_signed(form, tables, s, end, here, g);
     while 0 < size {
-        put_taken(out, j, u * at, u * size);
-        at = at + size;
-        j = j + 1;
-        size = next_signed(form, values, classes, rows, s, n, end, at, j);
+        put_taken(out, stored, u * at, u * size);
+        at += size;
+        stored += 1;
+        size = next_signed(form, tables, s, here.items, end, at, stored);
     }
-    if a < at {
-        let units = at - a;
-        let items = j - i;
+    if here.at < at {
+        let units = at - here.at;
+        let items = stored - here.stored;
         return Turn::Stored {
             units,
             items,
             refused: 0,
         };
     }
-    put_other(form, u, values, classes, rows, s, out, n, clean, a, i, k)
+    put_other(form, u, tables, s, out, clean, here)
 }
 
 // What stands at a unit.
 fn put_here(
     form: Form,
     u: usize,
-    values: &[u8; 256],
-    classes: &[u8; 256],
-    rows: &[u16; 192],
+    tables: &Tables,
     s: &[u8],
     out: &mut [u8],
-    n: usize,
     clean: usize,
-    a: usize,
-    i: usize,
-    k: usize,
+    here: Position,
 ) -> Turn
-    requires { Placed form u s.now n a i k }
-    ensures { Lent values.now classes.now rows.now → Clear ((domain form).sextets s.now) a clean → Turned form u s.now n a i k out.old result out.new }
+    requires { Placed form u s.now here.items here.at here.stored here.refused }
+    ensures { Lent tables.now → Clear ((domain form).sextets s.now) here.at clean → Turned form u s.now here.items here.at here.stored here.refused out.old result out.new }
 {
-    let g = report_sizes::group_size(form, values, classes, rows, s, clean, a);
+    let g = report_sizes::group_size(form, tables, s, clean, here.at);
     if 0 < g {
-        if !report_first::signed(form, values, classes, rows, s, a) {
-            return put_group(form, u, values, classes, rows, s, out, n, clean, a, i, k, g);
+        if !report_first::signed(form, tables, s, here.at) {
+            return put_group(form, u, tables, s, out, clean, here, g);
         }
     }
-    put_signed(form, u, values, classes, rows, s, out, n, clean, a, i, k, g)
+    put_signed(form, u, tables, s, out, clean, here, g)
 }
 
 // What stands at a unit, where so many items of n are stored, and so many of them refused.
 pub fn put_turn(
     form: Form,
-    values: &[u8; 256],
-    classes: &[u8; 256],
-    rows: &[u16; 192],
+    tables: &Tables,
     s: &[u8],
     out: &mut [u8],
-    n: usize,
     clean: usize,
-    a: usize,
-    i: usize,
-    k: usize,
+    here: Position,
 ) -> Turn
-    ensures { Turns form values.now classes.now rows.now s.now n clean a i k out.old result out.new }
+    ensures { Turns form tables.now s.now here.items clean here.at here.stored here.refused out.old result out.new }
 {
-    if report_general::is_place(form, s, out.len(), n, a, i, k) {
+    if report_general::is_place(form, s, out.len(), here) {
         let u = report_units::unit(form);
-        return put_here(form, u, values, classes, rows, s, out, n, clean, a, i, k);
+        return put_here(form, u, tables, s, out, clean, here);
     }
     Turn::Rest { number: 0 }
 }

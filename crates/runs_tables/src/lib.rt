@@ -1,8 +1,9 @@
-// The tables by which a first unit alone is told: sizes and zero bits of the fixed codes, and classes of a group's letter.
+// The tables by which a first unit alone is told: values of characters, classes of a group's letter, sizes and zero bits of the fixed codes.
 #![tactic(auto)]
 
 ghost use Rattle.std.specs.Prelude.{◌≡◌};
 ghost use Rattle.runs.specs.Plain.{plain_table, class_table};
+ghost use Rattle.runs_tables.specs.Lent.{Lent};
 
 const ROWS: [u16; 192] = [
     1035, 1035, 1035, 1035, 1035, 1035, 1035, 1035, 1035, 1035, 1043, 1043, 1025, 1027, 1035, 1055,
@@ -40,4 +41,27 @@ pub fn classes() -> [u8; 256]
     ensures { result ≡ class_table }
 {
     CLASSES
+}
+
+// The three together. A caller names them once and lends them, since naming a constant table copies it.
+#[derive(Clone, Copy)]
+pub struct Tables {
+    // of each character its sextet, or a mark outside the alphabet
+    pub values: [u8; 256],
+    // of each character its class as a group's letter
+    pub classes: [u8; 256],
+    // of each code with a short header its size and zero bits
+    pub rows: [u16; 192],
+}
+
+impl Tables {
+    pub fn new() -> Tables
+        ensures { Lent result }
+    {
+        Tables {
+            values: alphabet::sextets(),
+            classes: classes(),
+            rows: rows(),
+        }
+    }
 }

@@ -13,11 +13,11 @@ returns-in-Rest c = search ends-rest
 pub overflow_add-at : goal.overflow_add-at
 overflow_add-at c = search bytes_fit
 
-pub overflow_add-i : goal.overflow_add-i
-overflow_add-i c = search items-fit
+pub overflow_add-stored : goal.overflow_add-stored
+overflow_add-stored c = search items-fit
 
-pub overflow_add-k : goal.overflow_add-k
-overflow_add-k c = search (refused-fit, rules)
+pub overflow_add-refused : goal.overflow_add-refused
+overflow_add-refused c = search (refused-fit, rules)
 
 pub loop-at-smaller : goal.loop-at-smaller
 loop-at-smaller c = search falls

@@ -4,7 +4,7 @@ use Rattle.mixed_report.proofs.Laws.{Reached}
 use Rattle.mixed_report.proofs.put_all.Given as goal
 
 abbrev pub invariant-loop-at : goal.invariant-loop-at
-invariant-loop-at l = Reached l.values l.classes l.rows l.s l.known l.n l.initial.out l.out l.to l.at l.i l.k
+invariant-loop-at l = Reached l.tables l.s l.known l.n l.initial.out l.out l.to l.at l.stored l.refused
 
 abbrev pub decreases-loop-at : goal.decreases-loop-at
 decreases-loop-at l = length l.s - l.at

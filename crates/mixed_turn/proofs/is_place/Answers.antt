@@ -2,14 +2,14 @@
 use Rattle.mixed_turn.proofs.Laws.{too_many, too_far, too-bad, by_end}
 use Rattle.mixed_turn.proofs.is_place.Goals as goal
 
-pub returns-then-room-n : goal.returns-then-room-n
-returns-then-room-n c = search too_many
+pub returns-then-room-here : goal.returns-then-room-here
+returns-then-room-here c = search too_many
 
-pub returns-then-n-i : goal.returns-then-n-i
-returns-then-n-i c = search too_far
+pub returns-then-here : goal.returns-then-here
+returns-then-here c = search too_far
 
-pub returns-then-n-k : goal.returns-then-n-k
-returns-then-n-k c = search too-bad
+pub returns-then-here-2 : goal.returns-then-here-2
+returns-then-here-2 c = search too-bad
 
 pub returns : goal.returns
 returns c = search by_end

@@ -7,7 +7,7 @@ pub put_here-requires : goal.put_here-requires
 put_here-requires c = c.is_place.ensures.placed c.if-is_place.true (omega arith)
 
 pub returns-then-is_place : goal.returns-then-is_place
-returns-then-is_place c = judged-turn _ c.judged-here.ensures _ c.put_here.ensures
+returns-then-is_place c = judged-turn _ c.judged-standing.ensures _ c.put_here.ensures
 
 pub returns : goal.returns
 returns c = search turns-not

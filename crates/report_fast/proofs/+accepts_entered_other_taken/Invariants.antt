@@ -17,7 +17,7 @@ abbrev pub decreases-taken : goal.decreases-taken
 decreases-taken l = 4 * l.levels + 2
 
 abbrev pub invariant-accepts-loop-i : goal.invariant-accepts-loop-i
-invariant-accepts-loop-i l = Going l.form l.values l.classes l.rows l.s false l.levels l.first l.at l.stop l.ruled l.i
+invariant-accepts-loop-i l = Going l.form l.tables l.s false l.levels l.first l.at l.stop l.ruled l.i
 
 abbrev pub decreases-accepts-loop-i : goal.decreases-accepts-loop-i
 decreases-accepts-loop-i l = l.stop - l.i

@@ -8,7 +8,7 @@ returns-then-told-gt0 c = λ first G. let P = c.requires in c.signatures-told.en
 pub returns-then-accepts_indexed : goal.returns-then-accepts_indexed
 returns-then-accepts_indexed c = λ first G.
     let P = c.requires in
-    by-signed _ _ _ _ _ _ first _ _ P.0 P.1 _ _ (c.accepts_indexed.ensures (group-inner _ _ _ _ _ P.0 P.1 P.2 P.3))
+    by-signed _ _ _ _ first _ _ P.0 P.1 _ _ (c.accepts_indexed.ensures (group-inner _ _ _ _ _ P.0 P.1 P.2 P.3))
     c.if-accepts_indexed.true P.3 P.2 P.4 G
 
 pub returns : goal.returns

@@ -16,7 +16,7 @@ pub returns-then-told_indexed : goal.returns-then-told_indexed
 returns-then-told_indexed c = (
   c.if-stop-at-2.false,
   λ W l first q.
-      by-told _ _ _ _ _ l first _ _ W c.if-stop-at.false _ _ _ c.told_indexed.ensures c.if-told_indexed.true c.if-stop-at-2.false q
+      by-told _ _ _ l first _ _ W c.if-stop-at.false _ _ _ c.told_indexed.ensures c.if-told_indexed.true c.if-stop-at-2.false q
       c.small-size.ensures c.signed.ensures c.if-not-signed.false,
 )
 

@@ -5,7 +5,7 @@ use Rattle.report_fast_laws.specs.Laws.{Going}
 use Rattle.report_fast_told.proofs.told_indexed.Given as goal
 
 abbrev pub invariant-loop-i : goal.invariant-loop-i
-invariant-loop-i l = Reach l.form l.s l.at l.stop → (levels : ℕ) → Going l.form l.values l.classes l.rows l.s true levels false l.at l.stop false l.i
+invariant-loop-i l = Reach l.form l.s l.at l.stop → (levels : ℕ) → Going l.form l.tables l.s true levels false l.at l.stop false l.i
 
 abbrev pub decreases-loop-i : goal.decreases-loop-i
 decreases-loop-i l = l.stop - l.i

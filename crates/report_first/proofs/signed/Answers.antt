@@ -3,7 +3,7 @@ use Rattle.report_first.proofs.Laws.{text-signed, binary-signed}
 use Rattle.report_first.proofs.signed.Goals as goal
 
 pub returns-in-Text : goal.returns-in-Text
-returns-in-Text c = rw c.in-Text.is (λ l p. text-signed c.args.values.now c.args.classes.now c.args.rows.now c.args.s.now l (λ i. omega (arith, c.type_inv.s i)) c.args.at _ p c.signed_text.ensures)
+returns-in-Text c = rw c.in-Text.is (λ l p. text-signed c.args.tables.now c.args.s.now l (λ i. omega (arith, c.type_inv.s i)) c.args.at _ p c.signed_text.ensures)
 
 pub returns-in-Binary : goal.returns-in-Binary
 returns-in-Binary c = rw c.in-Binary.is (λ l p. binary-signed c.args.s.now c.args.at _ p c.signed_binary.ensures)

@@ -20,7 +20,7 @@ pub returns-then-size-eq0 : goal.returns-then-size-eq0
 returns-then-size-eq0 c = λ h l K g. no
 
 pub inside_accepted-requires : goal.inside_accepted-requires
-inside_accepted-requires c = group-reach c.args.form c.args.values.now c.args.classes.now c.args.rows.now c.args.s.now _ _ _ _ _ c.least-end.ensures c.units.ensures c.if-end-at.false c.if-end-at-2.false (pos_of_ne-zero c.if-size-eq0.false)
+inside_accepted-requires c = group-reach c.args.form c.args.tables.now c.args.s.now _ _ _ _ _ c.min-end.ensures c.units.ensures c.if-end-at.false c.if-end-at-2.false (pos_of_ne-zero c.if-size-eq0.false)
 
 pub returns : goal.returns
-returns c = group-good c.args.form c.args.values.now c.args.classes.now c.args.rows.now c.args.s.now _ _ _ _ _ c.least-end.ensures c.units.ensures c.if-end-at.false c.if-end-at-2.false (pos_of_ne-zero c.if-size-eq0.false) _ c.inside_accepted.ensures
+returns c = group-good c.args.form c.args.tables.now c.args.s.now _ _ _ _ _ c.min-end.ensures c.units.ensures c.if-end-at.false c.if-end-at-2.false (pos_of_ne-zero c.if-size-eq0.false) _ c.inside_accepted.ensures

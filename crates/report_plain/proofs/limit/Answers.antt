@@ -5,4 +5,4 @@ pub returns-in-Text : goal.returns-in-Text
 returns-in-Text c = search in-form
 
 pub returns-in-Binary : goal.returns-in-Binary
-returns-in-Binary c = in-form _ _ c.args.values.now c.args.rows.now _ _ _ c.in-Binary.is (c.limit_binary.ensures c.args.values.now)
+returns-in-Binary c = in-form _ _ c.args.tables.now.values c.args.tables.now.rows _ _ _ c.in-Binary.is (c.limit_binary.ensures c.args.tables.now.values)

@@ -19,7 +19,7 @@ pub bounds-s-at-in-Binary : goal.bounds-s-at-in-Binary
 bounds-s-at-in-Binary c = omega (arith, in-binary _ _ _ c.in-Binary.is c.requires)
 
 pub returns-in-Text : goal.returns-in-Text
-returns-in-Text c = by-text c.args.form c.args.values.now c.args.s.now _ _ c.in-Text.is (λ i. omega (arith, c.shared_slice_known-1.given i)) (ap (λ (n : ℕ). get_or c.args.values.now n 0) c.wide.ensures.0)
+returns-in-Text c = by-text c.args.form c.args.values.now c.args.s.now _ _ c.in-Text.is (λ i. omega (arith, c.shared_slice_known-1.given i)) (ap (λ (n : ℕ). get_or c.args.values.now n 0) c.from.ensures)
 
 pub returns-in-Binary : goal.returns-in-Binary
 returns-in-Binary c = search by-binary

@@ -13,4 +13,4 @@ pub returns-then-letter_row-size : goal.returns-then-letter_row-size
 returns-then-letter_row-size c = search (none-sized, rules)
 
 pub returns : goal.returns
-returns c = (c.followers.ensures.few, letter-follows c.args.form c.args.values.now c.args.classes.now c.args.rows.now c.args.s.now _ _ _ _ _ _ (λ i. omega (arith, c.shared_slice_known-1.given i)) c.letter-a.ensures c.if-a-gt51.false c.letter_row.ensures.0 c.if-letter_row-size.false c.followers.ensures.run)
+returns c = (c.followers.ensures.few, letter-follows c.args.form c.args.tables.now c.args.s.now _ _ _ _ _ _ (λ i. omega (arith, c.shared_slice_known-1.given i)) c.letter-a.ensures c.if-a-gt51.false c.letter_row.ensures.0 c.if-letter_row-size.false c.followers.ensures.run)

@@ -8,7 +8,7 @@ use Rattle.report_turn.proofs.put_signed.Goals as goal
 
 pub loop-size-init : goal.loop-size-init
 loop-size-init c =
-    (passed_start (rw (← c.units.ensures) c.least-end.ensures) c.requires, c.first_signed-size.ensures)
+    (passed_start (rw (← c.units.ensures) c.min-end.ensures) c.requires, c.first_signed-size.ensures)
 
 pub overflow_mul-u : goal.overflow_mul-u
 overflow_mul-u c = let h = placed-fits c.loop-size.invariant.0.placed in search rules
@@ -26,8 +26,8 @@ overflow_add-at c =
     let I = c.loop-size.invariant in
     let h = next-in I.0 I.1 in search rules
 
-pub overflow_add-j : goal.overflow_add-j
-overflow_add-j c = let h = placed-fits c.loop-size.invariant.0.placed in search rules
+pub overflow_add-stored : goal.overflow_add-stored
+overflow_add-stored c = let h = placed-fits c.loop-size.invariant.0.placed in search rules
 
 pub loop-size-smaller : goal.loop-size-smaller
 loop-size-smaller c =
@@ -45,13 +45,13 @@ overflow_sub-units c = c.loop-size.invariant.0.from
 pub overflow_sub-items : goal.overflow_sub-items
 overflow_sub-items c = c.loop-size.invariant.0.since
 
-pub shape_of-out-then-a-at : goal.shape_of-out-then-a-at
-shape_of-out-then-a-at c = c.loop-size.invariant.0.long
+pub shape_of-out-then-here-at : goal.shape_of-out-then-here-at
+shape_of-out-then-here-at c = c.loop-size.invariant.0.long
 
-pub returns-then-a-at : goal.returns-then-a-at
-returns-then-a-at c = passed-some c.loop-size.invariant.0 c.if-a-at.true
+pub returns-then-here-at : goal.returns-then-here-at
+returns-then-here-at c = passed-some c.loop-size.invariant.0 c.if-here-at.true
 
 pub returns : goal.returns
 returns c = λ L K Φ o φ.
     let S = c.loop-size.invariant.0 in
-    c.put_other.ensures L K (passed-again S c.if-a-at.false L K Φ) o (passed-fill S c.if-a-at.false L K Φ o φ)
+    c.put_other.ensures L K (passed-again S c.if-here-at.false L K Φ) o (passed-fill S c.if-here-at.false L K Φ o φ)
