@@ -18,23 +18,8 @@ use Rattle.format.specs.declared.Verdict.{Verdict}
 use Rattle.format.specs.declared.Verdict.TheVariants.{Accepted, Refused}
 use Rattle.format.specs.declared.TextOffset.{TextOffset}
 use Rattle.format.specs.declared.BinaryOffset.{BinaryOffset}
-use Rattle.format.specs.declared.ToBinary.{ToBinary}
-use Rattle.format.specs.declared.ToBinary.TheVariants as ToBinary
-use Rattle.format.specs.declared.ToText.{ToText}
-use Rattle.format.specs.declared.ToText.TheVariants as ToText
-use Rattle.format.specs.declared.Reported.{Reported}
-use Rattle.format.specs.declared.Reported.TheVariants as Reported
 use Rattle.format.specs.declared.Code.{Code}
-use Rattle.format.specs.declared.TextFound.{TextFound}
-use Rattle.format.specs.declared.TextFound.TheVariants as TextFound
-use Rattle.format.specs.declared.TextRead.{TextRead}
-use Rattle.format.specs.declared.BinaryFound.{BinaryFound}
-use Rattle.format.specs.declared.BinaryFound.TheVariants as BinaryFound
-use Rattle.format.specs.declared.BinaryRead.{BinaryRead}
-use Rattle.format.specs.declared.TextWritten.{TextWritten}
-use Rattle.format.specs.declared.TextWritten.TheVariants as TextWritten
-use Rattle.format.specs.declared.BinaryWritten.{BinaryWritten}
-use Rattle.format.specs.declared.BinaryWritten.TheVariants as BinaryWritten
+use Rattle.format.specs.declared.PrimitiveRead.{PrimitiveRead}
 use Rattle.format.specs.Alphabet.{char_of, sextet_of}
 use Rattle.format.specs.Units.{Domain, text, binary, text_sextets, binary_sextets}
 use Rattle.format.specs.Framing.{sextet, frame, frame_with}
@@ -62,6 +47,9 @@ use Rattle.claims.specs.Claims.{Demand1}
 use Rattle.claims_rules.proofs.Framed.{framed-found, unframed-first}
 use Rattle.claims_rules.proofs.Judged.{Judged, true-false, long-form, short-form, own-judged}
 use Rattle.claims_rules.proofs.Judged.Judged.{passes, refuses}
+use Rattle.std.specs.Prelude.{Ok, Err, Result}
+use Rattle.format.specs.declared.Refusal.{Refusal}
+use Rattle.format.specs.declared.Primitive.{Primitive}
 
 -- ---- strangers among characters
 
@@ -101,9 +89,9 @@ module _ (n : ℕ) (s : List ℕ) where
 
 -- ---- conversion
 
-told_binary : ToBinary → Told
-told_binary (ToBinary.Written n) = accepted
-told_binary (ToBinary.Refused m p) = told m
+told_binary : Result BinaryOffset (Refusal TextOffset) → Told
+told_binary (Ok n) = accepted
+told_binary (Err r) = told r.number
 
 to-binary : (s : List ℕ) (room : ℕ) → By (C.to_binary_rules s room) (told_binary (text_to_binary s room))
 unfolding text_to_binary first_number told_binary
@@ -116,9 +104,9 @@ to-binary s room =
     (ask-lt told_binary room (length s / 4 * 3) 3 _ _ _ refl
     (none tt))))
 
-told_text : ToText → Told
-told_text (ToText.Written n) = accepted
-told_text (ToText.Refused m p) = told m
+told_text : Result TextOffset (Refusal BinaryOffset) → Told
+told_text (Ok n) = accepted
+told_text (Err e) = told e.number
 
 to-text : (s : List ℕ) (room : ℕ) → By (C.to_text_rules s room) (told_text (binary_to_text s room))
 unfolding binary_to_text told_text
@@ -130,9 +118,9 @@ to-text s room =
 
 -- ---- the report
 
-told_report : Reported → Told
-told_report (Reported.Written n) = accepted
-told_report (Reported.Refused m p) = told m
+told_report : Result ℕ (Refusal ℕ) → Told
+told_report (Ok n) = accepted
+told_report (Err e) = told e.number
 
 report : (d : Domain) (xs : List ℕ) (room : ℕ) → By (C.report_rules d xs room) (told_report (report_answer d xs room))
 unfolding report_answer told_report
@@ -356,18 +344,18 @@ no-unit : (s : List ℕ) → length s / 4 ≡ 0 → reading s ≡ refused 4 0
 unfolding reading read_framed frame frame_with
 no-unit s e = rw (lt-ltb (length s / 4) 1 (omega arith))
 
-told_text_found : TextFound → Told
-told_text_found (TextFound.Found p) = accepted
-told_text_found (TextFound.Refused m p) = told m
+told_text_found : Result Primitive (Refusal TextOffset) → Told
+told_text_found (Ok p) = accepted
+told_text_found (Err e) = told e.number
 
-told_binary_found : BinaryFound → Told
-told_binary_found (BinaryFound.Found p) = accepted
-told_binary_found (BinaryFound.Refused m p) = told m
+told_binary_found : Result Primitive (Refusal BinaryOffset) → Told
+told_binary_found (Ok p) = accepted
+told_binary_found (Err e) = told e.number
 
-told_text_read : TextRead → Told
+told_text_read : PrimitiveRead TextOffset → Told
 told_text_read r = told_text_found r.found
 
-told_binary_read : BinaryRead → Told
+told_binary_read : PrimitiveRead BinaryOffset → Told
 told_binary_read r = told_binary_found r.found
 
 -- 3, behind all that reading asks
@@ -428,13 +416,13 @@ module _ (xs : List ℕ) (at room : ℕ) where
 
 -- ---- all of it
 
-unfoldable pub told_text_written : TextWritten → Told
-told_text_written (TextWritten.Written n) = accepted
-told_text_written (TextWritten.Refused m p) = told m
+unfoldable pub told_text_written : Result TextOffset (Refusal ℕ) → Told
+told_text_written (Ok n) = accepted
+told_text_written (Err e) = told e.number
 
-unfoldable pub told_binary_written : BinaryWritten → Told
-told_binary_written (BinaryWritten.Written n) = accepted
-told_binary_written (BinaryWritten.Refused m p) = told m
+unfoldable pub told_binary_written : Result BinaryOffset (Refusal ℕ) → Told
+told_binary_written (Ok n) = accepted
+told_binary_written (Err e) = told e.number
 
 pub text-outcome : (w : W.Writing) → told_text_written (W.text_outcome w) ≡ told_writing w
 unfolding W.text_outcome told_text_written told_writing

@@ -2,8 +2,6 @@
 use Rattle.std.specs.Prelude.{ℕ, ◌*◌, ◌/◌, ◌%◌, ◌≤◌, ◌≡◌, refl, List, [], length, take, drop}
 use Rattle.std.proofs.Common.{arith, length-drop, length-take-le, le-ltb}
 use Rattle.base.specs.Digits.{none, below-take, below-drop}
-use Rattle.format.specs.declared.ToBinary.TheVariants as B
-use Rattle.format.specs.declared.ToText.TheVariants as T
 use Rattle.format.specs.Units.{text, binary, text_sextets}
 use Rattle.format.specs.Offsets.{text_offset, binary_offset}
 use Rattle.format.specs.Conversion.{to_binary, to_text, first_stranger, text_to_binary, binary_to_text}
@@ -15,11 +13,12 @@ use Rattle.claims.specs.Words.{WholeText, WholeBinary}
 use Rattle.claims.proofs.Ratio.{Same, same-report}
 use Rattle.claims.proofs.Parts.{one_by_one, every-part}
 use Rattle.claims.specs.Claims.{Demand2}
+use Rattle.std.specs.Prelude.{Ok}
 
 -- ---- conversion does not refuse such a stream
 
 text-converts : (t : List ℕ) (room : ℕ) → WholeText t → length t / 4 * 3 ≤ room
-    → text_to_binary t room ≡ B.Written (binary_offset (length t / 4 * 3))
+    → text_to_binary t room ≡ Ok (binary_offset (length t / 4 * 3))
 unfolding text_to_binary
 text-converts t room w h =
     rw (
@@ -30,7 +29,7 @@ text-converts t room w h =
     )
 
 binary-converts : (b : List ℕ) (room : ℕ) → WholeBinary b → length b / 3 * 4 ≤ room
-    → binary_to_text b room ≡ T.Written (text_offset (length b / 3 * 4))
+    → binary_to_text b room ≡ Ok (text_offset (length b / 3 * 4))
 unfolding binary_to_text
 binary-converts b room w h =
     rw (

@@ -6,15 +6,8 @@ use Rattle.std.specs.Prelude.{ℕ, ◌+◌, ◌*◌, ◌/◌, ◌≤◌, ◌<◌
 use Rattle.format.specs.declared.Kind.{Kind}
 use Rattle.format.specs.declared.TextOffset.{TextOffset}
 use Rattle.format.specs.declared.BinaryOffset.{BinaryOffset}
-use Rattle.format.specs.declared.ToBinary.TheVariants as B
-use Rattle.format.specs.declared.ToText.TheVariants as T
-use Rattle.format.specs.declared.Reported.TheVariants as R
 use Rattle.format.specs.declared.Code.{Code}
 use Rattle.format.specs.declared.Primitive.{Primitive}
-use Rattle.format.specs.declared.TextFound.TheVariants as TF
-use Rattle.format.specs.declared.BinaryFound.TheVariants as BF
-use Rattle.format.specs.declared.TextWritten.TheVariants as TW
-use Rattle.format.specs.declared.BinaryWritten.TheVariants as BW
 use Rattle.format.specs.Units.{Domain, text, binary, text_sextets, binary_sextets}
 use Rattle.format.specs.Offsets.{text_offset, binary_offset}
 use Rattle.format.specs.Conversion.{to_binary, to_text, text_to_binary, binary_left, binary_to_text, text_left}
@@ -34,6 +27,8 @@ use Rattle.claims_rules.specs.Order.{None, Refusal}
 use Rattle.claims.specs.Conditions.{to_binary_rules, to_text_rules, report_rules, read_text_rules, read_binary_rules, write_rules}
 use Rattle.claims_rules.specs.Conditions.{framing, opening_of, item_kind}
 use Rattle.claims.specs.Words.{WholeText, WholeBinary, SameReport, header_of, remainder_at}
+use Rattle.std.specs.Prelude.{Ok}
+use Rattle.format.specs.Refusals.{refused_by}
 
 -- ---- demand 1: "Take any bytes of any length. Every public entry refuses bad input by number and asks nothing of its caller. Where a call
 -- itself is refused, every output buffer holds what it held before." The walk's step is in walk_claims' Claims, what C sees of the
@@ -43,43 +38,43 @@ use Rattle.claims.specs.Words.{WholeText, WholeBinary, SameReport, header_of, re
 -- first that holds; and an accepted call meets none of them. d: what the buffer lent held
 pub record Demand1 : Type 0 where
   -- 01: "T to B gives 1, 2, 5, 3"
-  pub to-binary : (s d : List ℕ) (m : ℕ) (p : TextOffset) → text_to_binary s (length d) ≡ B.Refused m p
+  pub to-binary : (s d : List ℕ) (m : ℕ) (p : TextOffset) → text_to_binary s (length d) ≡ refused_by m p
       → Refusal (1 ∷ 2 ∷ 5 ∷ 19 ∷ 3 ∷ []) (to_binary_rules s (length d)) m × (binary_left (text_to_binary s (length d)) s d ≡ d)
-  pub to-binary-accepts : (s d : List ℕ) (n : BinaryOffset) → text_to_binary s (length d) ≡ B.Written n → None (to_binary_rules s (length d))
+  pub to-binary-accepts : (s d : List ℕ) (n : BinaryOffset) → text_to_binary s (length d) ≡ Ok n → None (to_binary_rules s (length d))
   -- 01: "B to T 1, 2, 3"
-  pub to-text : (s d : List ℕ) (m : ℕ) (p : BinaryOffset) → binary_to_text s (length d) ≡ T.Refused m p
+  pub to-text : (s d : List ℕ) (m : ℕ) (p : BinaryOffset) → binary_to_text s (length d) ≡ refused_by m p
       → Refusal (1 ∷ 2 ∷ 3 ∷ []) (to_text_rules s (length d)) m × (text_left (binary_to_text s (length d)) s d ≡ d)
-  pub to-text-accepts : (s d : List ℕ) (n : TextOffset) → binary_to_text s (length d) ≡ T.Written n → None (to_text_rules s (length d))
+  pub to-text-accepts : (s d : List ℕ) (n : TextOffset) → binary_to_text s (length d) ≡ Ok n → None (to_text_rules s (length d))
   -- 01: "Refused whole: 1, then 3"
-  pub reports : (f : Domain) (s d : List ℕ) (m p : ℕ) → report_answer f s (length d) ≡ R.Refused m p
+  pub reports : (f : Domain) (s d : List ℕ) (m p : ℕ) → report_answer f s (length d) ≡ refused_by m p
       → Refusal (1 ∷ 3 ∷ []) (report_rules f s (length d)) m × (report_left (report_answer f s (length d)) f s d ≡ d)
-  pub reports-accepts : (f : Domain) (s d : List ℕ) (n : ℕ) → report_answer f s (length d) ≡ R.Written n → None (report_rules f s (length d))
+  pub reports-accepts : (f : Domain) (s d : List ℕ) (n : ℕ) → report_answer f s (length d) ≡ Ok n → None (report_rules f s (length d))
   -- 01: "Reading a primitive at an offset: 1, 4 at or past the end, framing (never 7), 14, judging, then 3 for T"; framing gives 4, 5 and
   -- 6, judging 5, 18 (02 h), 9, 8, 16 (02 c) and 10. 5 is for "character outside the alphabet (in T ..)"
-  pub read-text : (s : List ℕ) (at : ℕ) (d : List ℕ) (m : ℕ) (p : TextOffset) → (read_text s at (length d)).found ≡ TF.Refused m p
+  pub read-text : (s : List ℕ) (at : ℕ) (d : List ℕ) (m : ℕ) (p : TextOffset) → (read_text s at (length d)).found ≡ refused_by m p
       → Refusal (1 ∷ 4 ∷ 5 ∷ 19 ∷ 6 ∷ 14 ∷ 18 ∷ 9 ∷ 8 ∷ 16 ∷ 10 ∷ 3 ∷ []) (read_text_rules s at (length d)) m
       × (value_left (read_text s at (length d)).found s at d ≡ d)
-  pub read-text-accepts : (s : List ℕ) (at : ℕ) (d : List ℕ) (q : Primitive) → (read_text s at (length d)).found ≡ TF.Found q
+  pub read-text-accepts : (s : List ℕ) (at : ℕ) (d : List ℕ) (q : Primitive) → (read_text s at (length d)).found ≡ Ok q
       → None (read_text_rules s at (length d))
   -- the same in B, where only a text is copied out (02 c: "in both forms, with 3 when room is short"): a refused read hands "an empty part" back
-  pub read-binary : (s : List ℕ) (at : ℕ) (d : List ℕ) (m : ℕ) (p : BinaryOffset) → (read_binary s at (length d)).found ≡ BF.Refused m p
+  pub read-binary : (s : List ℕ) (at : ℕ) (d : List ℕ) (m : ℕ) (p : BinaryOffset) → (read_binary s at (length d)).found ≡ refused_by m p
       → Refusal (1 ∷ 4 ∷ 6 ∷ 14 ∷ 18 ∷ 9 ∷ 8 ∷ 16 ∷ 10 ∷ 3 ∷ []) (read_binary_rules s at (length d)) m
       × (part_at s at (read_binary s at (length d)).found ≡ []) × (chars_left (read_binary s at (length d)).found s at d ≡ d)
-  pub read-binary-accepts : (s : List ℕ) (at : ℕ) (d : List ℕ) (q : Primitive) → (read_binary s at (length d)).found ≡ BF.Found q
+  pub read-binary-accepts : (s : List ℕ) (at : ℕ) (d : List ℕ) (q : Primitive) → (read_binary s at (length d)).found ≡ Ok q
       → None (read_binary_rules s at (length d))
   -- 01: "Writing, to T or B: 6 (any code that isn't a primitive's), 12, 5 (tags), 3.", 02 h: 18 "directly after 12", 02 c: "The writer's order
   -- is 6, 12, 5 .., 16 .., 3"
-  pub write-text : (code : Code) (tag : List ℕ) (tags : ℕ) (raw d : List ℕ) (m p : ℕ) → write_text code tag tags raw (length d) ≡ TW.Refused m p
+  pub write-text : (code : Code) (tag : List ℕ) (tags : ℕ) (raw d : List ℕ) (m p : ℕ) → write_text code tag tags raw (length d) ≡ refused_by m p
       → Refusal (6 ∷ 12 ∷ 18 ∷ 5 ∷ 19 ∷ 16 ∷ 3 ∷ []) (write_rules 4 code tag tags raw (length d)) m
       × (text_item_left (write_text code tag tags raw (length d)) code tag tags raw d ≡ d)
   pub write-text-accepts : (code : Code) (tag : List ℕ) (tags : ℕ) (raw d : List ℕ) (n : TextOffset)
-      → write_text code tag tags raw (length d) ≡ TW.Written n → None (write_rules 4 code tag tags raw (length d))
+      → write_text code tag tags raw (length d) ≡ Ok n → None (write_rules 4 code tag tags raw (length d))
   pub write-binary : (code : Code) (tag : List ℕ) (tags : ℕ) (raw d : List ℕ) (m p : ℕ)
-      → write_binary code tag tags raw (length d) ≡ BW.Refused m p
+      → write_binary code tag tags raw (length d) ≡ refused_by m p
       → Refusal (6 ∷ 12 ∷ 18 ∷ 5 ∷ 19 ∷ 16 ∷ 3 ∷ []) (write_rules 3 code tag tags raw (length d)) m
       × (binary_item_left (write_binary code tag tags raw (length d)) code tag tags raw d ≡ d)
   pub write-binary-accepts : (code : Code) (tag : List ℕ) (tags : ℕ) (raw d : List ℕ) (n : BinaryOffset)
-      → write_binary code tag tags raw (length d) ≡ BW.Written n → None (write_rules 3 code tag tags raw (length d))
+      → write_binary code tag tags raw (length d) ≡ Ok n → None (write_rules 3 code tag tags raw (length d))
 
 -- ---- demand 2: "A binary stream of whole triplets, or a text one of whole quadlets in the alphabet, either within the length
 -- limit, is the premise."
@@ -87,9 +82,9 @@ pub record Demand1 : Type 0 where
 pub record Demand2 : Type 0 where
   -- "Text, binary .. forms convert each way": such a stream is not refused where there is room
   pub text-converts : (t : List ℕ) (room : ℕ) → WholeText t → length t / 4 * 3 ≤ room
-      → text_to_binary t room ≡ B.Written (binary_offset (length t / 4 * 3))
+      → text_to_binary t room ≡ Ok (binary_offset (length t / 4 * 3))
   pub binary-converts : (b : List ℕ) (room : ℕ) → WholeBinary b → length b / 3 * 4 ≤ room
-      → binary_to_text b room ≡ T.Written (text_offset (length b / 3 * 4))
+      → binary_to_text b room ≡ Ok (text_offset (length b / 3 * 4))
   -- what is written is such a stream of the other form, and converts back to the first
   pub text-back : (t : List ℕ) → WholeText t → WholeBinary (to_binary t) × (to_text (to_binary t) ≡ t)
   pub binary-back : (b : List ℕ) → WholeBinary b → WholeText (to_text b) × (to_binary (to_text b) ≡ b)

@@ -17,12 +17,6 @@ use Rattle.format.specs.declared.Framed.TheVariants.{Item, Unframed}
 use Rattle.format.specs.declared.Verdict.{Verdict}
 use Rattle.format.specs.declared.TextOffset.{TextOffset}
 use Rattle.format.specs.declared.BinaryOffset.{BinaryOffset}
-use Rattle.format.specs.declared.TextIndexed.{TextIndexed}
-use Rattle.format.specs.declared.TextIndexed.TheVariants as TextIndexed
-use Rattle.format.specs.declared.BinaryIndexed.{BinaryIndexed}
-use Rattle.format.specs.declared.BinaryIndexed.TheVariants as BinaryIndexed
-use Rattle.format.specs.declared.TextWritten.TheVariants as TextWritten
-use Rattle.format.specs.declared.BinaryWritten.TheVariants as BinaryWritten
 use Rattle.format.specs.Units.{Domain, text, binary}
 use Rattle.format.specs.Framing.{sextet, frame_with, frame_indexed}
 use Rattle.format.specs.Judging.{ondex_right, judge_kind, own_check, behind}
@@ -48,6 +42,9 @@ use Rattle.claims_rules.proofs.Judged.{Judged, ondex-set, ondex-clear, own-judge
 use Rattle.claims_rules.proofs.Judged.Judged.{passes, refuses}
 use Rattle.claims.proofs.Demand1.{Reads, there, not_there, behind-framing, clean, told_writing, told_text_written, told_binary_written}
 use Rattle.claims.proofs.Demand1.{text-outcome, binary-outcome}
+use Rattle.std.specs.Prelude.{Ok, Err, Result}
+use Rattle.format.specs.declared.Refusal.{Refusal}
+use Rattle.format.specs.Refusals.{refused_by, refusal_place}
 
 -- ---- writing
 
@@ -116,20 +113,20 @@ module _ (code : IndexCode) (i j : ℕ) (raw : List ℕ) (room : ℕ) where
   unfolding I.write_indexed_binary
   write-binary = rw binary-outcome (writes 3 (I.named_index code) i j (length raw) room)
 
-  text-zero : (m p : ℕ) → I.write_indexed_text code i j raw room ≡ TextWritten.Refused m p → p ≡ 0
+  text-zero : (m p : ℕ) → I.write_indexed_text code i j raw room ≡ refused_by m p → p ≡ 0
   unfolding I.write_indexed_text W.text_outcome
   text-zero m p = by (I.writing_indexed 4 (I.named_index code) i j (length raw) room) (at_zero 4 (I.named_index code) i j (length raw) room)
     where
-      by : (w : W.Writing) → AtZero w → W.text_outcome w ≡ TextWritten.Refused m p → p ≡ 0
-      by (W.refused n q) z e = let y : p ≡ q = cc in y ∙ z
+      by : (w : W.Writing) → AtZero w → W.text_outcome w ≡ refused_by m p → p ≡ 0
+      by (W.refused n q) z e = let y : q ≡ p = ap refusal_place e in sym y ∙ z
       by (W.written n) z e = let y : ◌≡◌ {A = ℕ} 0 1 = cc in absurd (omega arith)
 
-  binary-zero : (m p : ℕ) → I.write_indexed_binary code i j raw room ≡ BinaryWritten.Refused m p → p ≡ 0
+  binary-zero : (m p : ℕ) → I.write_indexed_binary code i j raw room ≡ refused_by m p → p ≡ 0
   unfolding I.write_indexed_binary W.binary_outcome
   binary-zero m p = by (I.writing_indexed 3 (I.named_index code) i j (length raw) room) (at_zero 3 (I.named_index code) i j (length raw) room)
     where
-      by : (w : W.Writing) → AtZero w → W.binary_outcome w ≡ BinaryWritten.Refused m p → p ≡ 0
-      by (W.refused n q) z e = let y : p ≡ q = cc in y ∙ z
+      by : (w : W.Writing) → AtZero w → W.binary_outcome w ≡ refused_by m p → p ≡ 0
+      by (W.refused n q) z e = let y : q ≡ p = ap refusal_place e in sym y ∙ z
       by (W.written n) z e = let y : ◌≡◌ {A = ℕ} 0 1 = cc in absurd (omega arith)
 
 -- ---- reading
@@ -174,13 +171,13 @@ module _ (s : List ℕ) where
   unfolding I.reading_indexed I.read_indexed_framed frame_indexed frame_with
   no-unit e = rw (lt-ltb (length s / 4) 1 (omega arith))
 
-told_text_found : TextIndexed → Told
-told_text_found (TextIndexed.Found p) = accepted
-told_text_found (TextIndexed.Refused m p) = told m
+told_text_found : Result IndexedItem (Refusal TextOffset) → Told
+told_text_found (Ok p) = accepted
+told_text_found (Err e) = told e.number
 
-told_binary_found : BinaryIndexed → Told
-told_binary_found (BinaryIndexed.Found p) = accepted
-told_binary_found (BinaryIndexed.Refused m p) = told m
+told_binary_found : Result IndexedItem (Refusal BinaryOffset) → Told
+told_binary_found (Ok p) = accepted
+told_binary_found (Err e) = told e.number
 
 -- 3, behind all that reading asks
 text-answer : (at : ℕ) (rs : List Rule) (k : Kind) (h n : ℕ) (r : Reading) (s : List ℕ) (room : ℕ) → Reads rs k h n r

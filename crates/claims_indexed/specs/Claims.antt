@@ -9,10 +9,6 @@ use Rattle.format.specs.declared.BinaryOffset.{BinaryOffset}
 use Rattle.format.specs.declared.IndexRow.{IndexRow}
 use Rattle.format.specs.declared.IndexCode.{IndexCode}
 use Rattle.format.specs.declared.IndexedItem.{IndexedItem}
-use Rattle.format.specs.declared.TextIndexed.TheVariants as TI
-use Rattle.format.specs.declared.BinaryIndexed.TheVariants as Bi
-use Rattle.format.specs.declared.TextWritten.TheVariants as TW
-use Rattle.format.specs.declared.BinaryWritten.TheVariants as BW
 use Rattle.format.specs.declared.Framed.TheVariants.{Item, Unframed}
 use Rattle.format.specs.declared.Verdict.TheVariants.{Refused}
 use Rattle.format.specs.Registry.{is_overrideable, indexed_codes, index_chars}
@@ -24,35 +20,37 @@ use Rattle.format.specs.Indexed.{write_indexed_binary, binary_indexed_left}
 use Rattle.claims_rules.specs.Order.{None, Refusal}
 use Rattle.claims_indexed.specs.Conditions.{read_indexed_text_rules, read_indexed_binary_rules, write_indexed_rules}
 use Rattle.claims_indexed.specs.Words.{OneOf, IndexedStart}
+use Rattle.std.specs.Prelude.{Ok}
+use Rattle.format.specs.Refusals.{refused_by}
 
 -- ---- 02's request a, of indexed items. That they are written back is in roundtrip_indexed's Claims, what it says of the walk in walk_claims'
 
 -- demand 1 of the calls: "Add reading and writing of single indexed items, by 01's orders for primitives"
 pub record IndexedCalls : Type 0 where
   -- 1, 4, framing, judging, then 3; "any other start is 6, for the single reader too": it gives no 14
-  pub read-text : (s : List ℕ) (at : ℕ) (d : List ℕ) (m : ℕ) (p : TextOffset) → read_indexed_text s at (length d) ≡ TI.Refused m p
+  pub read-text : (s : List ℕ) (at : ℕ) (d : List ℕ) (m : ℕ) (p : TextOffset) → read_indexed_text s at (length d) ≡ refused_by m p
       → Refusal (1 ∷ 4 ∷ 5 ∷ 19 ∷ 6 ∷ 8 ∷ 15 ∷ 3 ∷ []) (read_indexed_text_rules s at (length d)) m
       × (indexed_left (read_indexed_text s at (length d)) s at d ≡ d)
-  pub read-text-accepts : (s : List ℕ) (at : ℕ) (d : List ℕ) (q : IndexedItem) → read_indexed_text s at (length d) ≡ TI.Found q
+  pub read-text-accepts : (s : List ℕ) (at : ℕ) (d : List ℕ) (q : IndexedItem) → read_indexed_text s at (length d) ≡ Ok q
       → None (read_indexed_text_rules s at (length d))
   -- the same in B, where nothing is written: a refused read hands "an empty part" back
-  pub read-binary : (s : List ℕ) (at m : ℕ) (p : BinaryOffset) → read_indexed_binary s at ≡ Bi.Refused m p
+  pub read-binary : (s : List ℕ) (at m : ℕ) (p : BinaryOffset) → read_indexed_binary s at ≡ refused_by m p
       → Refusal (1 ∷ 4 ∷ 6 ∷ 8 ∷ 15 ∷ []) (read_indexed_binary_rules s at) m × (indexed_part s at (read_indexed_binary s at) ≡ [])
-  pub read-binary-accepts : (s : List ℕ) (at : ℕ) (q : IndexedItem) → read_indexed_binary s at ≡ Bi.Found q → None (read_indexed_binary_rules s at)
+  pub read-binary-accepts : (s : List ℕ) (at : ℕ) (q : IndexedItem) → read_indexed_binary s at ≡ Ok q → None (read_indexed_binary_rules s at)
   -- "an index or ondex too large for its digits (without digits, any but 0) is 12, a nonzero ondex for a "current only" code is 15 after
   -- 12, place 0"
   pub write-text : (code : IndexCode) (index ondex : ℕ) (raw d : List ℕ) (m p : ℕ)
-      → write_indexed_text code index ondex raw (length d) ≡ TW.Refused m p
+      → write_indexed_text code index ondex raw (length d) ≡ refused_by m p
       → Refusal (6 ∷ 12 ∷ 15 ∷ 3 ∷ []) (write_indexed_rules 4 code index ondex (length raw) (length d)) m × (p ≡ 0)
       × (text_indexed_left (write_indexed_text code index ondex raw (length d)) code index ondex raw d ≡ d)
   pub write-text-accepts : (code : IndexCode) (index ondex : ℕ) (raw d : List ℕ) (n : TextOffset)
-      → write_indexed_text code index ondex raw (length d) ≡ TW.Written n → None (write_indexed_rules 4 code index ondex (length raw) (length d))
+      → write_indexed_text code index ondex raw (length d) ≡ Ok n → None (write_indexed_rules 4 code index ondex (length raw) (length d))
   pub write-binary : (code : IndexCode) (index ondex : ℕ) (raw d : List ℕ) (m p : ℕ)
-      → write_indexed_binary code index ondex raw (length d) ≡ BW.Refused m p
+      → write_indexed_binary code index ondex raw (length d) ≡ refused_by m p
       → Refusal (6 ∷ 12 ∷ 15 ∷ 3 ∷ []) (write_indexed_rules 3 code index ondex (length raw) (length d)) m × (p ≡ 0)
       × (binary_indexed_left (write_indexed_binary code index ondex raw (length d)) code index ondex raw d ≡ d)
   pub write-binary-accepts : (code : IndexCode) (index ondex : ℕ) (raw d : List ℕ) (n : BinaryOffset)
-      → write_indexed_binary code index ondex raw (length d) ≡ BW.Written n → None (write_indexed_rules 3 code index ondex (length raw) (length d))
+      → write_indexed_binary code index ondex raw (length d) ≡ Ok n → None (write_indexed_rules 3 code index ondex (length raw) (length d))
 
 -- of the items, by their own sextets, and of the groups that hold them
 pub record SignatureClaims : Type 0 where

@@ -6,7 +6,7 @@ ghost use Rattle.std.specs.Prelude.{◌≡◌, length};
 ghost use Rattle.format.specs.Conversion.{text_to_binary, first_stranger};
 ghost use Rattle.convert_order.specs.Lengths.{length_refusal};
 
-use format::{TextOffset, ToBinary};
+use format::{BinaryOffset, Refusal, TextOffset};
 
 // 1 or 2 of a text so long, 0 for neither.
 pub fn length_refusal(n: usize) -> u8
@@ -22,17 +22,23 @@ pub fn length_refusal(n: usize) -> u8
 }
 
 // Where the length is not refused: by the first stranger, the length where there is none, and the room for what is written.
-pub fn told(src: &[u8], bad: usize, room: usize) -> ToBinary
+pub fn told(src: &[u8], bad: usize, room: usize) -> Result<BinaryOffset, Refusal<TextOffset>>
     ensures { length_refusal (length src.now) ≡ 0 → bad ≡ first_stranger src.now → result ≡ text_to_binary src.now room }
 {
     let n = src.len();
     if bad < n {
         let number = alphabet_numbers::number_at(src, bad);
-        return ToBinary::Refused(number, TextOffset(bad));
+        return Err(Refusal {
+            number,
+            place: TextOffset(bad),
+        });
     }
     let size = offsets::in_binary(TextOffset(n));
     if room < size.0 {
-        return ToBinary::Refused(3, TextOffset(0));
+        return Err(Refusal {
+            number: 3,
+            place: TextOffset(0),
+        });
     }
-    ToBinary::Written(size)
+    Ok(size)
 }

@@ -1,22 +1,21 @@
 -- 02 l, "No two card decks alike", over the definitions of format as 02 c, h and a amend them. Statements only, a field a sentence, each
 -- below 02's words. `NoTwoAlike` is proved in Proved. Assumes nothing.
 use Rattle.std.specs.Prelude.{ℕ, ◌≡◌, List}
-use Rattle.format.specs.declared.TextWritten.TheVariants as TextWritten
-use Rattle.format.specs.declared.BinaryWritten.TheVariants as BinaryWritten
 use Rattle.format.specs.Offsets.{text_offset, binary_offset}
 use Rattle.format.specs.Writing.{write_text, write_binary}
 use Rattle.format.specs.Indexed.{write_indexed_text, write_indexed_binary}
 use Rattle.roundtrip.specs.Claims.{Given, tag_given, text_buffer, binary_buffer}
 use Rattle.roundtrip_indexed.specs.Claims as I
 use Rattle.decodable.specs.Words.{UniquelyDecodable, PrefixFree, Accepted, written_by}
+use Rattle.std.specs.Prelude.{Ok}
 
 -- ---- primitives that the writer accepts, in either form, and what it then writes
 
 abbrev pub TextAnswers : Given → ℕ → ℕ → Type 0
-TextAnswers g room size = write_text g.code g.tag g.tags g.raw room ≡ TextWritten.Written (text_offset size)
+TextAnswers g room size = write_text g.code g.tag g.tags g.raw room ≡ Ok (text_offset size)
 
 abbrev pub BinaryAnswers : Given → ℕ → ℕ → Type 0
-BinaryAnswers g room size = write_binary g.code g.tag g.tags g.raw room ≡ BinaryWritten.Written (binary_offset size)
+BinaryAnswers g room size = write_binary g.code g.tag g.tags g.raw room ≡ Ok (binary_offset size)
 
 abbrev pub text_of : Accepted TextAnswers → List ℕ
 text_of = written_by text_buffer
@@ -35,10 +34,10 @@ pub record Same (g h : Given) : Type 0 where
 -- ---- indexed items
 
 abbrev pub IndexedTextAnswers : I.Given → ℕ → ℕ → Type 0
-IndexedTextAnswers g room size = write_indexed_text g.code g.index g.ondex g.raw room ≡ TextWritten.Written (text_offset size)
+IndexedTextAnswers g room size = write_indexed_text g.code g.index g.ondex g.raw room ≡ Ok (text_offset size)
 
 abbrev pub IndexedBinaryAnswers : I.Given → ℕ → ℕ → Type 0
-IndexedBinaryAnswers g room size = write_indexed_binary g.code g.index g.ondex g.raw room ≡ BinaryWritten.Written (binary_offset size)
+IndexedBinaryAnswers g room size = write_indexed_binary g.code g.index g.ondex g.raw room ≡ Ok (binary_offset size)
 
 abbrev pub indexed_text_of : Accepted IndexedTextAnswers → List ℕ
 indexed_text_of = written_by I.text_buffer

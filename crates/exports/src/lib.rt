@@ -38,7 +38,7 @@ ghost use Rattle.groups.specs.Numbers.{grouped_number, grouped_value};
 use exports_indexed::INDEXED;
 use exports_pieces_state::PIECES;
 use exports_values::{INFO, STATE};
-use format::{BinaryFound, BinaryOffset, Form, TextFound, TextOffset};
+use format::{BinaryOffset, Form, Refusal, TextOffset};
 use walk_state::Found;
 
 // answer: the length written, or the place in the text.
@@ -133,14 +133,14 @@ pub fn cesr_read_text(
     let found = read.found;
     let characters = read.tag;
     match found {
-        TextFound::Found(p) => {
+        Ok(p) => {
             let numbers = exports_codes::info_of(p);
             *tag = characters;
             *info = numbers;
             *answer = exports_codes::value_size(p);
             0
         }
-        TextFound::Refused(number, place) => {
+        Err(Refusal { number, place }) => {
             *answer = place.0;
             number
         }
@@ -166,14 +166,14 @@ pub fn cesr_read_binary(
     let found = read.found;
     let characters = read.tag;
     match found {
-        BinaryFound::Found(p) => {
+        Ok(p) => {
             let numbers = exports_codes::info_of(p);
             *tag = characters;
             *info = numbers;
             *answer = exports_codes::value_size(p);
             0
         }
-        BinaryFound::Refused(number, place) => {
+        Err(Refusal { number, place }) => {
             *answer = place.0;
             number
         }

@@ -6,19 +6,24 @@ ghost use Rattle.std.specs.Prelude.{◌≡◌};
 ghost use Rattle.format.specs.Conversion.{to_binary_number, to_binary_value, to_text_number, to_text_value};
 ghost use Rattle.format.specs.Report.{report_number, report_value};
 
-use format::{Reported, ToBinary, ToText};
+use format::{BinaryOffset, Refusal, TextOffset};
 
 // answer: the length of the binary, or the place in the text.
-pub fn to_binary(outcome: ToBinary, answer: &mut usize) -> u8
+pub fn to_binary(outcome: Result<BinaryOffset, Refusal<TextOffset>>, answer: &mut usize) -> u8
     ensures value { result ≡ to_binary_number outcome }
     ensures answer_after { answer.new ≡ to_binary_value outcome }
 {
     match outcome {
-        ToBinary::Written(n) => {
+        Ok(n) => {
             *answer = n.0;
             0
         }
-        ToBinary::Refused(refusal, place) => {
+        Err(
+            Refusal {
+                number: refusal,
+                place,
+            },
+        ) => {
             *answer = place.0;
             refusal
         }
@@ -26,16 +31,21 @@ pub fn to_binary(outcome: ToBinary, answer: &mut usize) -> u8
 }
 
 // answer: the length of the text, or the place in the binary.
-pub fn to_text(outcome: ToText, answer: &mut usize) -> u8
+pub fn to_text(outcome: Result<TextOffset, Refusal<BinaryOffset>>, answer: &mut usize) -> u8
     ensures value { result ≡ to_text_number outcome }
     ensures answer_after { answer.new ≡ to_text_value outcome }
 {
     match outcome {
-        ToText::Written(n) => {
+        Ok(n) => {
             *answer = n.0;
             0
         }
-        ToText::Refused(number, byte) => {
+        Err(
+            Refusal {
+                number,
+                place: byte,
+            },
+        ) => {
             *answer = byte.0;
             number
         }
@@ -43,16 +53,16 @@ pub fn to_text(outcome: ToText, answer: &mut usize) -> u8
 }
 
 // answer: the length of the report, or 0 for 1 and 3.
-pub fn reported(outcome: Reported, answer: &mut usize) -> u8
+pub fn reported(outcome: Result<usize, Refusal<usize>>, answer: &mut usize) -> u8
     ensures value { result ≡ report_number outcome }
     ensures answer_after { answer.new ≡ report_value outcome }
 {
     match outcome {
-        Reported::Written(length) => {
+        Ok(length) => {
             *answer = length;
             0
         }
-        Reported::Refused(number, place) => {
+        Err(Refusal { number, place }) => {
             *answer = place;
             number
         }

@@ -5,26 +5,7 @@ use Rattle.format.specs.declared.Code.{Code}
 use Rattle.format.specs.declared.IndexCode.{IndexCode}
 use Rattle.format.specs.declared.TextOffset.{TextOffset}
 use Rattle.format.specs.declared.BinaryOffset.{BinaryOffset}
-use Rattle.format.specs.declared.ToBinary.{ToBinary}
-use Rattle.format.specs.declared.ToBinary.TheVariants as B
-use Rattle.format.specs.declared.ToText.{ToText}
-use Rattle.format.specs.declared.ToText.TheVariants as T
-use Rattle.format.specs.declared.Reported.{Reported}
-use Rattle.format.specs.declared.Reported.TheVariants as R
-use Rattle.format.specs.declared.TextFound.{TextFound}
-use Rattle.format.specs.declared.TextFound.TheVariants as TF
-use Rattle.format.specs.declared.TextRead.{TextRead}
-use Rattle.format.specs.declared.BinaryFound.{BinaryFound}
-use Rattle.format.specs.declared.BinaryFound.TheVariants as BF
-use Rattle.format.specs.declared.BinaryRead.{BinaryRead}
-use Rattle.format.specs.declared.TextWritten.{TextWritten}
-use Rattle.format.specs.declared.TextWritten.TheVariants as TW
-use Rattle.format.specs.declared.BinaryWritten.{BinaryWritten}
-use Rattle.format.specs.declared.BinaryWritten.TheVariants as BW
-use Rattle.format.specs.declared.TextIndexed.{TextIndexed}
-use Rattle.format.specs.declared.TextIndexed.TheVariants as TX
-use Rattle.format.specs.declared.BinaryIndexed.{BinaryIndexed}
-use Rattle.format.specs.declared.BinaryIndexed.TheVariants as BX
+use Rattle.format.specs.declared.PrimitiveRead.{PrimitiveRead}
 use Rattle.format.specs.Units.{Domain, text, binary}
 use Rattle.format.specs.Offsets.{text_offset, binary_offset}
 use Rattle.format.specs.Conversion.{text_to_binary, to_binary_number, binary_left, binary_to_text, to_text_number, text_left}
@@ -53,115 +34,120 @@ use Rattle.exports_claims.specs.Words.{InBinary, InText, Report, ReadText, ReadB
 use Rattle.exports_indexed.specs.Answers.{text_number, text_info, binary_number, binary_info}
 use Rattle.exports_claims.specs.Words.{ReadIndexedText, ReadIndexedBinary}
 use Rattle.exports_claims.specs.Claims.{ZeroClaims, KeepClaims}
+use Rattle.std.specs.Prelude.{Ok, Err, Result}
+use Rattle.format.specs.declared.Refusal.{Refusal}
+use Rattle.format.specs.Refusals.{refused_by}
+use Rattle.format.specs.declared.Primitive.{Primitive}
+use Rattle.format.specs.declared.IndexedItem.{IndexedItem}
 
 -- ---- each kind of answer: its number is 0 exactly where it is accepted, if no refusal has the number 0; and any other leaves what is lent
 
-binary-zero : (a : ToBinary) → ((m : ℕ) (p : TextOffset) → a ≡ B.Refused m p → 0 < m) → (to_binary_number a ≡ 0) ↔ InBinary a
+binary-zero : (a : Result BinaryOffset (Refusal TextOffset)) → ((m : ℕ) (p : TextOffset) → a ≡ refused_by m p → 0 < m) → (to_binary_number a ≡ 0) ↔ InBinary a
 unfolding to_binary_number
-binary-zero (B.Written n) h = (λ _. tt, λ _. refl)
-binary-zero (B.Refused m p) h = (λ e. absurd (omega (arith, e, h m p refl)), λ x. absurd x)
+binary-zero (Ok n) h = (λ _. tt, λ _. refl)
+binary-zero (Err r) h = (λ e. absurd (omega (arith, e, h r.number r.place refl)), λ x. absurd x)
 
-text-zero : (a : ToText) → ((m : ℕ) (p : BinaryOffset) → a ≡ T.Refused m p → 0 < m) → (to_text_number a ≡ 0) ↔ InText a
+text-zero : (a : Result TextOffset (Refusal BinaryOffset)) → ((m : ℕ) (p : BinaryOffset) → a ≡ refused_by m p → 0 < m) → (to_text_number a ≡ 0) ↔ InText a
 unfolding to_text_number
-text-zero (T.Written n) h = (λ _. tt, λ _. refl)
-text-zero (T.Refused m p) h = (λ e. absurd (omega (arith, e, h m p refl)), λ x. absurd x)
+text-zero (Ok n) h = (λ _. tt, λ _. refl)
+text-zero (Err r) h = (λ e. absurd (omega (arith, e, h r.number r.place refl)), λ x. absurd x)
 
-report-zero : (a : Reported) → ((m : ℕ) (p : ℕ) → a ≡ R.Refused m p → 0 < m) → (report_number a ≡ 0) ↔ Report a
+report-zero : (a : Result ℕ (Refusal ℕ)) → ((m : ℕ) (p : ℕ) → a ≡ refused_by m p → 0 < m) → (report_number a ≡ 0) ↔ Report a
 unfolding report_number
-report-zero (R.Written n) h = (λ _. tt, λ _. refl)
-report-zero (R.Refused m p) h = (λ e. absurd (omega (arith, e, h m p refl)), λ x. absurd x)
+report-zero (Ok n) h = (λ _. tt, λ _. refl)
+report-zero (Err r) h = (λ e. absurd (omega (arith, e, h r.number r.place refl)), λ x. absurd x)
 
-text-found-zero : (a : TextFound) → ((m : ℕ) (p : TextOffset) → a ≡ TF.Refused m p → 0 < m) → (text_found_number a ≡ 0) ↔ ReadText a
+text-found-zero : (a : Result Primitive (Refusal TextOffset)) → ((m : ℕ) (p : TextOffset) → a ≡ refused_by m p → 0 < m) → (text_found_number a ≡ 0) ↔ ReadText a
 unfolding text_found_number
-text-found-zero (TF.Found q) h = (λ _. tt, λ _. refl)
-text-found-zero (TF.Refused m p) h = (λ e. absurd (omega (arith, e, h m p refl)), λ x. absurd x)
+text-found-zero (Ok q) h = (λ _. tt, λ _. refl)
+text-found-zero (Err r) h = (λ e. absurd (omega (arith, e, h r.number r.place refl)), λ x. absurd x)
 
-binary-found-zero : (a : BinaryFound) → ((m : ℕ) (p : BinaryOffset) → a ≡ BF.Refused m p → 0 < m) → (binary_found_number a ≡ 0) ↔ ReadBinary a
+binary-found-zero : (a : Result Primitive (Refusal BinaryOffset)) → ((m : ℕ) (p : BinaryOffset) → a ≡ refused_by m p → 0 < m) → (binary_found_number a ≡ 0) ↔ ReadBinary a
 unfolding binary_found_number
-binary-found-zero (BF.Found q) h = (λ _. tt, λ _. refl)
-binary-found-zero (BF.Refused m p) h = (λ e. absurd (omega (arith, e, h m p refl)), λ x. absurd x)
+binary-found-zero (Ok q) h = (λ _. tt, λ _. refl)
+binary-found-zero (Err r) h = (λ e. absurd (omega (arith, e, h r.number r.place refl)), λ x. absurd x)
 
-text-written-zero : (a : TextWritten) → ((m : ℕ) (p : ℕ) → a ≡ TW.Refused m p → 0 < m) → (text_written_number a ≡ 0) ↔ WroteText a
+text-written-zero : (a : Result TextOffset (Refusal ℕ)) → ((m : ℕ) (p : ℕ) → a ≡ refused_by m p → 0 < m) → (text_written_number a ≡ 0) ↔ WroteText a
 unfolding text_written_number
-text-written-zero (TW.Written n) h = (λ _. tt, λ _. refl)
-text-written-zero (TW.Refused m p) h = (λ e. absurd (omega (arith, e, h m p refl)), λ x. absurd x)
+text-written-zero (Ok n) h = (λ _. tt, λ _. refl)
+text-written-zero (Err r) h = (λ e. absurd (omega (arith, e, h r.number r.place refl)), λ x. absurd x)
 
-binary-written-zero : (a : BinaryWritten) → ((m : ℕ) (p : ℕ) → a ≡ BW.Refused m p → 0 < m) → (binary_written_number a ≡ 0) ↔ WroteBinary a
+binary-written-zero : (a : Result BinaryOffset (Refusal ℕ)) → ((m : ℕ) (p : ℕ) → a ≡ refused_by m p → 0 < m) → (binary_written_number a ≡ 0) ↔ WroteBinary a
 unfolding binary_written_number
-binary-written-zero (BW.Written n) h = (λ _. tt, λ _. refl)
-binary-written-zero (BW.Refused m p) h = (λ e. absurd (omega (arith, e, h m p refl)), λ x. absurd x)
+binary-written-zero (Ok n) h = (λ _. tt, λ _. refl)
+binary-written-zero (Err r) h = (λ e. absurd (omega (arith, e, h r.number r.place refl)), λ x. absurd x)
 
-text-indexed-zero : (a : TextIndexed) → ((m : ℕ) (p : TextOffset) → a ≡ TX.Refused m p → 0 < m) → (text_number a ≡ 0) ↔ ReadIndexedText a
+text-indexed-zero : (a : Result IndexedItem (Refusal TextOffset)) → ((m : ℕ) (p : TextOffset) → a ≡ refused_by m p → 0 < m) → (text_number a ≡ 0) ↔ ReadIndexedText a
 unfolding text_number
-text-indexed-zero (TX.Found q) h = (λ _. tt, λ _. refl)
-text-indexed-zero (TX.Refused m p) h = (λ e. absurd (omega (arith, e, h m p refl)), λ x. absurd x)
+text-indexed-zero (Ok q) h = (λ _. tt, λ _. refl)
+text-indexed-zero (Err r) h = (λ e. absurd (omega (arith, e, h r.number r.place refl)), λ x. absurd x)
 
-binary-indexed-zero : (a : BinaryIndexed) → ((m : ℕ) (p : BinaryOffset) → a ≡ BX.Refused m p → 0 < m) → (binary_number a ≡ 0) ↔ ReadIndexedBinary a
+binary-indexed-zero : (a : Result IndexedItem (Refusal BinaryOffset)) → ((m : ℕ) (p : BinaryOffset) → a ≡ refused_by m p → 0 < m) → (binary_number a ≡ 0) ↔ ReadIndexedBinary a
 unfolding binary_number
-binary-indexed-zero (BX.Found q) h = (λ _. tt, λ _. refl)
-binary-indexed-zero (BX.Refused m p) h = (λ e. absurd (omega (arith, e, h m p refl)), λ x. absurd x)
+binary-indexed-zero (Ok q) h = (λ _. tt, λ _. refl)
+binary-indexed-zero (Err r) h = (λ e. absurd (omega (arith, e, h r.number r.place refl)), λ x. absurd x)
 
-binary-keeps : (a : ToBinary) (s d : List ℕ) → (to_binary_number a ≡ 0 → ⊥) → binary_left a s d ≡ d
+binary-keeps : (a : Result BinaryOffset (Refusal TextOffset)) (s d : List ℕ) → (to_binary_number a ≡ 0 → ⊥) → binary_left a s d ≡ d
 unfolding to_binary_number binary_left
-binary-keeps (B.Written n) s d h = absurd (h refl)
-binary-keeps (B.Refused m p) s d h = refl
+binary-keeps (Ok n) s d h = absurd (h refl)
+binary-keeps (Err e) s d h = refl
 
-text-keeps : (a : ToText) (s d : List ℕ) → (to_text_number a ≡ 0 → ⊥) → text_left a s d ≡ d
+text-keeps : (a : Result TextOffset (Refusal BinaryOffset)) (s d : List ℕ) → (to_text_number a ≡ 0 → ⊥) → text_left a s d ≡ d
 unfolding to_text_number text_left
-text-keeps (T.Written n) s d h = absurd (h refl)
-text-keeps (T.Refused m p) s d h = refl
+text-keeps (Ok n) s d h = absurd (h refl)
+text-keeps (Err e) s d h = refl
 
-report-keeps : (a : Reported) (f : Domain) (s d : List ℕ) → (report_number a ≡ 0 → ⊥) → report_left a f s d ≡ d
+report-keeps : (a : Result ℕ (Refusal ℕ)) (f : Domain) (s d : List ℕ) → (report_number a ≡ 0 → ⊥) → report_left a f s d ≡ d
 unfolding report_number report_left
-report-keeps (R.Written n) f s d h = absurd (h refl)
-report-keeps (R.Refused m p) f s d h = refl
+report-keeps (Ok n) f s d h = absurd (h refl)
+report-keeps (Err e) f s d h = refl
 
-text-found-keeps : (a : TextFound) (s : List ℕ) (at : ℕ) (d chars tag info : List ℕ) → (text_found_number a ≡ 0 → ⊥)
+text-found-keeps : (a : Result Primitive (Refusal TextOffset)) (s : List ℕ) (at : ℕ) (d chars tag info : List ℕ) → (text_found_number a ≡ 0 → ⊥)
     → (value_left a s at d ≡ d) × (text_tag_left a chars tag ≡ tag) × (text_info_left a info ≡ info)
 unfolding text_found_number value_left text_tag_left text_info_left
-text-found-keeps (TF.Found q) s at d chars tag info h = absurd (h refl)
-text-found-keeps (TF.Refused m p) s at d chars tag info h = (refl, refl, refl)
+text-found-keeps (Ok q) s at d chars tag info h = absurd (h refl)
+text-found-keeps (Err e) s at d chars tag info h = (refl, refl, refl)
 
-binary-found-keeps : (a : BinaryFound) (s : List ℕ) (at : ℕ) (d chars tag info : List ℕ) → (binary_found_number a ≡ 0 → ⊥)
+binary-found-keeps : (a : Result Primitive (Refusal BinaryOffset)) (s : List ℕ) (at : ℕ) (d chars tag info : List ℕ) → (binary_found_number a ≡ 0 → ⊥)
     → (chars_left a s at d ≡ d) × (binary_tag_left a chars tag ≡ tag) × (binary_info_left a info ≡ info)
 unfolding binary_found_number chars_left binary_tag_left binary_info_left
-binary-found-keeps (BF.Found q) s at d chars tag info h = absurd (h refl)
-binary-found-keeps (BF.Refused m p) s at d chars tag info h = (refl, refl, refl)
+binary-found-keeps (Ok q) s at d chars tag info h = absurd (h refl)
+binary-found-keeps (Err e) s at d chars tag info h = (refl, refl, refl)
 
-text-written-keeps : (a : TextWritten) (code : Code) (tag : List ℕ) (tags : ℕ) (raw d : List ℕ) → (text_written_number a ≡ 0 → ⊥)
+text-written-keeps : (a : Result TextOffset (Refusal ℕ)) (code : Code) (tag : List ℕ) (tags : ℕ) (raw d : List ℕ) → (text_written_number a ≡ 0 → ⊥)
     → text_item_left a code tag tags raw d ≡ d
 unfolding text_written_number text_item_left
-text-written-keeps (TW.Written n) code tag tags raw d h = absurd (h refl)
-text-written-keeps (TW.Refused m p) code tag tags raw d h = refl
+text-written-keeps (Ok n) code tag tags raw d h = absurd (h refl)
+text-written-keeps (Err e) code tag tags raw d h = refl
 
-binary-written-keeps : (a : BinaryWritten) (code : Code) (tag : List ℕ) (tags : ℕ) (raw d : List ℕ) → (binary_written_number a ≡ 0 → ⊥)
+binary-written-keeps : (a : Result BinaryOffset (Refusal ℕ)) (code : Code) (tag : List ℕ) (tags : ℕ) (raw d : List ℕ) → (binary_written_number a ≡ 0 → ⊥)
     → binary_item_left a code tag tags raw d ≡ d
 unfolding binary_written_number binary_item_left
-binary-written-keeps (BW.Written n) code tag tags raw d h = absurd (h refl)
-binary-written-keeps (BW.Refused m p) code tag tags raw d h = refl
+binary-written-keeps (Ok n) code tag tags raw d h = absurd (h refl)
+binary-written-keeps (Err e) code tag tags raw d h = refl
 
-text-indexed-keeps : (a : TextIndexed) (s : List ℕ) (at : ℕ) (d info : List ℕ) → (text_number a ≡ 0 → ⊥)
+text-indexed-keeps : (a : Result IndexedItem (Refusal TextOffset)) (s : List ℕ) (at : ℕ) (d info : List ℕ) → (text_number a ≡ 0 → ⊥)
     → (indexed_left a s at d ≡ d) × (text_info a info ≡ info)
 unfolding text_number indexed_left text_info
-text-indexed-keeps (TX.Found q) s at d info h = absurd (h refl)
-text-indexed-keeps (TX.Refused m p) s at d info h = (refl, refl)
+text-indexed-keeps (Ok q) s at d info h = absurd (h refl)
+text-indexed-keeps (Err e) s at d info h = (refl, refl)
 
-binary-indexed-keeps : (a : BinaryIndexed) (info : List ℕ) → (binary_number a ≡ 0 → ⊥) → binary_info a info ≡ info
+binary-indexed-keeps : (a : Result IndexedItem (Refusal BinaryOffset)) (info : List ℕ) → (binary_number a ≡ 0 → ⊥) → binary_info a info ≡ info
 unfolding binary_number binary_info
-binary-indexed-keeps (BX.Found q) info h = absurd (h refl)
-binary-indexed-keeps (BX.Refused m p) info h = refl
+binary-indexed-keeps (Ok q) info h = absurd (h refl)
+binary-indexed-keeps (Err e) info h = refl
 
-text-indexed-written-keeps : (a : TextWritten) (code : IndexCode) (index ondex : ℕ) (raw d : List ℕ) → (text_written_number a ≡ 0 → ⊥)
+text-indexed-written-keeps : (a : Result TextOffset (Refusal ℕ)) (code : IndexCode) (index ondex : ℕ) (raw d : List ℕ) → (text_written_number a ≡ 0 → ⊥)
     → text_indexed_left a code index ondex raw d ≡ d
 unfolding text_written_number text_indexed_left
-text-indexed-written-keeps (TW.Written n) code index ondex raw d h = absurd (h refl)
-text-indexed-written-keeps (TW.Refused m p) code index ondex raw d h = refl
+text-indexed-written-keeps (Ok n) code index ondex raw d h = absurd (h refl)
+text-indexed-written-keeps (Err e) code index ondex raw d h = refl
 
-binary-indexed-written-keeps : (a : BinaryWritten) (code : IndexCode) (index ondex : ℕ) (raw d : List ℕ) → (binary_written_number a ≡ 0 → ⊥)
+binary-indexed-written-keeps : (a : Result BinaryOffset (Refusal ℕ)) (code : IndexCode) (index ondex : ℕ) (raw d : List ℕ) → (binary_written_number a ≡ 0 → ⊥)
     → binary_indexed_left a code index ondex raw d ≡ d
 unfolding binary_written_number binary_indexed_left
-binary-indexed-written-keeps (BW.Written n) code index ondex raw d h = absurd (h refl)
-binary-indexed-written-keeps (BW.Refused m p) code index ondex raw d h = refl
+binary-indexed-written-keeps (Ok n) code index ondex raw d h = absurd (h refl)
+binary-indexed-written-keeps (Err r) code index ondex raw d h = refl
 
 -- ---- a step: no refusal has the number 0 or 255
 

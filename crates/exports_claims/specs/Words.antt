@@ -1,24 +1,6 @@
 -- What the claims on the calls for C speak of: which answers are accepted ones, and the state that is lent call after call. No proofs.
 -- Assumes nothing.
 use Rattle.std.specs.Prelude.{ℕ, zero, suc, List, replicate}
-use Rattle.format.specs.declared.ToBinary.{ToBinary}
-use Rattle.format.specs.declared.ToBinary.TheVariants as B
-use Rattle.format.specs.declared.ToText.{ToText}
-use Rattle.format.specs.declared.ToText.TheVariants as T
-use Rattle.format.specs.declared.Reported.{Reported}
-use Rattle.format.specs.declared.Reported.TheVariants as R
-use Rattle.format.specs.declared.TextFound.{TextFound}
-use Rattle.format.specs.declared.TextFound.TheVariants as TF
-use Rattle.format.specs.declared.BinaryFound.{BinaryFound}
-use Rattle.format.specs.declared.BinaryFound.TheVariants as BF
-use Rattle.format.specs.declared.TextWritten.{TextWritten}
-use Rattle.format.specs.declared.TextWritten.TheVariants as TW
-use Rattle.format.specs.declared.BinaryWritten.{BinaryWritten}
-use Rattle.format.specs.declared.BinaryWritten.TheVariants as BW
-use Rattle.format.specs.declared.TextIndexed.{TextIndexed}
-use Rattle.format.specs.declared.TextIndexed.TheVariants as TX
-use Rattle.format.specs.declared.BinaryIndexed.{BinaryIndexed}
-use Rattle.format.specs.declared.BinaryIndexed.TheVariants as BX
 use Rattle.format.specs.declared.IndexRow.{IndexRow}
 use Rattle.format.specs.declared.IndexedItem.{IndexedItem}
 use Rattle.format.specs.Offsets.{binary_offset}
@@ -30,44 +12,49 @@ use Rattle.walk_state.specs.declared.TextStep.{TextStep}
 use Rattle.walk_state.specs.declared.BinaryStep.{BinaryStep}
 use Rattle.walk_state.specs.Walking.{text_step, binary_step}
 use Rattle.exports_values.specs.Lent.{state_size, walk_of, text_state_left, binary_state_left}
+use Rattle.std.specs.Prelude.{Ok, Err, Result}
+use Rattle.format.specs.declared.Refusal.{Refusal}
+use Rattle.format.specs.declared.TextOffset.{TextOffset}
+use Rattle.format.specs.declared.BinaryOffset.{BinaryOffset}
+use Rattle.format.specs.declared.Primitive.{Primitive}
 
 -- ---- accepted
 
-abbrev pub InBinary : ToBinary → Type 0
-InBinary (B.Written n) = Unit {0}
-InBinary (B.Refused m p) = ⊥
+abbrev pub InBinary : Result BinaryOffset (Refusal TextOffset) → Type 0
+InBinary (Ok n) = Unit {0}
+InBinary (Err e) = ⊥
 
-abbrev pub InText : ToText → Type 0
-InText (T.Written n) = Unit {0}
-InText (T.Refused m p) = ⊥
+abbrev pub InText : Result TextOffset (Refusal BinaryOffset) → Type 0
+InText (Ok n) = Unit {0}
+InText (Err e) = ⊥
 
-abbrev pub Report : Reported → Type 0
-Report (R.Written n) = Unit {0}
-Report (R.Refused m p) = ⊥
+abbrev pub Report : Result ℕ (Refusal ℕ) → Type 0
+Report (Ok n) = Unit {0}
+Report (Err e) = ⊥
 
-abbrev pub ReadText : TextFound → Type 0
-ReadText (TF.Found p) = Unit {0}
-ReadText (TF.Refused m p) = ⊥
+abbrev pub ReadText : Result Primitive (Refusal TextOffset) → Type 0
+ReadText (Ok p) = Unit {0}
+ReadText (Err e) = ⊥
 
-abbrev pub ReadBinary : BinaryFound → Type 0
-ReadBinary (BF.Found p) = Unit {0}
-ReadBinary (BF.Refused m p) = ⊥
+abbrev pub ReadBinary : Result Primitive (Refusal BinaryOffset) → Type 0
+ReadBinary (Ok p) = Unit {0}
+ReadBinary (Err e) = ⊥
 
-abbrev pub WroteText : TextWritten → Type 0
-WroteText (TW.Written n) = Unit {0}
-WroteText (TW.Refused m p) = ⊥
+abbrev pub WroteText : Result TextOffset (Refusal ℕ) → Type 0
+WroteText (Ok n) = Unit {0}
+WroteText (Err e) = ⊥
 
-abbrev pub WroteBinary : BinaryWritten → Type 0
-WroteBinary (BW.Written n) = Unit {0}
-WroteBinary (BW.Refused m p) = ⊥
+abbrev pub WroteBinary : Result BinaryOffset (Refusal ℕ) → Type 0
+WroteBinary (Ok n) = Unit {0}
+WroteBinary (Err e) = ⊥
 
-abbrev pub ReadIndexedText : TextIndexed → Type 0
-ReadIndexedText (TX.Found p) = Unit {0}
-ReadIndexedText (TX.Refused m p) = ⊥
+abbrev pub ReadIndexedText : Result IndexedItem (Refusal TextOffset) → Type 0
+ReadIndexedText (Ok p) = Unit {0}
+ReadIndexedText (Err e) = ⊥
 
-abbrev pub ReadIndexedBinary : BinaryIndexed → Type 0
-ReadIndexedBinary (BX.Found p) = Unit {0}
-ReadIndexedBinary (BX.Refused m p) = ⊥
+abbrev pub ReadIndexedBinary : Result IndexedItem (Refusal BinaryOffset) → Type 0
+ReadIndexedBinary (Ok p) = Unit {0}
+ReadIndexedBinary (Err e) = ⊥
 
 -- ---- a step that yields, and one that tells the end
 

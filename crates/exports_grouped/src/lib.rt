@@ -5,18 +5,18 @@
 ghost use Rattle.std.specs.Prelude.{◌≡◌};
 ghost use Rattle.groups.specs.Numbers.{grouped_number, grouped_value};
 
-use groups::Grouped;
+use format::Refusal;
 
-pub fn told(outcome: Grouped, answer: &mut usize) -> u8
+pub fn told(outcome: Result<usize, Refusal<usize>>, answer: &mut usize) -> u8
     ensures value { result ≡ grouped_number outcome }
     ensures answer_after { answer.new ≡ grouped_value outcome }
 {
     match outcome {
-        Grouped::Written(size) => {
+        Ok(size) => {
             *answer = size;
             0
         }
-        Grouped::Refused { number, place } => {
+        Err(Refusal { number, place }) => {
             *answer = place;
             number
         }

@@ -8,7 +8,7 @@ ghost use Rattle.exports_indexed.specs.Answers.{text_number, text_value, text_in
 ghost use Rattle.exports_values.specs.Answers.{text_written_number, text_written_value, binary_written_number, binary_written_value};
 
 use exports_indexed::INDEXED;
-use format::{BinaryIndexed, BinaryOffset, IndexCode, TextIndexed, TextOffset};
+use format::{BinaryOffset, IndexCode, Refusal, TextOffset};
 
 // out: the raw value; answer: its length, or the place in the text. A refused call writes to no other place.
 pub fn read_indexed_text(
@@ -25,13 +25,13 @@ pub fn read_indexed_text(
 {
     let read = indexed_text::read_indexed_text(stream, TextOffset(at), out);
     match read {
-        TextIndexed::Found(p) => {
+        Ok(p) => {
             let numbers = exports_indexed::info_of(p);
             *info = numbers;
             *answer = p.raw;
             0
         }
-        TextIndexed::Refused(number, place) => {
+        Err(Refusal { number, place }) => {
             *answer = place.0;
             number
         }
@@ -51,13 +51,13 @@ pub fn read_indexed_binary(
 {
     let read = indexed_binary::read_indexed_binary(stream, BinaryOffset(at));
     match read {
-        BinaryIndexed::Found(p) => {
+        Ok(p) => {
             let numbers = exports_indexed::info_of(p);
             *info = numbers;
             *answer = p.raw;
             0
         }
-        BinaryIndexed::Refused(number, place) => {
+        Err(Refusal { number, place }) => {
             *answer = place.0;
             number
         }

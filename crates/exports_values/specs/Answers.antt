@@ -6,14 +6,10 @@ use Rattle.base.specs.Pick.{pick}
 use Rattle.format.specs.declared.Code.{Code}
 use Rattle.format.specs.declared.Code.TheVariants as C
 use Rattle.format.specs.declared.Primitive.{Primitive}
-use Rattle.format.specs.declared.TextFound.{TextFound}
-use Rattle.format.specs.declared.TextFound.TheVariants as T
-use Rattle.format.specs.declared.BinaryFound.{BinaryFound}
-use Rattle.format.specs.declared.BinaryFound.TheVariants as B
-use Rattle.format.specs.declared.TextWritten.{TextWritten}
-use Rattle.format.specs.declared.TextWritten.TheVariants as N
-use Rattle.format.specs.declared.BinaryWritten.{BinaryWritten}
-use Rattle.format.specs.declared.BinaryWritten.TheVariants as P
+use Rattle.std.specs.Prelude.{Ok, Err, Result}
+use Rattle.format.specs.declared.Refusal.{Refusal}
+use Rattle.format.specs.declared.TextOffset.{TextOffset}
+use Rattle.format.specs.declared.BinaryOffset.{BinaryOffset}
 
 -- ---- a code as two numbers
 
@@ -42,53 +38,53 @@ unfoldable pub value_size : Primitive → ℕ
 value_size p = pick (eqb p.text 0) p.raw p.text
 
 -- 0 and that length, or 01's number and the place
-unfoldable pub text_found_number : TextFound → ℕ
-text_found_number (T.Found p) = 0
-text_found_number (T.Refused number place) = number
+unfoldable pub text_found_number : Result Primitive (Refusal TextOffset) → ℕ
+text_found_number (Ok p) = 0
+text_found_number (Err e) = e.number
 
-unfoldable pub text_found_value : TextFound → ℕ
-text_found_value (T.Found p) = value_size p
-text_found_value (T.Refused number place) = place.0
+unfoldable pub text_found_value : Result Primitive (Refusal TextOffset) → ℕ
+text_found_value (Ok p) = value_size p
+text_found_value (Err e) = e.place.0
 
 -- a refused call writes to neither place
-unfoldable pub text_tag_left : TextFound → List ℕ → List ℕ → List ℕ
-text_tag_left (T.Found p) tag before = tag
-text_tag_left (T.Refused number place) tag before = before
+unfoldable pub text_tag_left : Result Primitive (Refusal TextOffset) → List ℕ → List ℕ → List ℕ
+text_tag_left (Ok p) tag before = tag
+text_tag_left (Err e) tag before = before
 
-unfoldable pub text_info_left : TextFound → List ℕ → List ℕ
-text_info_left (T.Found p) before = info_of p
-text_info_left (T.Refused number place) before = before
+unfoldable pub text_info_left : Result Primitive (Refusal TextOffset) → List ℕ → List ℕ
+text_info_left (Ok p) before = info_of p
+text_info_left (Err e) before = before
 
-unfoldable pub binary_found_number : BinaryFound → ℕ
-binary_found_number (B.Found p) = 0
-binary_found_number (B.Refused number place) = number
+unfoldable pub binary_found_number : Result Primitive (Refusal BinaryOffset) → ℕ
+binary_found_number (Ok p) = 0
+binary_found_number (Err e) = e.number
 
-unfoldable pub binary_found_value : BinaryFound → ℕ
-binary_found_value (B.Found p) = value_size p
-binary_found_value (B.Refused number place) = place.0
+unfoldable pub binary_found_value : Result Primitive (Refusal BinaryOffset) → ℕ
+binary_found_value (Ok p) = value_size p
+binary_found_value (Err e) = e.place.0
 
-unfoldable pub binary_tag_left : BinaryFound → List ℕ → List ℕ → List ℕ
-binary_tag_left (B.Found p) tag before = tag
-binary_tag_left (B.Refused number place) tag before = before
+unfoldable pub binary_tag_left : Result Primitive (Refusal BinaryOffset) → List ℕ → List ℕ → List ℕ
+binary_tag_left (Ok p) tag before = tag
+binary_tag_left (Err e) tag before = before
 
-unfoldable pub binary_info_left : BinaryFound → List ℕ → List ℕ
-binary_info_left (B.Found p) before = info_of p
-binary_info_left (B.Refused number place) before = before
+unfoldable pub binary_info_left : Result Primitive (Refusal BinaryOffset) → List ℕ → List ℕ
+binary_info_left (Ok p) before = info_of p
+binary_info_left (Err e) before = before
 
 -- ---- writing: 0 and the length written, or 01's number and the place
 
-unfoldable pub text_written_number : TextWritten → ℕ
-text_written_number (N.Written n) = 0
-text_written_number (N.Refused number place) = number
+unfoldable pub text_written_number : Result TextOffset (Refusal ℕ) → ℕ
+text_written_number (Ok n) = 0
+text_written_number (Err e) = e.number
 
-unfoldable pub text_written_value : TextWritten → ℕ
-text_written_value (N.Written n) = n.0
-text_written_value (N.Refused number place) = place
+unfoldable pub text_written_value : Result TextOffset (Refusal ℕ) → ℕ
+text_written_value (Ok n) = n.0
+text_written_value (Err e) = e.place
 
-unfoldable pub binary_written_number : BinaryWritten → ℕ
-binary_written_number (P.Written n) = 0
-binary_written_number (P.Refused number place) = number
+unfoldable pub binary_written_number : Result BinaryOffset (Refusal ℕ) → ℕ
+binary_written_number (Ok n) = 0
+binary_written_number (Err e) = e.number
 
-unfoldable pub binary_written_value : BinaryWritten → ℕ
-binary_written_value (P.Written n) = n.0
-binary_written_value (P.Refused number place) = place
+unfoldable pub binary_written_value : Result BinaryOffset (Refusal ℕ) → ℕ
+binary_written_value (Ok n) = n.0
+binary_written_value (Err e) = e.place

@@ -24,12 +24,6 @@ pub const INDEXED: usize = MAX_DEPTH + 3;
 
 // ---- a byte and a flag
 
-pub fn wide(x: u8) -> usize
-    ensures { result ≡ x }
-{
-    x as usize
-}
-
 pub fn mark_of(yes: bool) -> usize
     ensures { result ≡ pick yes 1 0 }
 {

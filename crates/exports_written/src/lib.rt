@@ -5,19 +5,19 @@
 ghost use Rattle.std.specs.Prelude.{◌≡◌};
 ghost use Rattle.exports_values.specs.Answers.{text_written_number, text_written_value, binary_written_number, binary_written_value};
 
-use format::{BinaryWritten, TextWritten};
+use format::{BinaryOffset, Refusal, TextOffset};
 
 // answer: the length written, or the place.
-pub fn text_written(outcome: TextWritten, answer: &mut usize) -> u8
+pub fn text_written(outcome: Result<TextOffset, Refusal<usize>>, answer: &mut usize) -> u8
     ensures value { result ≡ text_written_number outcome }
     ensures answer_after { answer.new ≡ text_written_value outcome }
 {
     match outcome {
-        TextWritten::Written(n) => {
+        Ok(n) => {
             *answer = n.0;
             0
         }
-        TextWritten::Refused(number, place) => {
+        Err(Refusal { number, place }) => {
             *answer = place;
             number
         }
@@ -25,16 +25,16 @@ pub fn text_written(outcome: TextWritten, answer: &mut usize) -> u8
 }
 
 // answer: the length written, or the place.
-pub fn binary_written(outcome: BinaryWritten, answer: &mut usize) -> u8
+pub fn binary_written(outcome: Result<BinaryOffset, Refusal<usize>>, answer: &mut usize) -> u8
     ensures value { result ≡ binary_written_number outcome }
     ensures answer_after { answer.new ≡ binary_written_value outcome }
 {
     match outcome {
-        BinaryWritten::Written(bytes) => {
+        Ok(bytes) => {
             *answer = bytes.0;
             0
         }
-        BinaryWritten::Refused(number, place) => {
+        Err(Refusal { number, place }) => {
             *answer = place;
             number
         }

@@ -7,21 +7,6 @@ use Rattle.base.specs.Each.{each}
 use Rattle.format.specs.declared.Code.{Code}
 use Rattle.format.specs.declared.Code.TheVariants as C
 use Rattle.format.specs.declared.Primitive.{Primitive}
-use Rattle.format.specs.declared.ToBinary.TheVariants as TB
-use Rattle.format.specs.declared.ToBinary.{ToBinary as BinaryAnswer}
-use Rattle.format.specs.declared.ToText.TheVariants as TT
-use Rattle.format.specs.declared.ToText.{ToText as TextAnswer}
-use Rattle.format.specs.declared.Reported.TheVariants as R
-use Rattle.format.specs.declared.Reported.{Reported}
-use Rattle.format.specs.declared.TextFound.TheVariants as TF
-use Rattle.format.specs.declared.TextFound.{TextFound}
-use Rattle.format.specs.declared.BinaryFound.TheVariants as BF
-use Rattle.format.specs.declared.BinaryFound.{BinaryFound}
-use Rattle.format.specs.declared.TextWritten.TheVariants as TW
-use Rattle.format.specs.declared.TextWritten.{TextWritten}
-use Rattle.format.specs.declared.BinaryWritten.TheVariants as BW
-use Rattle.format.specs.declared.BinaryWritten.{BinaryWritten}
-use Rattle.format.specs.declared.InText.TheVariants.{At, Past}
 use Rattle.format.specs.Alphabet.{sextet_of, char_of}
 use Rattle.format.specs.Units.{Domain, text, binary, bytes_of, sextets_of, triplet_of, quadlet_of, text_sextets, binary_sextets}
 use Rattle.format.specs.Offsets.{text_offset, binary_offset, offset_in_binary, offset_in_text}
@@ -34,6 +19,11 @@ use Rattle.format.specs.Texts.{fill_for, text_lead, text_count}
 use Rattle.format.specs.Values.{value_of}
 use Rattle.format.specs.Writing as W
 use Rattle.format.specs.Deck.{given}
+use Rattle.std.specs.Prelude.{Ok, Err, Some, None, Result}
+use Rattle.format.specs.declared.Refusal.{Refusal}
+use Rattle.format.specs.Refusals.{refused_by}
+use Rattle.format.specs.declared.TextOffset.{TextOffset}
+use Rattle.format.specs.declared.BinaryOffset.{BinaryOffset}
 
 infixr 5 ◌&◌
 -- ---- calls and what they answer
@@ -79,33 +69,33 @@ calls =
 
 -- ---- what it means
 
-abbrev in_binary : BinaryAnswer → List ℕ → Outcome
-in_binary (TB.Written n) left = written n.0 left
-in_binary (TB.Refused m p) left = refused m p.0 left
+abbrev in_binary : Result BinaryOffset (Refusal TextOffset) → List ℕ → Outcome
+in_binary (Ok n) left = written n.0 left
+in_binary (Err e) left = refused e.number e.place.0 left
 
-abbrev in_text : TextAnswer → List ℕ → Outcome
-in_text (TT.Written n) left = written n.0 left
-in_text (TT.Refused m p) left = refused m p.0 left
+abbrev in_text : Result TextOffset (Refusal BinaryOffset) → List ℕ → Outcome
+in_text (Ok n) left = written n.0 left
+in_text (Err e) left = refused e.number e.place.0 left
 
-abbrev reported : Reported → List ℕ → Outcome
-reported (R.Written n) left = written n left
-reported (R.Refused m p) left = refused m p left
+abbrev reported : Result ℕ (Refusal ℕ) → List ℕ → Outcome
+reported (Ok n) left = written n left
+reported (Err e) left = refused e.number e.place left
 
-abbrev found_text : TextFound → List ℕ → List ℕ → Outcome
-found_text (TF.Found p) tag left = read p tag left
-found_text (TF.Refused m p) tag left = refused m p.0 left
+abbrev found_text : Result Primitive (Refusal TextOffset) → List ℕ → List ℕ → Outcome
+found_text (Ok p) tag left = read p tag left
+found_text (Err e) tag left = refused e.number e.place.0 left
 
-abbrev found_binary : BinaryFound → List ℕ → List ℕ → List ℕ → Outcome
-found_binary (BF.Found p) tag left part = read_part p tag left part
-found_binary (BF.Refused m p) tag left part = refused m p.0 (left ++ part)
+abbrev found_binary : Result Primitive (Refusal BinaryOffset) → List ℕ → List ℕ → List ℕ → Outcome
+found_binary (Ok p) tag left part = read_part p tag left part
+found_binary (Err e) tag left part = refused e.number e.place.0 (left ++ part)
 
-abbrev wrote_text : TextWritten → List ℕ → Outcome
-wrote_text (TW.Written n) left = written n.0 left
-wrote_text (TW.Refused m p) left = refused m p left
+abbrev wrote_text : Result TextOffset (Refusal ℕ) → List ℕ → Outcome
+wrote_text (Ok n) left = written n.0 left
+wrote_text (Err e) left = refused e.number e.place left
 
-abbrev wrote_binary : BinaryWritten → List ℕ → Outcome
-wrote_binary (BW.Written n) left = written n.0 left
-wrote_binary (BW.Refused m p) left = refused m p left
+abbrev wrote_binary : Result BinaryOffset (Refusal ℕ) → List ℕ → Outcome
+wrote_binary (Ok n) left = written n.0 left
+wrote_binary (Err e) left = refused e.number e.place left
 
 -- what the definitions answer; to compute it is to open all of them
 unfoldable pub answered : Call → Outcome
@@ -144,13 +134,13 @@ calls-hold =
 -- nor is there room; one of just that length is not refused with it
 
 pub record LimitsHold : Type 0 where
-  pub text-long : (s : List ℕ) → length s ≡ 4194305 → text_to_binary s 0 ≡ TB.Refused 1 (text_offset 0)
-  pub binary-long : (s : List ℕ) → length s ≡ 3145729 → binary_to_text s 0 ≡ TT.Refused 1 (binary_offset 0)
-  pub binary-just : (s : List ℕ) (room : ℕ) → length s ≡ 3145728 → 4194304 ≤ room → binary_to_text s room ≡ TT.Written (text_offset 4194304)
-  pub report-long : (s : List ℕ) → length s ≡ 4194305 → report_answer text s 0 ≡ R.Refused 1 0
-  pub report-long-binary : (s : List ℕ) → length s ≡ 3145729 → report_answer binary s 0 ≡ R.Refused 1 0
-  pub read-long : (s : List ℕ) (at : ℕ) → length s ≡ 4194305 → (read_text s at 0).found ≡ TF.Refused 1 (text_offset 0)
-  pub read-long-binary : (s : List ℕ) (at : ℕ) → length s ≡ 3145729 → (read_binary s at 0).found ≡ BF.Refused 1 (binary_offset 0)
+  pub text-long : (s : List ℕ) → length s ≡ 4194305 → text_to_binary s 0 ≡ refused_by 1 (text_offset 0)
+  pub binary-long : (s : List ℕ) → length s ≡ 3145729 → binary_to_text s 0 ≡ refused_by 1 (binary_offset 0)
+  pub binary-just : (s : List ℕ) (room : ℕ) → length s ≡ 3145728 → 4194304 ≤ room → binary_to_text s room ≡ Ok (text_offset 4194304)
+  pub report-long : (s : List ℕ) → length s ≡ 4194305 → report_answer text s 0 ≡ refused_by 1 0
+  pub report-long-binary : (s : List ℕ) → length s ≡ 3145729 → report_answer binary s 0 ≡ refused_by 1 0
+  pub read-long : (s : List ℕ) (at : ℕ) → length s ≡ 4194305 → (read_text s at 0).found ≡ refused_by 1 (text_offset 0)
+  pub read-long-binary : (s : List ℕ) (at : ℕ) → length s ≡ 3145729 → (read_binary s at 0).found ≡ refused_by 1 (binary_offset 0)
 
 pub limits-hold : LimitsHold
 unfolding text_to_binary binary_to_text report_answer read_text read_binary
@@ -167,7 +157,7 @@ limits-hold = record {
 -- ---- offsets: "with the four-to-three conversion between them"; within a unit the unit's start
 
 pub offsets-hold : (offset_in_binary (text_offset 8) ≡ binary_offset 6) × (offset_in_binary (text_offset 11) ≡ binary_offset 6)
-    × (offset_in_text (binary_offset 6) ≡ At (text_offset 8)) × (offset_in_text (binary_offset 8) ≡ At (text_offset 8))
-    × (offset_in_text (binary_offset 3145728) ≡ At (text_offset 4194304)) × (offset_in_text (binary_offset 3145729) ≡ Past)
+    × (offset_in_text (binary_offset 6) ≡ Some (text_offset 8)) × (offset_in_text (binary_offset 8) ≡ Some (text_offset 8))
+    × (offset_in_text (binary_offset 3145728) ≡ Some (text_offset 4194304)) × (offset_in_text (binary_offset 3145729) ≡ None)
 unfolding offset_in_binary offset_in_text
 offsets-hold = (refl, refl, refl, refl, refl, refl)

@@ -11,14 +11,6 @@ use Rattle.format.specs.declared.Framed.{Framed}
 use Rattle.format.specs.declared.Framed.TheVariants.{Item, Unframed}
 use Rattle.format.specs.declared.IndexCode.{IndexCode}
 use Rattle.format.specs.declared.IndexedItem.{IndexedItem}
-use Rattle.format.specs.declared.TextIndexed.{TextIndexed}
-use Rattle.format.specs.declared.TextIndexed.TheVariants as T
-use Rattle.format.specs.declared.BinaryIndexed.{BinaryIndexed}
-use Rattle.format.specs.declared.BinaryIndexed.TheVariants as B
-use Rattle.format.specs.declared.TextWritten.{TextWritten}
-use Rattle.format.specs.declared.TextWritten.TheVariants as TW
-use Rattle.format.specs.declared.BinaryWritten.{BinaryWritten}
-use Rattle.format.specs.declared.BinaryWritten.TheVariants as BW
 use Rattle.format.specs.Alphabet.{char_of}
 use Rattle.format.specs.Units.{Domain, text, binary}
 use Rattle.format.specs.Offsets.{text_offset, binary_offset}
@@ -30,6 +22,11 @@ use Rattle.format.specs.Values.{bytes_in, raw_start, raw_of, index_of, ondex_of}
 use Rattle.format.specs.Reading.{Reading, refused, found, judged, from, place_from}
 use Rattle.format.specs.Writing.{Writing, written, text_outcome, binary_outcome}
 use Rattle.format.specs.Writing as W
+use Rattle.std.specs.Prelude.{Ok, Err, Result}
+use Rattle.format.specs.declared.Refusal.{Refusal}
+use Rattle.format.specs.Refusals.{refused_by}
+use Rattle.format.specs.declared.TextOffset.{TextOffset}
+use Rattle.format.specs.declared.BinaryOffset.{BinaryOffset}
 
 -- ---- codes
 
@@ -71,14 +68,14 @@ reading_indexed s = read_indexed_framed (frame_indexed s) s
 
 -- ---- text: raw is copied out; 3 where there is no room
 
-unfoldable pub text_indexed_answer : ℕ → Reading → List ℕ → ℕ → TextIndexed
-text_indexed_answer at (refused m p) s room = T.Refused m (text_offset (place_from 4 at p))
+unfoldable pub text_indexed_answer : ℕ → Reading → List ℕ → ℕ → Result IndexedItem (Refusal TextOffset)
+text_indexed_answer at (refused m p) s room = refused_by m (text_offset (place_from 4 at p))
 text_indexed_answer at (found k h n) s room =
-    pick (ltb room (3 * n - raw_start k h)) (T.Refused 3 (text_offset 0)) (T.Found (indexed_of k h n (take (4 * n) s)))
+    pick (ltb room (3 * n - raw_start k h)) (refused_by 3 (text_offset 0)) (Ok (indexed_of k h n (take (4 * n) s)))
 
-unfoldable pub read_indexed_text : List ℕ → ℕ → ℕ → TextIndexed
+unfoldable pub read_indexed_text : List ℕ → ℕ → ℕ → Result IndexedItem (Refusal TextOffset)
 read_indexed_text xs at room =
-    pick (ltb text.limit (length xs)) (T.Refused 1 (text_offset 0))
+    pick (ltb text.limit (length xs)) (refused_by 1 (text_offset 0))
     (text_indexed_answer at (reading_indexed (text.sextets (from at xs))) (text.sextets (from at xs)) room)
 
 unfoldable pub indexed_raw : Reading → List ℕ → List ℕ
@@ -86,25 +83,25 @@ indexed_raw (refused m p) s = []
 indexed_raw (found k h n) s = raw_of k h (take (4 * n) s)
 
 -- what a buffer that held d holds afterwards: the raw value from its start
-unfoldable pub indexed_left : TextIndexed → List ℕ → ℕ → List ℕ → List ℕ
-indexed_left (T.Found p) xs at d = indexed_raw (reading_indexed (text.sextets (from at xs))) (text.sextets (from at xs)) ++ drop p.raw d
-indexed_left (T.Refused m p) xs at d = d
+unfoldable pub indexed_left : Result IndexedItem (Refusal TextOffset) → List ℕ → ℕ → List ℕ → List ℕ
+indexed_left (Ok p) xs at d = indexed_raw (reading_indexed (text.sextets (from at xs))) (text.sextets (from at xs)) ++ drop p.raw d
+indexed_left (Err e) xs at d = d
 
 -- ---- binary: raw is handed back as a part
 
-unfoldable pub binary_indexed_answer : ℕ → Reading → List ℕ → BinaryIndexed
-binary_indexed_answer at (refused m p) s = B.Refused m (binary_offset (place_from 3 at p))
-binary_indexed_answer at (found k h n) s = B.Found (indexed_of k h n (take (4 * n) s))
+unfoldable pub binary_indexed_answer : ℕ → Reading → List ℕ → Result IndexedItem (Refusal BinaryOffset)
+binary_indexed_answer at (refused m p) s = refused_by m (binary_offset (place_from 3 at p))
+binary_indexed_answer at (found k h n) s = Ok (indexed_of k h n (take (4 * n) s))
 
-unfoldable pub read_indexed_binary : List ℕ → ℕ → BinaryIndexed
+unfoldable pub read_indexed_binary : List ℕ → ℕ → Result IndexedItem (Refusal BinaryOffset)
 read_indexed_binary xs at =
-    pick (ltb binary.limit (length xs)) (B.Refused 1 (binary_offset 0))
+    pick (ltb binary.limit (length xs)) (refused_by 1 (binary_offset 0))
     (binary_indexed_answer at (reading_indexed (binary.sextets (from at xs))) (binary.sextets (from at xs)))
 
 -- the part where the raw value lies, and an empty one where the read is refused
-unfoldable pub indexed_part : List ℕ → ℕ → BinaryIndexed → List ℕ
-indexed_part xs at (B.Found p) = take p.raw (drop (at + p.start.0) xs)
-indexed_part xs at (B.Refused m p) = []
+unfoldable pub indexed_part : List ℕ → ℕ → Result IndexedItem (Refusal BinaryOffset) → List ℕ
+indexed_part xs at (Ok p) = take p.raw (drop (at + p.start.0) xs)
+indexed_part xs at (Err e) = []
 
 -- ---- writing: what is to be written
 
@@ -167,17 +164,17 @@ writing_indexed u (row c) index ondex raw room =
 unfoldable pub written_indexed : IndexCode → ℕ → ℕ → List ℕ → List ℕ
 written_indexed code index ondex raw = indexed_bytes (named_index code) index ondex raw
 
-unfoldable pub write_indexed_text : IndexCode → ℕ → ℕ → List ℕ → ℕ → TextWritten
+unfoldable pub write_indexed_text : IndexCode → ℕ → ℕ → List ℕ → ℕ → Result TextOffset (Refusal ℕ)
 write_indexed_text code index ondex raw room = text_outcome (writing_indexed 4 (named_index code) index ondex (length raw) room)
 
-unfoldable pub write_indexed_binary : IndexCode → ℕ → ℕ → List ℕ → ℕ → BinaryWritten
+unfoldable pub write_indexed_binary : IndexCode → ℕ → ℕ → List ℕ → ℕ → Result BinaryOffset (Refusal ℕ)
 write_indexed_binary code index ondex raw room = binary_outcome (writing_indexed 3 (named_index code) index ondex (length raw) room)
 
 -- what a buffer that held d holds afterwards
-unfoldable pub text_indexed_left : TextWritten → IndexCode → ℕ → ℕ → List ℕ → List ℕ → List ℕ
-text_indexed_left (TW.Written n) code index ondex raw d = to_text (written_indexed code index ondex raw) ++ drop n.0 d
-text_indexed_left (TW.Refused m p) code index ondex raw d = d
+unfoldable pub text_indexed_left : Result TextOffset (Refusal ℕ) → IndexCode → ℕ → ℕ → List ℕ → List ℕ → List ℕ
+text_indexed_left (Ok n) code index ondex raw d = to_text (written_indexed code index ondex raw) ++ drop n.0 d
+text_indexed_left (Err e) code index ondex raw d = d
 
-unfoldable pub binary_indexed_left : BinaryWritten → IndexCode → ℕ → ℕ → List ℕ → List ℕ → List ℕ
-binary_indexed_left (BW.Written n) code index ondex raw d = written_indexed code index ondex raw ++ drop n.0 d
-binary_indexed_left (BW.Refused m p) code index ondex raw d = d
+unfoldable pub binary_indexed_left : Result BinaryOffset (Refusal ℕ) → IndexCode → ℕ → ℕ → List ℕ → List ℕ → List ℕ
+binary_indexed_left (Ok n) code index ondex raw d = written_indexed code index ondex raw ++ drop n.0 d
+binary_indexed_left (Err e) code index ondex raw d = d

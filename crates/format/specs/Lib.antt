@@ -1,5 +1,6 @@
 pub mod Alphabet
 pub mod Units
+pub mod Refusals
 pub mod Offsets
 pub mod Registry
 pub mod Conversion

@@ -6,8 +6,8 @@ use Rattle.format.specs.declared.Framed.{Framed}
 use Rattle.format.specs.declared.Framed.TheVariants.{Item, Unframed}
 use Rattle.format.specs.declared.Verdict.{Verdict}
 use Rattle.format.specs.declared.Verdict.TheVariants.{Accepted, Refused}
-use Rattle.format.specs.declared.InText.{InText}
-use Rattle.format.specs.declared.InText.TheVariants.{At, Past}
+use Rattle.std.specs.Prelude.{Some, None, Option}
+use Rattle.format.specs.declared.TextOffset.{TextOffset}
 
 -- framing: 0 and the full size, or 01's number and the place
 unfoldable pub framed_number : Framed → ℕ
@@ -24,10 +24,10 @@ verdict_place Accepted = 0
 verdict_place (Refused number place) = place
 
 -- an offset in text: 0 and the offset, or 1, since a text that has such an offset is longer than the longest stream
-unfoldable pub in_text_number : InText → ℕ
-in_text_number (At offset) = 0
-in_text_number Past = 1
+unfoldable pub in_text_number : Option TextOffset → ℕ
+in_text_number (Some offset) = 0
+in_text_number None = 1
 
-unfoldable pub in_text_value : InText → ℕ
-in_text_value (At offset) = offset.0
-in_text_value Past = 0
+unfoldable pub in_text_value : Option TextOffset → ℕ
+in_text_value (Some offset) = offset.0
+in_text_value None = 0

@@ -5,8 +5,7 @@ use Rattle.base.specs.Pick.{pick}
 use Rattle.format.specs.Units.{Domain, text, binary}
 use Rattle.format.specs.declared.TextOffset.{TextOffset}
 use Rattle.format.specs.declared.BinaryOffset.{BinaryOffset}
-use Rattle.format.specs.declared.InText.{InText}
-use Rattle.format.specs.declared.InText.TheVariants.{At, Past}
+use Rattle.std.specs.Prelude.{Some, None, Option}
 
 abbrev pub text_offset : ℕ → TextOffset
 text_offset n = record { 0 = n }
@@ -22,5 +21,5 @@ unfoldable pub offset_in_binary : TextOffset → BinaryOffset
 offset_in_binary t = binary_offset (rescaled 4 3 t.0)
 
 -- none for an offset past the longest binary stream, whose text would be longer than the longest text
-unfoldable pub offset_in_text : BinaryOffset → InText
-offset_in_text b = pick (leb b.0 binary.limit) (At (text_offset (rescaled 3 4 b.0))) Past
+unfoldable pub offset_in_text : BinaryOffset → Option TextOffset
+offset_in_text b = pick (leb b.0 binary.limit) (Some (text_offset (rescaled 3 4 b.0))) None

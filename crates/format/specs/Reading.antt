@@ -14,18 +14,18 @@ use Rattle.format.specs.declared.Verdict.TheVariants.{Accepted, Refused}
 use Rattle.format.specs.declared.Code.{Code}
 use Rattle.format.specs.declared.Code.TheVariants as C
 use Rattle.format.specs.declared.Primitive.{Primitive}
-use Rattle.format.specs.declared.TextFound.{TextFound}
-use Rattle.format.specs.declared.TextFound.TheVariants as T
-use Rattle.format.specs.declared.TextRead.{TextRead}
-use Rattle.format.specs.declared.BinaryFound.{BinaryFound}
-use Rattle.format.specs.declared.BinaryFound.TheVariants as B
-use Rattle.format.specs.declared.BinaryRead.{BinaryRead}
+use Rattle.format.specs.declared.PrimitiveRead.{PrimitiveRead}
 use Rattle.format.specs.Alphabet.{char_of}
 use Rattle.format.specs.Units.{Domain, text, binary}
 use Rattle.format.specs.Offsets.{text_offset, binary_offset}
 use Rattle.format.specs.Framing.{frame}
 use Rattle.format.specs.Judging.{judge_kind, own_check}
 use Rattle.format.specs.Values.{raw_start, text_in, value_of, tag_of}
+use Rattle.std.specs.Prelude.{Ok, Err, Result}
+use Rattle.format.specs.declared.Refusal.{Refusal}
+use Rattle.format.specs.Refusals.{refused_by}
+use Rattle.format.specs.declared.TextOffset.{TextOffset}
+use Rattle.format.specs.declared.BinaryOffset.{BinaryOffset}
 
 -- ---- what a framed item is, in a caller's words
 
@@ -102,41 +102,41 @@ text_at (found k h n) s = text_in k h (take (4 * n) s)
 
 -- ---- text: 3 where there is no room
 
-unfoldable pub text_answer : ℕ → Reading → List ℕ → ℕ → TextRead
-text_answer at (refused m p) s room = record { found = T.Refused m (text_offset (place_from 4 at p)); tag = no_tag }
+unfoldable pub text_answer : ℕ → Reading → List ℕ → ℕ → PrimitiveRead TextOffset
+text_answer at (refused m p) s room = record { found = refused_by m (text_offset (place_from 4 at p)); tag = no_tag }
 text_answer at (found k h n) s room =
-    pick (ltb room (length (value_at (found k h n) s))) (record { found = T.Refused 3 (text_offset 0); tag = no_tag })
-    (record { found = T.Found (primitive_of k h n (length (text_at (found k h n) s))); tag = padded (tag_of k (take (4 * n) s)) })
+    pick (ltb room (length (value_at (found k h n) s))) (record { found = refused_by 3 (text_offset 0); tag = no_tag })
+    (record { found = Ok (primitive_of k h n (length (text_at (found k h n) s))); tag = padded (tag_of k (take (4 * n) s)) })
 
-unfoldable pub read_text : List ℕ → ℕ → ℕ → TextRead
+unfoldable pub read_text : List ℕ → ℕ → ℕ → PrimitiveRead TextOffset
 read_text xs at room =
-    pick (ltb text.limit (length xs)) (record { found = T.Refused 1 (text_offset 0); tag = no_tag })
+    pick (ltb text.limit (length xs)) (record { found = refused_by 1 (text_offset 0); tag = no_tag })
     (text_answer at (reading (text.sextets (from at xs))) (text.sextets (from at xs)) room)
 
 -- what a buffer that held d holds afterwards: the raw value or the text from its start
-unfoldable pub value_left : TextFound → List ℕ → ℕ → List ℕ → List ℕ
-value_left (T.Found p) xs at d = value_at (reading (text.sextets (from at xs))) (text.sextets (from at xs)) ++ drop (p.raw + p.text) d
-value_left (T.Refused m p) xs at d = d
+unfoldable pub value_left : Result Primitive (Refusal TextOffset) → List ℕ → ℕ → List ℕ → List ℕ
+value_left (Ok p) xs at d = value_at (reading (text.sextets (from at xs))) (text.sextets (from at xs)) ++ drop (p.raw + p.text) d
+value_left (Err e) xs at d = d
 
 -- ---- binary: raw is handed back as a part; 3 where there is no room for a text
 
-unfoldable pub binary_answer : ℕ → Reading → List ℕ → ℕ → BinaryRead
-binary_answer at (refused m p) s room = record { found = B.Refused m (binary_offset (place_from 3 at p)); tag = no_tag }
+unfoldable pub binary_answer : ℕ → Reading → List ℕ → ℕ → PrimitiveRead BinaryOffset
+binary_answer at (refused m p) s room = record { found = refused_by m (binary_offset (place_from 3 at p)); tag = no_tag }
 binary_answer at (found k h n) s room =
-    pick (ltb room (length (text_at (found k h n) s))) (record { found = B.Refused 3 (binary_offset 0); tag = no_tag })
-    (record { found = B.Found (primitive_of k h n (length (text_at (found k h n) s))); tag = padded (tag_of k (take (4 * n) s)) })
+    pick (ltb room (length (text_at (found k h n) s))) (record { found = refused_by 3 (binary_offset 0); tag = no_tag })
+    (record { found = Ok (primitive_of k h n (length (text_at (found k h n) s))); tag = padded (tag_of k (take (4 * n) s)) })
 
-unfoldable pub read_binary : List ℕ → ℕ → ℕ → BinaryRead
+unfoldable pub read_binary : List ℕ → ℕ → ℕ → PrimitiveRead BinaryOffset
 read_binary xs at room =
-    pick (ltb binary.limit (length xs)) (record { found = B.Refused 1 (binary_offset 0); tag = no_tag })
+    pick (ltb binary.limit (length xs)) (record { found = refused_by 1 (binary_offset 0); tag = no_tag })
     (binary_answer at (reading (binary.sextets (from at xs))) (binary.sextets (from at xs)) room)
 
 -- what a buffer that held d holds afterwards: the text from its start
-unfoldable pub chars_left : BinaryFound → List ℕ → ℕ → List ℕ → List ℕ
-chars_left (B.Found p) xs at d = text_at (reading (binary.sextets (from at xs))) (binary.sextets (from at xs)) ++ drop p.text d
-chars_left (B.Refused m p) xs at d = d
+unfoldable pub chars_left : Result Primitive (Refusal BinaryOffset) → List ℕ → ℕ → List ℕ → List ℕ
+chars_left (Ok p) xs at d = text_at (reading (binary.sextets (from at xs))) (binary.sextets (from at xs)) ++ drop p.text d
+chars_left (Err e) xs at d = d
 
 -- the part where the raw value lies, and an empty one where the read is refused
-unfoldable pub part_at : List ℕ → ℕ → BinaryFound → List ℕ
-part_at xs at (B.Found p) = take p.raw (drop (at + p.start.0) xs)
-part_at xs at (B.Refused m p) = []
+unfoldable pub part_at : List ℕ → ℕ → Result Primitive (Refusal BinaryOffset) → List ℕ
+part_at xs at (Ok p) = take p.raw (drop (at + p.start.0) xs)
+part_at xs at (Err e) = []

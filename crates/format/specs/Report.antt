@@ -6,13 +6,14 @@ use Rattle.base.specs.Digits.{digits_of}
 use Rattle.format.specs.declared.Framed.{Framed}
 use Rattle.format.specs.declared.Verdict.{Verdict}
 use Rattle.format.specs.declared.Verdict.TheVariants.{Accepted, Refused}
-use Rattle.format.specs.declared.Reported.{Reported}
-use Rattle.format.specs.declared.Reported.TheVariants as R
 use Rattle.format.specs.Units.{Domain}
 use Rattle.format.specs.Framing.{frame_ruled, scale}
 use Rattle.format.specs.Cutting.{Cut, cut}
 use Rattle.format.specs.Cutting.Cut.{done, stopped, item}
 use Rattle.format.specs.Judging.{shift, judge, max_depth}
+use Rattle.std.specs.Prelude.{Ok, Err, Result}
+use Rattle.format.specs.declared.Refusal.{Refusal}
+use Rattle.format.specs.Refusals.{refused_by}
 
 -- ---- three lists
 
@@ -122,22 +123,22 @@ report d xs = section row_bytes (rows_in d xs) ++ (section refusal_bytes (refusa
 -- ---- the call: "Refused whole: 1, then 3 exactly if room is below 17 + 18 x items. The answer is the length written; bytes behind
 -- it stay."
 
-unfoldable pub report_answer : Domain → List ℕ → ℕ → Reported
+unfoldable pub report_answer : Domain → List ℕ → ℕ → Result ℕ (Refusal ℕ)
 report_answer d xs room =
-    pick (ltb d.limit (length xs)) (R.Refused 1 0)
-    (pick (ltb room (17 + 18 * length (rows_in d xs))) (R.Refused 3 0)
-    (R.Written (length (report d xs))))
+    pick (ltb d.limit (length xs)) (refused_by 1 0)
+    (pick (ltb room (17 + 18 * length (rows_in d xs))) (refused_by 3 0)
+    (Ok (length (report d xs))))
 
 -- the answer as numbers: 0 and the length written, or 01's number and the place
-unfoldable pub report_number : Reported → ℕ
-report_number (R.Written n) = 0
-report_number (R.Refused number place) = number
+unfoldable pub report_number : Result ℕ (Refusal ℕ) → ℕ
+report_number (Ok n) = 0
+report_number (Err e) = e.number
 
-unfoldable pub report_value : Reported → ℕ
-report_value (R.Written n) = n
-report_value (R.Refused number place) = place
+unfoldable pub report_value : Result ℕ (Refusal ℕ) → ℕ
+report_value (Ok n) = n
+report_value (Err e) = e.place
 
 -- what a buffer that held out holds afterwards
-unfoldable pub report_left : Reported → Domain → List ℕ → List ℕ → List ℕ
-report_left (R.Written n) d xs out = report d xs ++ drop n out
-report_left (R.Refused number place) d xs out = out
+unfoldable pub report_left : Result ℕ (Refusal ℕ) → Domain → List ℕ → List ℕ → List ℕ
+report_left (Ok n) d xs out = report d xs ++ drop n out
+report_left (Err e) d xs out = out

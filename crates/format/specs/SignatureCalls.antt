@@ -4,14 +4,6 @@
 use Rattle.std.specs.Prelude.{ℕ, ◌≡◌, refl, List, [], ◌∷◌, ◌++◌, length, replicate}
 use Rattle.format.specs.declared.IndexCode.{IndexCode}
 use Rattle.format.specs.declared.IndexedItem.{IndexedItem}
-use Rattle.format.specs.declared.TextIndexed.TheVariants as TI
-use Rattle.format.specs.declared.TextIndexed.{TextIndexed}
-use Rattle.format.specs.declared.BinaryIndexed.TheVariants as Bi
-use Rattle.format.specs.declared.BinaryIndexed.{BinaryIndexed}
-use Rattle.format.specs.declared.TextWritten.TheVariants as TW
-use Rattle.format.specs.declared.TextWritten.{TextWritten}
-use Rattle.format.specs.declared.BinaryWritten.TheVariants as BW
-use Rattle.format.specs.declared.BinaryWritten.{BinaryWritten}
 use Rattle.format.specs.Offsets.{text_offset, binary_offset}
 use Rattle.format.specs.Values.{index_of}
 use Rattle.format.specs.Indexed.{code_of_row, indexed_of, read_indexed_framed, reading_indexed, text_indexed_answer, read_indexed_text, indexed_raw}
@@ -20,6 +12,11 @@ use Rattle.format.specs.Indexed.{indexed_raw_size, fits_indexed, index_code, ind
 use Rattle.format.specs.Indexed.{written_indexed, write_indexed_text, write_indexed_binary, text_indexed_left, binary_indexed_left}
 use Rattle.format.specs.Calls.{answered}
 use Rattle.format.specs.Signatures.{filler}
+use Rattle.std.specs.Prelude.{Ok, Err, Result}
+use Rattle.format.specs.declared.Refusal.{Refusal}
+use Rattle.format.specs.Refusals.{refused_by}
+use Rattle.format.specs.declared.TextOffset.{TextOffset}
+use Rattle.format.specs.declared.BinaryOffset.{BinaryOffset}
 
 infixr 5 ◌&◌
 -- ---- calls and what they answer
@@ -89,21 +86,21 @@ signature_calls =
 
 -- ---- what it means
 
-abbrev found_text : TextIndexed → List ℕ → Outcome
-found_text (TI.Found p) left = read p left
-found_text (TI.Refused m p) left = refused m p.0 left
+abbrev found_text : Result IndexedItem (Refusal TextOffset) → List ℕ → Outcome
+found_text (Ok p) left = read p left
+found_text (Err e) left = refused e.number e.place.0 left
 
-abbrev found_binary : BinaryIndexed → List ℕ → Outcome
-found_binary (Bi.Found p) part = read_part p part
-found_binary (Bi.Refused m p) part = refused m p.0 part
+abbrev found_binary : Result IndexedItem (Refusal BinaryOffset) → List ℕ → Outcome
+found_binary (Ok p) part = read_part p part
+found_binary (Err e) part = refused e.number e.place.0 part
 
-abbrev wrote_text : TextWritten → List ℕ → Outcome
-wrote_text (TW.Written n) left = written n.0 left
-wrote_text (TW.Refused m p) left = refused m p left
+abbrev wrote_text : Result TextOffset (Refusal ℕ) → List ℕ → Outcome
+wrote_text (Ok n) left = written n.0 left
+wrote_text (Err e) left = refused e.number e.place left
 
-abbrev wrote_binary : BinaryWritten → List ℕ → Outcome
-wrote_binary (BW.Written n) left = written n.0 left
-wrote_binary (BW.Refused m p) left = refused m p left
+abbrev wrote_binary : Result BinaryOffset (Refusal ℕ) → List ℕ → Outcome
+wrote_binary (Ok n) left = written n.0 left
+wrote_binary (Err e) left = refused e.number e.place left
 
 -- what the definitions answer; to compute it is to open all of them
 unfoldable pub told : Call → Outcome
@@ -133,7 +130,7 @@ signature-calls-hold =
 
 -- ---- 1, which no table shows: a stream longer by one, at any offset and with no room
 
-pub signature-limits-hold : ((s : List ℕ) (at : ℕ) → length s ≡ 4194305 → read_indexed_text s at 0 ≡ TI.Refused 1 (text_offset 0))
-    × ((s : List ℕ) (at : ℕ) → length s ≡ 3145729 → read_indexed_binary s at ≡ Bi.Refused 1 (binary_offset 0))
+pub signature-limits-hold : ((s : List ℕ) (at : ℕ) → length s ≡ 4194305 → read_indexed_text s at 0 ≡ refused_by 1 (text_offset 0))
+    × ((s : List ℕ) (at : ℕ) → length s ≡ 3145729 → read_indexed_binary s at ≡ refused_by 1 (binary_offset 0))
 unfolding read_indexed_text read_indexed_binary
 signature-limits-hold = (λ s at e. rw e, λ s at e. rw e)

@@ -14,10 +14,6 @@ use Rattle.format.specs.declared.Opening.{Opening}
 use Rattle.format.specs.declared.Opening.TheVariants.{Unknown, Short, Long, LargeVariable, LargeGroup, Version}
 use Rattle.format.specs.declared.Code.{Code}
 use Rattle.format.specs.declared.Code.TheVariants as C
-use Rattle.format.specs.declared.TextWritten.{TextWritten}
-use Rattle.format.specs.declared.TextWritten.TheVariants as T
-use Rattle.format.specs.declared.BinaryWritten.{BinaryWritten}
-use Rattle.format.specs.declared.BinaryWritten.TheVariants as B
 use Rattle.format.specs.Alphabet.{sextet_of}
 use Rattle.format.specs.Units.{bytes_of}
 use Rattle.format.specs.Offsets.{text_offset, binary_offset}
@@ -26,6 +22,11 @@ use Rattle.format.specs.Texts.{fills, fill_for, text_lead, text_count}
 use Rattle.format.specs.Judging.{is_shortest}
 use Rattle.format.specs.Values.{bytes_in, raw_start}
 use Rattle.format.specs.Conversion.{to_text, first_stranger, first_number}
+use Rattle.std.specs.Prelude.{Ok, Err, Result}
+use Rattle.format.specs.declared.Refusal.{Refusal}
+use Rattle.format.specs.Refusals.{refused_by}
+use Rattle.format.specs.declared.TextOffset.{TextOffset}
+use Rattle.format.specs.declared.BinaryOffset.{BinaryOffset}
 
 -- ---- what is to be written
 
@@ -196,25 +197,25 @@ writing u n tag tags raw room =
 unfoldable pub written_bytes : Code → List ℕ → ℕ → List ℕ → List ℕ
 written_bytes code tag tags raw = item_bytes (named code) (take tags tag) raw
 
-unfoldable pub text_outcome : Writing → TextWritten
-text_outcome (refused m p) = T.Refused m p
-text_outcome (written n) = T.Written (text_offset (n * 4))
+unfoldable pub text_outcome : Writing → Result TextOffset (Refusal ℕ)
+text_outcome (refused m p) = refused_by m p
+text_outcome (written n) = Ok (text_offset (n * 4))
 
-unfoldable pub binary_outcome : Writing → BinaryWritten
-binary_outcome (refused m p) = B.Refused m p
-binary_outcome (written n) = B.Written (binary_offset (n * 3))
+unfoldable pub binary_outcome : Writing → Result BinaryOffset (Refusal ℕ)
+binary_outcome (refused m p) = refused_by m p
+binary_outcome (written n) = Ok (binary_offset (n * 3))
 
-unfoldable pub write_text : Code → List ℕ → ℕ → List ℕ → ℕ → TextWritten
+unfoldable pub write_text : Code → List ℕ → ℕ → List ℕ → ℕ → Result TextOffset (Refusal ℕ)
 write_text code tag tags raw room = text_outcome (writing 4 (named code) tag tags raw room)
 
-unfoldable pub write_binary : Code → List ℕ → ℕ → List ℕ → ℕ → BinaryWritten
+unfoldable pub write_binary : Code → List ℕ → ℕ → List ℕ → ℕ → Result BinaryOffset (Refusal ℕ)
 write_binary code tag tags raw room = binary_outcome (writing 3 (named code) tag tags raw room)
 
 -- what a buffer that held d holds afterwards
-unfoldable pub text_item_left : TextWritten → Code → List ℕ → ℕ → List ℕ → List ℕ → List ℕ
-text_item_left (T.Written n) code tag tags raw d = to_text (written_bytes code tag tags raw) ++ drop n.0 d
-text_item_left (T.Refused m p) code tag tags raw d = d
+unfoldable pub text_item_left : Result TextOffset (Refusal ℕ) → Code → List ℕ → ℕ → List ℕ → List ℕ → List ℕ
+text_item_left (Ok n) code tag tags raw d = to_text (written_bytes code tag tags raw) ++ drop n.0 d
+text_item_left (Err e) code tag tags raw d = d
 
-unfoldable pub binary_item_left : BinaryWritten → Code → List ℕ → ℕ → List ℕ → List ℕ → List ℕ
-binary_item_left (B.Written n) code tag tags raw d = written_bytes code tag tags raw ++ drop n.0 d
-binary_item_left (B.Refused m p) code tag tags raw d = d
+unfoldable pub binary_item_left : Result BinaryOffset (Refusal ℕ) → Code → List ℕ → ℕ → List ℕ → List ℕ → List ℕ
+binary_item_left (Ok n) code tag tags raw d = written_bytes code tag tags raw ++ drop n.0 d
+binary_item_left (Err e) code tag tags raw d = d

@@ -16,6 +16,13 @@ pub struct TextOffset(pub usize);
 #[derive(Clone, Copy)]
 pub struct BinaryOffset(pub usize);
 
+// Why a call refuses: the number of the reason, and where; a place is told in the call's own words.
+#[derive(Clone, Copy)]
+pub struct Refusal<P> {
+    pub number: u8,
+    pub place: P,
+}
+
 // A row of the code registry: a code of so many characters, the last of which is a letter's sextet (A is 0, a is 26).
 #[derive(Clone, Copy)]
 pub struct CodeRow {
@@ -72,27 +79,6 @@ pub enum Opening {
     Version,
 }
 
-// What conversion to binary answers: the length written, or a number and a place.
-#[derive(Clone, Copy)]
-pub enum ToBinary {
-    Written(BinaryOffset),
-    Refused(u8, TextOffset),
-}
-
-// What conversion to text answers: the length written, or a number and a place.
-#[derive(Clone, Copy)]
-pub enum ToText {
-    Written(TextOffset),
-    Refused(u8, BinaryOffset),
-}
-
-// What conversion of a binary offset to text answers: none where the text would pass the longest stream.
-#[derive(Clone, Copy)]
-pub enum InText {
-    At(TextOffset),
-    Past,
-}
-
 // What framing finds: an item with its header and full size in units, or a number and a place in sextets from its start.
 #[derive(Clone, Copy)]
 pub enum Framed {
@@ -136,31 +122,10 @@ pub struct Primitive {
     pub tags: usize,
 }
 
-// What reading a primitive of a text answers.
+// What reading a primitive answers, with its tag characters, unused places 0.
 #[derive(Clone, Copy)]
-pub enum TextFound {
-    Found(Primitive),
-    Refused(u8, TextOffset),
-}
-
-// The same with the tag characters, unused places 0.
-#[derive(Clone, Copy)]
-pub struct TextRead {
-    pub found: TextFound,
-    pub tag: [u8; 11],
-}
-
-// What reading a primitive of a binary answers.
-#[derive(Clone, Copy)]
-pub enum BinaryFound {
-    Found(Primitive),
-    Refused(u8, BinaryOffset),
-}
-
-// The same with the tag characters, unused places 0.
-#[derive(Clone, Copy)]
-pub struct BinaryRead {
-    pub found: BinaryFound,
+pub struct PrimitiveRead<P> {
+    pub found: Result<Primitive, Refusal<P>>,
     pub tag: [u8; 11],
 }
 
@@ -181,38 +146,4 @@ pub struct IndexedItem {
     pub raw: usize,
     pub index: usize,
     pub ondex: usize,
-}
-
-// What reading an indexed item of a text answers.
-#[derive(Clone, Copy)]
-pub enum TextIndexed {
-    Found(IndexedItem),
-    Refused(u8, TextOffset),
-}
-
-// What reading an indexed item of a binary answers.
-#[derive(Clone, Copy)]
-pub enum BinaryIndexed {
-    Found(IndexedItem),
-    Refused(u8, BinaryOffset),
-}
-
-// What writing a primitive or an indexed item answers: the length written, or a number and, for 5 and 19, the index of the tag character or of the text's.
-#[derive(Clone, Copy)]
-pub enum TextWritten {
-    Written(TextOffset),
-    Refused(u8, usize),
-}
-
-#[derive(Clone, Copy)]
-pub enum BinaryWritten {
-    Written(BinaryOffset),
-    Refused(u8, usize),
-}
-
-// What a report answers: its length, or a number, whose place is 0.
-#[derive(Clone, Copy)]
-pub enum Reported {
-    Written(usize),
-    Refused(u8, usize),
 }

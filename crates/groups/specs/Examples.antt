@@ -11,9 +11,10 @@ use Rattle.format.specs.Registry.{is_group}
 use Rattle.format.specs.Conversion.{to_binary}
 use Rattle.walk_deck.specs.Deck.{stepped}
 use Rattle.instalments.specs.Instalments.{unspent, walk_on}
-use Rattle.groups.specs.declared.Grouped.{Grouped}
-use Rattle.groups.specs.declared.Grouped.TheVariants as G
 use Rattle.groups.specs.Grouping.{head_units, head_sextets, spelled, group_of, group_size, within, body_walk, room_for, grouped, group_left}
+use Rattle.std.specs.Prelude.{Ok, Result}
+use Rattle.format.specs.declared.Refusal.{Refusal}
+use Rattle.format.specs.Refusals.{refused_by}
 
 infixr 5 ◌&◌
 -- ---- a call and what is expected of it
@@ -108,17 +109,17 @@ calls =
 -- ---- what it means
 
 pub record Called : Type 0 where
-  pub answer : Grouped
+  pub answer : Result ℕ (Refusal ℕ)
   pub left : List ℕ
 
 abbrev expected : Expected → List ℕ → Called
-expected (written n left) buf = record { answer = G.Written n; left = left }
-expected (refused m p) buf = record { answer = G.Refused m p; left = buf }
+expected (written n left) buf = record { answer = Ok n; left = left }
+expected (refused m p) buf = record { answer = refused_by m p; left = buf }
 
 -- what the definition gives; to compute it is to open all of it
 unfoldable pub called : Form → ℕ → ℕ → List ℕ → Called
 unfolding stepped unspent walk_on head_units head_sextets spelled group_of group_size within body_walk room_for grouped group_left
-called f letter len buf = let a : Grouped = grouped f letter len buf in record { answer = a; left = group_left a f letter len buf }
+called f letter len buf = let a : Result ℕ (Refusal ℕ) = grouped f letter len buf in record { answer = a; left = group_left a f letter len buf }
 
 -- each call is so
 pub data Calls : List Asked → Type 0 where
@@ -137,8 +138,8 @@ calls-hold =
 
 -- "1 when header and body together pass the limit", then 6: whatever the buffer holds, `d` and the longest body, and one element more
 pub limits-hold : (buf : List ℕ) → 4194304 ≤ length buf
-    → (grouped Text 100 4194296 buf ≡ G.Refused 6 0) × (grouped Text 100 4194297 buf ≡ G.Refused 1 0)
-    × (grouped Binary 100 3145722 buf ≡ G.Refused 6 0) × (grouped Binary 100 3145723 buf ≡ G.Refused 1 0)
+    → (grouped Text 100 4194296 buf ≡ refused_by 6 0) × (grouped Text 100 4194297 buf ≡ refused_by 1 0)
+    × (grouped Binary 100 3145722 buf ≡ refused_by 6 0) × (grouped Binary 100 3145723 buf ≡ refused_by 1 0)
 unfolding head_units group_size grouped is_group sextet_of
 limits-hold buf h = (
   rw (le-ltb (length buf) 4194296 (omega arith)),

@@ -17,12 +17,11 @@ use Rattle.walk_state.specs.Walking.{start, next_of}
 use Rattle.instalments.specs.declared.Pause.{Pause}
 use Rattle.instalments.specs.declared.Pause.TheVariants as P
 use Rattle.instalments.specs.Instalments.{walk_on}
-use Rattle.groups.specs.declared.Grouped.{Grouped}
-use Rattle.groups.specs.declared.Grouped.TheVariants as G
-use Rattle.groups.specs.declared.TextGrouped.{TextGrouped}
-use Rattle.groups.specs.declared.TextGrouped.TheVariants as T
-use Rattle.groups.specs.declared.BinaryGrouped.{BinaryGrouped}
-use Rattle.groups.specs.declared.BinaryGrouped.TheVariants as B
+use Rattle.std.specs.Prelude.{Ok, Err, Result}
+use Rattle.format.specs.declared.Refusal.{Refusal}
+use Rattle.format.specs.Refusals.{refused_by}
+use Rattle.format.specs.declared.TextOffset.{TextOffset}
+use Rattle.format.specs.declared.BinaryOffset.{BinaryOffset}
 
 -- ---- a group: its header and its body. The letter is a sextet, and 62 is `-`
 
@@ -62,34 +61,34 @@ body_walk d l body = (walk_on d body (length body / d.unit + 1) (within l (lengt
 -- own 1, 6, 2 and 3 are 0"
 
 -- behind the walk: room for so many elements
-unfoldable pub room_for : Pause → ℕ → ℕ → Grouped
-room_for P.End size room = pick (ltb room size) (G.Refused 3 0) (G.Written size)
-room_for (P.Refused m p) size room = G.Refused m p
-room_for P.Spent size room = G.Refused 13 0  -- never
+unfoldable pub room_for : Pause → ℕ → ℕ → Result ℕ (Refusal ℕ)
+room_for P.End size room = pick (ltb room size) (refused_by 3 0) (Ok size)
+room_for (P.Refused m p) size room = refused_by m p
+room_for P.Spent size room = refused_by 13 0  -- never
 
 -- letter: a character; len: the body's stated length
-unfoldable pub grouped : Form → ℕ → ℕ → List ℕ → Grouped
+unfoldable pub grouped : Form → ℕ → ℕ → List ℕ → Result ℕ (Refusal ℕ)
 grouped f letter len buf =
     let d : Domain = domain f in
-    pick (ltb (length buf) len) (G.Refused 3 0)
-    (pick (ltb d.limit (group_size d len)) (G.Refused 1 0)
+    pick (ltb (length buf) len) (refused_by 3 0)
+    (pick (ltb d.limit (group_size d len)) (refused_by 1 0)
     (pick (is_group (sextet_of letter))
     (pick (eqb (len % d.unit) 0)
     (room_for (body_walk d (sextet_of letter) (take len buf)) (group_size d len) (length buf))
-    (G.Refused 2 0))
-    (G.Refused 6 0)))
+    (refused_by 2 0))
+    (refused_by 6 0)))
 
 -- what a buffer that held buf holds afterwards
-unfoldable pub group_left : Grouped → Form → ℕ → ℕ → List ℕ → List ℕ
-group_left (G.Written n) f letter len buf = group_of f (sextet_of letter) (take len buf) ++ drop n buf
-group_left (G.Refused m p) f letter len buf = buf
+unfoldable pub group_left : Result ℕ (Refusal ℕ) → Form → ℕ → ℕ → List ℕ → List ℕ
+group_left (Ok n) f letter len buf = group_of f (sextet_of letter) (take len buf) ++ drop n buf
+group_left (Err e) f letter len buf = buf
 
 -- ---- in a form's own offsets
 
-unfoldable pub text_grouped : Grouped → TextGrouped
-text_grouped (G.Written n) = T.Written (text_offset n)
-text_grouped (G.Refused m p) = T.Refused m (text_offset p)
+unfoldable pub text_grouped : Result ℕ (Refusal ℕ) → Result TextOffset (Refusal TextOffset)
+text_grouped (Ok n) = Ok (text_offset n)
+text_grouped (Err e) = refused_by e.number (text_offset e.place)
 
-unfoldable pub binary_grouped : Grouped → BinaryGrouped
-binary_grouped (G.Written n) = B.Written (binary_offset n)
-binary_grouped (G.Refused m p) = B.Refused m (binary_offset p)
+unfoldable pub binary_grouped : Result ℕ (Refusal ℕ) → Result BinaryOffset (Refusal BinaryOffset)
+binary_grouped (Ok n) = Ok (binary_offset n)
+binary_grouped (Err e) = refused_by e.number (binary_offset e.place)

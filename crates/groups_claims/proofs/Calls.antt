@@ -14,11 +14,12 @@ use Rattle.format.specs.Registry.{is_group}
 use Rattle.roundtrip_laws.specs.Bytes.{bytes-length}
 use Rattle.instalments.specs.declared.Pause.{Pause}
 use Rattle.instalments.specs.declared.Pause.TheVariants as P
-use Rattle.groups.specs.declared.Grouped.{Grouped}
-use Rattle.groups.specs.declared.Grouped.TheVariants as G
 use Rattle.groups.specs.Grouping.{head_units, head_sextets, spelled, group_of, group_size, body_walk, room_for, grouped, group_left}
 use Rattle.groups_claims.proofs.Heads.{head-length}
 use Rattle.groups_claims.specs.Claims.{Asked, CallClaims}
+use Rattle.std.specs.Prelude.{Ok, Result}
+use Rattle.format.specs.declared.Refusal.{Refusal}
+use Rattle.format.specs.Refusals.{refused_by}
 
 -- ---- sizes
 
@@ -37,13 +38,13 @@ group-length f l body =
 
 -- ---- the order
 
-never {ℓ} : {A : Type ℓ} {m p n : ℕ} → G.Refused m p ≡ G.Written n → A
+never {ℓ} : {A : Type ℓ} {m p n : ℕ} → refused_by m p ≡ Ok n → A
 never e = let z : ◌≡◌ {A = ℕ} 0 1 = cc in absurd (omega arith)
 
-room-written : (c : Pause) (size room n : ℕ) → room_for c size room ≡ G.Written n → (c ≡ P.End) × (n ≡ size) × (n ≤ room)
+room-written : (c : Pause) (size room n : ℕ) → room_for c size room ≡ Ok n → (c ≡ P.End) × (n ≡ size) × (n ≤ room)
 unfolding room_for
 room-written P.End size room n e =
-    pick-by (λ r. r ≡ G.Written n → (P.End ≡ P.End) × (n ≡ size) × (n ≤ room)) (ltb room size) _ _ (λ _ q. never q)
+    pick-by (λ r. r ≡ Ok n → (P.End ≡ P.End) × (n ≡ size) × (n ≤ room)) (ltb room size) _ _ (λ _ q. never q)
     (λ g q. let z : size ≡ n = cc in (refl, sym z, omega (arith, ltb-false room size g))) e
 room-written (P.Refused m p) size room n e = never e
 room-written P.Spent size room n e = never e
@@ -62,12 +63,12 @@ module _ (f : Form) (letter len : ℕ) (buf : List ℕ) where
         eq-eqb (len % (domain f).unit) 0 a.whole,
       )
 
-  only-writes : (n : ℕ) → grouped f letter len buf ≡ G.Written n
+  only-writes : (n : ℕ) → grouped f letter len buf ≡ Ok n
       → Asked f letter len buf × (walk ≡ P.End) × (n ≡ group_size (domain f) len) × (n ≤ length buf)
   unfolding grouped
   only-writes n =
-      let Q : Grouped → Type 0 =
-      λ r. r ≡ G.Written n → Asked f letter len buf × (walk ≡ P.End) × (n ≡ group_size (domain f) len) × (n ≤ length buf) in
+      let Q : Result ℕ (Refusal ℕ) → Type 0 =
+      λ r. r ≡ Ok n → Asked f letter len buf × (walk ≡ P.End) × (n ≡ group_size (domain f) len) × (n ≤ length buf) in
       pick-by Q (ltb (length buf) len) _ _ (λ _ e. never e) (λ a.
       pick-by Q (ltb (domain f).limit (group_size (domain f) len)) _ _ (λ _ e. never e) (λ b.
       pick-by Q (is_group (sextet_of letter)) _ _
@@ -87,30 +88,30 @@ module _ (f : Form) (letter len : ℕ) (buf : List ℕ) where
       (λ _ e. never e))
       (λ _ e. never e)))
 
-  walked : Asked f letter len buf → (m p : ℕ) → walk ≡ P.Refused m p → grouped f letter len buf ≡ G.Refused m p
+  walked : Asked f letter len buf → (m p : ℕ) → walk ≡ P.Refused m p → grouped f letter len buf ≡ refused_by m p
   unfolding room_for
   walked a m p e = asked-then a ∙ rw e
 
-  three-last : Asked f letter len buf → walk ≡ P.End → length buf < group_size (domain f) len → grouped f letter len buf ≡ G.Refused 3 0
+  three-last : Asked f letter len buf → walk ≡ P.End → length buf < group_size (domain f) len → grouped f letter len buf ≡ refused_by 3 0
   unfolding room_for
   three-last a e l = asked-then a ∙ rw (e, lt-ltb (length buf) (group_size (domain f) len) l)
 
   writes : Asked f letter len buf → walk ≡ P.End → group_size (domain f) len ≤ length buf
-      → grouped f letter len buf ≡ G.Written (group_size (domain f) len)
+      → grouped f letter len buf ≡ Ok (group_size (domain f) len)
   unfolding room_for
   writes a e l = asked-then a ∙ rw (e, le-ltb (length buf) (group_size (domain f) len) l)
 
-  size : (n : ℕ) → grouped f letter len buf ≡ G.Written n → n ≡ length (group_of f (sextet_of letter) (take len buf))
+  size : (n : ℕ) → grouped f letter len buf ≡ Ok n → n ≡ length (group_of f (sextet_of letter) (take len buf))
   size n e =
       let w = only-writes n e in
       w.2 ∙ sym (group-length f (sextet_of letter) (take len buf) ∙ rw (length-take-le len buf w.0.there))
 
-  pub front : (n : ℕ) → grouped f letter len buf ≡ G.Written n
-      → take n (group_left (G.Written n) f letter len buf) ≡ group_of f (sextet_of letter) (take len buf)
+  pub front : (n : ℕ) → grouped f letter len buf ≡ Ok n
+      → take n (group_left (Ok n) f letter len buf) ≡ group_of f (sextet_of letter) (take len buf)
   unfolding group_left
   front n e = take_at (group_of f (sextet_of letter) (take len buf)) (drop n buf) n (sym (size n e))
 
-  behind : (n : ℕ) → grouped f letter len buf ≡ G.Written n → drop n (group_left (G.Written n) f letter len buf) ≡ drop n buf
+  behind : (n : ℕ) → grouped f letter len buf ≡ Ok n → drop n (group_left (Ok n) f letter len buf) ≡ drop n buf
   unfolding group_left
   behind n e = drop_at (group_of f (sextet_of letter) (take len buf)) (drop n buf) n (sym (size n e))
 

@@ -29,8 +29,6 @@ use Rattle.walk_state.specs.Walking.{start}
 use Rattle.instalments.specs.declared.Pause.{Pause}
 use Rattle.instalments.specs.declared.Pause.TheVariants as P
 use Rattle.instalments.specs.Instalments.{walk_on}
-use Rattle.groups.specs.declared.Grouped.{Grouped}
-use Rattle.groups.specs.declared.Grouped.TheVariants as G
 use Rattle.groups.specs.Grouping.{head_units, group_of, group_size, within, body_walk, room_for, grouped, group_left}
 use Rattle.groups.specs.Numbers.{grouped_number}
 use Rattle.groups_claims.specs.Words.{yielded, found_on, Inner}
@@ -40,6 +38,9 @@ use Rattle.groups_claims.proofs.Reading.{limit_is, streams, in_group, own-depth}
 use Rattle.groups_claims.proofs.Reading as R
 use Rattle.groups_claims.proofs.Judged.{comes-to-end}
 use Rattle.groups_claims.proofs.Judged as J
+use Rattle.std.specs.Prelude.{Ok, Err, Result}
+use Rattle.format.specs.declared.Refusal.{Refusal}
+use Rattle.format.specs.Refusals.{refused_by, refusal_number, refusal_place}
 
 letter-low : (l : ℕ) → is_group l ≡ true → l < 64
 unfolding is_group
@@ -122,7 +123,7 @@ bodies f l body = record {
 
 -- ---- what a call wrote
 
-module _ (f : Form) (letter len : ℕ) (buf : List ℕ) (n : ℕ) (e : grouped f letter len buf ≡ G.Written n) where
+module _ (f : Form) (letter len : ℕ) (buf : List ℕ) (n : ℕ) (e : grouped f letter len buf ≡ Ok n) where
   abbrev l : ℕ
   l = sextet_of letter
 
@@ -141,7 +142,7 @@ module _ (f : Form) (letter len : ℕ) (buf : List ℕ) (n : ℕ) (e : grouped f
   ended = ((calls f letter len buf).only-writes n e).1
 
   made-is : made f letter len buf n ≡ group_of f l own
-  made-is = ap (λ (r : Grouped). take n (group_left r f letter len buf)) e ∙ front f letter len buf n e
+  made-is = ap (λ (r : Result ℕ (Refusal ℕ)). take n (group_left r f letter len buf)) e ∙ front f letter len buf n e
 
   size_is : n ≡ length (group_of f l own)
   size_is = (calls f letter len buf).size n e
@@ -188,11 +189,11 @@ module _ (f : Form) (letter len : ℕ) (buf : List ℕ) where
   abbrev own-numbers : List ℕ
   own-numbers = 3 ∷ 1 ∷ 6 ∷ 2 ∷ 4 ∷ 5 ∷ 19 ∷ 6 ∷ 7 ∷ 11 ∷ 18 ∷ 9 ∷ 8 ∷ 16 ∷ 15 ∷ 10 ∷ []
 
-  abbrev Listed : Grouped → Type 0
-  Listed r = (m p : ℕ) → r ≡ G.Refused m p → Among own-numbers m
+  abbrev Listed : Result ℕ (Refusal ℕ) → Type 0
+  Listed r = (m p : ℕ) → r ≡ refused_by m p → Among own-numbers m
 
-  fixed : (k : ℕ) → Among own-numbers k → Listed (G.Refused k 0)
-  fixed k a m p e = let z : k ≡ m = cc in subst (Among own-numbers) z a
+  fixed : (k : ℕ) → Among own-numbers k → Listed (refused_by k 0)
+  fixed k a m p e = let z : k ≡ m = ap refusal_number e in subst (Among own-numbers) z a
 
   -- behind the walk: its number, or 3
   by-walk : (c : Pause) → (c ≡ P.Spent → ⊥) → ((m p : ℕ) → c ≡ P.Refused m p → Among own-numbers m) → (size room : ℕ)
@@ -201,7 +202,7 @@ module _ (f : Form) (letter len : ℕ) (buf : List ℕ) where
   by-walk P.End s w size room =
       pick-by Listed (ltb room size) _ _ (λ _. fixed 3 (inl refl))
       (λ _ m p e. let z : ◌≡◌ {A = ℕ} 0 1 = cc in absurd (omega arith))
-  by-walk (P.Refused a b) s w size room = λ m p e. let z : P.Refused a b ≡ P.Refused m p = cc in w m p z
+  by-walk (P.Refused a b) s w size room = λ m p e. let n : a ≡ m = ap refusal_number e in let q : b ≡ p = ap refusal_place e in w m p (rw (n, q))
   by-walk P.Spent s w size room = absurd (s refl)
 
   listed : Listed (grouped f letter len buf)
@@ -223,10 +224,10 @@ module _ (f : Form) (letter len : ℕ) (buf : List ℕ) where
       (λ _. fixed 2 (inr (inr (inr (inl refl))))))
       (λ _. fixed 6 (inr (inr (inl refl))))))
 
-  zero-written : (r : Grouped) → Listed r → grouped_number r ≡ 0 → (n : ℕ) × (r ≡ G.Written n)
+  zero-written : (r : Result ℕ (Refusal ℕ)) → Listed r → grouped_number r ≡ 0 → (n : ℕ) × (r ≡ Ok n)
   unfolding grouped_number all-positive
-  zero-written (G.Written n) a e = (n, refl)
-  zero-written (G.Refused k p) a e = absurd (omega (arith, among-positive own-numbers k refl (a k p refl)))
+  zero-written (Ok n) a e = (n, refl)
+  zero-written (Err r) a e = absurd (omega (arith, among-positive own-numbers r.number refl (a r.number r.place refl)))
 
 pub proved : GroupClaims
 proved = record {

@@ -12,10 +12,11 @@ use Rattle.claims_rules.specs.Order.{Among}
 use Rattle.walk_state.specs.declared.Found.TheVariants as F
 use Rattle.walk_state.specs.Walking.{start}
 use Rattle.instalments.specs.declared.Pause.TheVariants as P
-use Rattle.groups.specs.declared.Grouped.TheVariants as G
 use Rattle.groups.specs.Grouping.{head_units, group_of, group_size, within, body_walk, grouped, group_left}
 use Rattle.groups.specs.Numbers.{grouped_number}
 use Rattle.groups_claims.specs.Words.{yielded, found_on, Inner}
+use Rattle.std.specs.Prelude.{Ok}
+use Rattle.format.specs.Refusals.{refused_by}
 
 -- ---- of the call: which number it gives, by 02's order, and when it writes
 
@@ -28,34 +29,34 @@ pub record Asked (f : Form) (letter len : ℕ) (buf : List ℕ) : Type 0 where
 
 pub record CallClaims (f : Form) (letter len : ℕ) (buf : List ℕ) : Type 0 where
   -- "3 first if its stated length passes the buffer's"
-  pub three-first : length buf < len → grouped f letter len buf ≡ G.Refused 3 0
+  pub three-first : length buf < len → grouped f letter len buf ≡ refused_by 3 0
   -- "1 when header and body together pass the limit"
-  pub one : len ≤ length buf → (domain f).limit < group_size (domain f) len → grouped f letter len buf ≡ G.Refused 1 0
+  pub one : len ≤ length buf → (domain f).limit < group_size (domain f) len → grouped f letter len buf ≡ refused_by 1 0
   -- "6"
   pub six : len ≤ length buf → group_size (domain f) len ≤ (domain f).limit → is_group (sextet_of letter) ≡ false
-      → grouped f letter len buf ≡ G.Refused 6 0
+      → grouped f letter len buf ≡ refused_by 6 0
   -- "2 for a body that isn't whole units"
   pub two : len ≤ length buf → group_size (domain f) len ≤ (domain f).limit → is_group (sextet_of letter) ≡ true
-      → (len % (domain f).unit ≡ 0 → ⊥) → grouped f letter len buf ≡ G.Refused 2 0
+      → (len % (domain f).unit ≡ 0 → ⊥) → grouped f letter len buf ≡ refused_by 2 0
   -- "then the number and place that a walk of the body as this group's contents gives"
   pub walked : Asked f letter len buf → (m p : ℕ) → body_walk (domain f) (sextet_of letter) (take len buf) ≡ P.Refused m p
-      → grouped f letter len buf ≡ G.Refused m p
+      → grouped f letter len buf ≡ refused_by m p
   -- "then 3"
   pub three-last : Asked f letter len buf → body_walk (domain f) (sextet_of letter) (take len buf) ≡ P.End
-      → length buf < group_size (domain f) len → grouped f letter len buf ≡ G.Refused 3 0
+      → length buf < group_size (domain f) len → grouped f letter len buf ≡ refused_by 3 0
   -- "put the group header in front and hand back the size": where none of these holds, and nowhere else
   pub writes : Asked f letter len buf → body_walk (domain f) (sextet_of letter) (take len buf) ≡ P.End
-      → group_size (domain f) len ≤ length buf → grouped f letter len buf ≡ G.Written (group_size (domain f) len)
-  pub only-writes : (n : ℕ) → grouped f letter len buf ≡ G.Written n
+      → group_size (domain f) len ≤ length buf → grouped f letter len buf ≡ Ok (group_size (domain f) len)
+  pub only-writes : (n : ℕ) → grouped f letter len buf ≡ Ok n
       → Asked f letter len buf × (body_walk (domain f) (sextet_of letter) (take len buf) ≡ P.End)
       × (n ≡ group_size (domain f) len) × (n ≤ length buf)
   -- the size is that of what is written, and what stood behind it stays
-  pub size : (n : ℕ) → grouped f letter len buf ≡ G.Written n → n ≡ length (group_of f (sextet_of letter) (take len buf))
-  pub front : (n : ℕ) → grouped f letter len buf ≡ G.Written n
-      → take n (group_left (G.Written n) f letter len buf) ≡ group_of f (sextet_of letter) (take len buf)
-  pub behind : (n : ℕ) → grouped f letter len buf ≡ G.Written n → drop n (group_left (G.Written n) f letter len buf) ≡ drop n buf
+  pub size : (n : ℕ) → grouped f letter len buf ≡ Ok n → n ≡ length (group_of f (sextet_of letter) (take len buf))
+  pub front : (n : ℕ) → grouped f letter len buf ≡ Ok n
+      → take n (group_left (Ok n) f letter len buf) ≡ group_of f (sextet_of letter) (take len buf)
+  pub behind : (n : ℕ) → grouped f letter len buf ≡ Ok n → drop n (group_left (Ok n) f letter len buf) ≡ drop n buf
   -- "Where a call itself is refused, every output buffer holds what it held before"
-  pub kept : (m p : ℕ) → grouped f letter len buf ≡ G.Refused m p → group_left (grouped f letter len buf) f letter len buf ≡ buf
+  pub kept : (m p : ℕ) → grouped f letter len buf ≡ refused_by m p → group_left (grouped f letter len buf) f letter len buf ≡ buf
 
 -- ---- of a body and the group around it, whatever the room
 
@@ -85,30 +86,30 @@ made f letter len buf n = take n (group_left (grouped f letter len buf) f letter
 
 pub record WrittenClaims (f : Form) (letter len : ℕ) (buf : List ℕ) : Type 0 where
   -- a group that is written is one that the report accepts, and it is the stream's only item
-  pub accepted : (n : ℕ) → grouped f letter len buf ≡ G.Written n → judge_in (domain f) (made f letter len buf n) ≡ Accepted
-  pub one-item : (n : ℕ) → grouped f letter len buf ≡ G.Written n
+  pub accepted : (n : ℕ) → grouped f letter len buf ≡ Ok n → judge_in (domain f) (made f letter len buf n) ≡ Accepted
+  pub one-item : (n : ℕ) → grouped f letter len buf ≡ Ok n
       → rows_in (domain f) (made f letter len buf n) ≡ record { offset = 0; size = n; verdict = Accepted } ∷ []
-  pub no-remainder : (n : ℕ) → grouped f letter len buf ≡ G.Written n → remainder_in (domain f) (made f letter len buf n) ≡ []
+  pub no-remainder : (n : ℕ) → grouped f letter len buf ≡ Ok n → remainder_in (domain f) (made f letter len buf n) ≡ []
   -- "Read back at top level, the group is yielded, then the items of that walk, their offsets counted on by the header's size", in every
   -- number of steps
-  pub read_back : (n : ℕ) → grouped f letter len buf ≡ G.Written n → (j : ℕ) →
+  pub read_back : (n : ℕ) → grouped f letter len buf ≡ Ok n → (j : ℕ) →
       let d : Domain = domain f in
       let l : ℕ = sextet_of letter in
       let h : ℕ = head_units (len / d.unit) in
       yielded d (made f letter len buf n) (suc j) start
       ≡ F.Item 0 n 0 (Group l) h ∷ map (found_on (h * d.unit)) (yielded d (take len buf) j (within l (len / d.unit)))
   -- "the body's own at depth 1": that walk begins at depth 1 (depth of BodyClaims), and yields nothing outside of it
-  pub inner : (n : ℕ) → grouped f letter len buf ≡ G.Written n → (j : ℕ)
+  pub inner : (n : ℕ) → grouped f letter len buf ≡ Ok n → (j : ℕ)
       → Inner (yielded (domain f) (take len buf) j (within (sextet_of letter) (len / (domain f).unit)))
 
 -- ---- of the numbers, as C is told them
 
 pub record NumberClaims (f : Form) (letter len : ℕ) (buf : List ℕ) : Type 0 where
   -- the writer's own and an item's verdicts, and no other
-  pub listed : (m p : ℕ) → grouped f letter len buf ≡ G.Refused m p
+  pub listed : (m p : ℕ) → grouped f letter len buf ≡ refused_by m p
       → Among (3 ∷ 1 ∷ 6 ∷ 2 ∷ 4 ∷ 5 ∷ 19 ∷ 6 ∷ 7 ∷ 11 ∷ 18 ∷ 9 ∷ 8 ∷ 16 ∷ 15 ∷ 10 ∷ []) m
   -- so that no refusal can be taken for a group: 0 is told only where one was written
-  pub zero-written : grouped_number (grouped f letter len buf) ≡ 0 → (n : ℕ) × (grouped f letter len buf ≡ G.Written n)
+  pub zero-written : grouped_number (grouped f letter len buf) ≡ 0 → (n : ℕ) × (grouped f letter len buf ≡ Ok n)
 
 -- ---- all of it
 

@@ -16,12 +16,13 @@ use Rattle.walk_state.specs.Walking.{start, closed, opened, past, next_of}
 use Rattle.walk_state.specs.Moving.{finished, entered, step_over}
 use Rattle.instalments.specs.declared.Pause.{Pause}
 use Rattle.instalments.specs.declared.Pause.TheVariants as P
-use Rattle.groups.specs.declared.Grouped.TheVariants as G
 use Rattle.groups.specs.Grouping.{head_units, group_size, within, room_for}
 use Rattle.groups_claims.proofs.Heads.{head-eight}
 use Rattle.groups_order.specs.declared.Before.{Before}
 use Rattle.groups_order.specs.declared.Before.TheVariants as B
 use Rattle.groups_order.specs.Order.{before_walk}
+use Rattle.std.specs.Prelude.{Ok}
+use Rattle.format.specs.Refusals.{refused_by}
 
 -- ---- the header's size
 
@@ -112,18 +113,18 @@ into l n w first indexed r e f g q = let z : 0 + n ≡ n = omega arith in q ∙ 
 -- ---- room
 
 module _ (p : Pause) (size room : ℕ) where
-  pub no_room : p ≡ P.End → room < size → G.Refused 3 0 ≡ room_for p size room
+  pub no_room : p ≡ P.End → room < size → refused_by 3 0 ≡ room_for p size room
   unfolding room_for
   no_room e h = rw (e, lt-ltb room size h)
 
-  pub has_room : p ≡ P.End → size ≤ room → G.Written size ≡ room_for p size room
+  pub has_room : p ≡ P.End → size ≤ room → Ok size ≡ room_for p size room
   unfolding room_for
   has_room e h = rw (e, le-ltb room size h)
 
-  pub no_walk : (m at : ℕ) → p ≡ P.Refused m at → G.Refused m at ≡ room_for p size room
+  pub no_walk : (m at : ℕ) → p ≡ P.Refused m at → refused_by m at ≡ room_for p size room
   unfolding room_for
   no_walk m at e = rw e
 
-  pub spent : p ≡ P.Spent → G.Refused 13 0 ≡ room_for p size room
+  pub spent : p ≡ P.Spent → refused_by 13 0 ≡ room_for p size room
   unfolding room_for
   spent e = rw e

@@ -8,11 +8,12 @@ use Rattle.format.specs.declared.Form.{Form}
 use Rattle.format.specs.Alphabet.{sextet_of}
 use Rattle.format.specs.Units.{domain}
 use Rattle.format.specs.Registry.{is_group}
-use Rattle.groups.specs.declared.Grouped.{Grouped}
-use Rattle.groups.specs.declared.Grouped.TheVariants as G
 use Rattle.groups.specs.Grouping.{group_size, body_walk, room_for, grouped}
 use Rattle.groups_order.specs.declared.Before.{Before}
 use Rattle.groups_order.specs.declared.Before.TheVariants as B
+use Rattle.std.specs.Prelude.{Result}
+use Rattle.format.specs.declared.Refusal.{Refusal}
+use Rattle.format.specs.Refusals.{refused_by}
 
 -- "3 first if its stated length passes the buffer's, 1 when header and body together pass the limit, 6, 2 for a body that isn't whole units"
 unfoldable pub before_walk : Form → ℕ → ℕ → ℕ → Before
@@ -23,16 +24,16 @@ before_walk f letter len room =
     (pick (eqb (len % (domain f).unit) 0) (B.Contents (sextet_of letter) (group_size (domain f) len)) (B.Refused 2)) (B.Refused 6)))
 
 -- "The places of the writer's own 1, 6, 2 and 3 are 0"
-unfoldable pub answered : Before → Form → ℕ → List ℕ → Grouped
-answered (B.Refused m) f len buf = G.Refused m 0
+unfoldable pub answered : Before → Form → ℕ → List ℕ → Result ℕ (Refusal ℕ)
+answered (B.Refused m) f len buf = refused_by m 0
 answered (B.Contents l size) f len buf = room_for (body_walk (domain f) l (take len buf)) size (length buf)
 
 module _ (f : Form) (len : ℕ) (buf : List ℕ) where
   by_tests : (a b c e : Bool) (l size : ℕ)
       → answered (pick a (B.Refused 3) (pick b (B.Refused 1) (pick c (pick e (B.Contents l size) (B.Refused 2)) (B.Refused 6)))) f len buf
-      ≡ pick a (G.Refused 3 0)
-      (pick b (G.Refused 1 0)
-      (pick c (pick e (room_for (body_walk (domain f) l (take len buf)) size (length buf)) (G.Refused 2 0)) (G.Refused 6 0)))
+      ≡ pick a (refused_by 3 0)
+      (pick b (refused_by 1 0)
+      (pick c (pick e (room_for (body_walk (domain f) l (take len buf)) size (length buf)) (refused_by 2 0)) (refused_by 6 0)))
   unfolding answered
   by_tests true b c e l size = refl
   by_tests false true c e l size = refl

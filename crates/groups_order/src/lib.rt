@@ -8,8 +8,7 @@ ghost use Rattle.format.specs.Registry.{is_group};
 ghost use Rattle.groups.specs.Grouping.{head_units, within, room_for};
 ghost use Rattle.groups_order.specs.Order.{before_walk};
 
-use format::Form;
-use groups::Grouped;
+use format::{Form, Refusal};
 use instalments::Pause;
 use walk_state::Walk;
 
@@ -72,24 +71,24 @@ pub fn within(letter: u8, n: usize) -> Walk
 }
 
 // Behind it: a group of this size in so much room.
-pub fn room_for(pause: Pause, size: usize, room: usize) -> Grouped
+pub fn room_for(pause: Pause, size: usize, room: usize) -> Result<usize, Refusal<usize>>
     ensures { result ≡ room_for pause size room }
 {
     match pause {
         Pause::End => {
             if room < size {
-                Grouped::Refused {
+                Err(Refusal {
                     number: 3,
                     place: 0,
-                }
+                })
             } else {
-                Grouped::Written(size)
+                Ok(size)
             }
         }
-        Pause::Refused { number, place } => Grouped::Refused { number, place },
-        Pause::Spent => Grouped::Refused {
+        Pause::Refused { number, place } => Err(Refusal { number, place }),
+        Pause::Spent => Err(Refusal {
             number: 13,
             place: 0,
-        },
+        }),
     }
 }

@@ -13,12 +13,13 @@ use Rattle.walk_state.specs.declared.Walk.{Walk}
 use Rattle.instalments.specs.declared.Pause.{Pause}
 use Rattle.instalments.specs.declared.Walked.{Walked}
 use Rattle.instalments.specs.Instalments.{walk_on}
-use Rattle.groups.specs.declared.Grouped.{Grouped}
-use Rattle.groups.specs.declared.Grouped.TheVariants as G
 use Rattle.groups.specs.Grouping.{within, body_walk, room_for, grouped}
 use Rattle.groups_order.specs.declared.Before.{Before}
 use Rattle.groups_order.specs.declared.Before.TheVariants as B
 use Rattle.groups_order.specs.Order.{before_walk, answered, in_order, body-there}
+use Rattle.std.specs.Prelude.{Result}
+use Rattle.format.specs.declared.Refusal.{Refusal}
+use Rattle.format.specs.Refusals.{refused_by}
 
 -- ---- the walk of the body
 
@@ -37,7 +38,7 @@ module _ (f : Form) (letter len : ℕ) (buf : List ℕ) (b : Before) (e : b ≡ 
   told : answered b f len buf ≡ grouped f letter len buf
   told = ap (λ (x : Before). answered x f len buf) e ∙ in_order f len buf letter
 
-  pub by_number : (m : ℕ) → b ≡ B.Refused m → G.Refused m 0 ≡ grouped f letter len buf
+  pub by_number : (m : ℕ) → b ≡ B.Refused m → refused_by m 0 ≡ grouped f letter len buf
   unfolding answered
   by_number m q = ap (λ (x : Before). answered x f len buf) (sym q) ∙ told
 
@@ -45,7 +46,7 @@ module _ (f : Form) (letter len : ℕ) (buf : List ℕ) (b : Before) (e : b ≡ 
     pub there : len ≤ length buf
     there = body-there f letter len (length buf) l size (sym e ∙ q)
 
-    pub by-walk : (p : Pause) (r : Grouped) → p ≡ body_walk (domain f) l (take len buf) → r ≡ room_for p size (length buf)
+    pub by-walk : (p : Pause) (r : Result ℕ (Refusal ℕ)) → p ≡ body_walk (domain f) l (take len buf) → r ≡ room_for p size (length buf)
         → r ≡ grouped f letter len buf
     unfolding answered
     by-walk p r ep er = er ∙ rw ep (ap (λ (x : Before). answered x f len buf) (sym q) ∙ told)

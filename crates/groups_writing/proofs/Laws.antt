@@ -8,18 +8,17 @@ use Rattle.format.specs.declared.Form.{Form}
 use Rattle.format.specs.Alphabet.{sextet_of}
 use Rattle.format.specs.Units.{domain}
 use Rattle.format.specs.Offsets.{text_offset, binary_offset}
-use Rattle.groups.specs.declared.Grouped.{Grouped}
-use Rattle.groups.specs.declared.Grouped.TheVariants as G
-use Rattle.groups.specs.declared.TextGrouped.TheVariants as T
-use Rattle.groups.specs.declared.BinaryGrouped.TheVariants as B
 use Rattle.groups.specs.Grouping.{group_size, grouped, group_left, text_grouped, binary_grouped}
 use Rattle.groups_claims.proofs.Proved as C
 use Rattle.groups_put.specs.Put.{put_group}
+use Rattle.std.specs.Prelude.{Ok, Result}
+use Rattle.format.specs.declared.Refusal.{Refusal}
+use Rattle.format.specs.Refusals.{refused_by}
 
 -- ---- the call
 
-module _ (f : Form) (letter len : ℕ) (buf : List ℕ) (a : Grouped) (e : a ≡ grouped f letter len buf) where
-  pub is-written : (size : ℕ) → a ≡ G.Written size → (l : ℕ) (z : List ℕ) → l ≡ sextet_of letter → z ≡ put_group f l len buf
+module _ (f : Form) (letter len : ℕ) (buf : List ℕ) (a : Result ℕ (Refusal ℕ)) (e : a ≡ grouped f letter len buf) where
+  pub is-written : (size : ℕ) → a ≡ Ok size → (l : ℕ) (z : List ℕ) → l ≡ sextet_of letter → z ≡ put_group f l len buf
       → (a ≡ grouped f letter len buf) × (z ≡ group_left (grouped f letter len buf) f letter len buf)
   unfolding group_left put_group
   is-written size q l z p r =
@@ -27,26 +26,26 @@ module _ (f : Form) (letter len : ℕ) (buf : List ℕ) (a : Grouped) (e : a ≡
       let fits : group_size (domain f) len ≤ length buf = rw (← w.2) w.3 in
       (e, r ∙ rw (sym e ∙ q, p, w.2, le-ltb (length buf) (group_size (domain f) len) fits))
 
-  pub is-refused : (m p : ℕ) → a ≡ G.Refused m p
+  pub is-refused : (m p : ℕ) → a ≡ refused_by m p
       → (a ≡ grouped f letter len buf) × (buf ≡ group_left (grouped f letter len buf) f letter len buf)
   unfolding group_left
   is-refused m p q = (e, rw (sym e ∙ q))
 
 -- ---- in a form's own offsets
 
-module _ (g r : Grouped) (e : r ≡ g) where
-  pub text-written : (n : ℕ) → r ≡ G.Written n → T.Written (text_offset n) ≡ text_grouped g
+module _ (g r : Result ℕ (Refusal ℕ)) (e : r ≡ g) where
+  pub text-written : (n : ℕ) → r ≡ Ok n → Ok (text_offset n) ≡ text_grouped g
   unfolding text_grouped
   text-written n q = rw (sym e ∙ q)
 
-  pub text-refused : (m p : ℕ) → r ≡ G.Refused m p → T.Refused m (text_offset p) ≡ text_grouped g
+  pub text-refused : (m p : ℕ) → r ≡ refused_by m p → refused_by m (text_offset p) ≡ text_grouped g
   unfolding text_grouped
   text-refused m p q = rw (sym e ∙ q)
 
-  pub binary-written : (n : ℕ) → r ≡ G.Written n → B.Written (binary_offset n) ≡ binary_grouped g
+  pub binary-written : (n : ℕ) → r ≡ Ok n → Ok (binary_offset n) ≡ binary_grouped g
   unfolding binary_grouped
   binary-written n q = rw (sym e ∙ q)
 
-  pub binary-refused : (m p : ℕ) → r ≡ G.Refused m p → B.Refused m (binary_offset p) ≡ binary_grouped g
+  pub binary-refused : (m p : ℕ) → r ≡ refused_by m p → refused_by m (binary_offset p) ≡ binary_grouped g
   unfolding binary_grouped
   binary-refused m p q = rw (sym e ∙ q)

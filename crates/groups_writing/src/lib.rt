@@ -7,8 +7,7 @@ ghost use Rattle.format.specs.Units.{domain};
 ghost use Rattle.format.specs.declared.Form.TheVariants.{Text, Binary};
 ghost use Rattle.groups.specs.Grouping.{body_walk, grouped, group_left, text_grouped, binary_grouped};
 
-use format::{BinaryOffset, Form, TextOffset};
-use groups::{BinaryGrouped, Grouped, TextGrouped};
+use format::{BinaryOffset, Form, Refusal, TextOffset};
 use groups_order::Before;
 use instalments::Pause;
 
@@ -25,11 +24,11 @@ fn walk_body(form: Form, letter: u8, body: &[u8]) -> Pause
 }
 
 // letter: a character; len: the length of the body, which lies at the buffer's start.
-pub fn answer(form: Form, letter: u8, len: usize, buf: &[u8]) -> Grouped
+pub fn answer(form: Form, letter: u8, len: usize, buf: &[u8]) -> Result<usize, Refusal<usize>>
     ensures { result ≡ grouped form letter len buf.now }
 {
     match groups_order::before_walk(form, letter, len, buf.len()) {
-        Before::Refused(number) => Grouped::Refused { number, place: 0 },
+        Before::Refused(number) => Err(Refusal { number, place: 0 }),
         Before::Contents { letter: l, size } => {
             let pause = walk_body(form, l, &buf[..len]);
             groups_order::room_for(pause, size, buf.len())
@@ -40,47 +39,48 @@ pub fn answer(form: Form, letter: u8, len: usize, buf: &[u8]) -> Grouped
 // ---- the call
 
 // letter: a character; len: the length of the body, which lies at the buffer's start.
-pub fn group(form: Form, letter: u8, len: usize, buf: &mut [u8]) -> Grouped
+pub fn group(form: Form, letter: u8, len: usize, buf: &mut [u8]) -> Result<usize, Refusal<usize>>
     ensures value { result ≡ grouped form letter len buf.old }
     ensures buf_after { buf.new ≡ group_left (grouped form letter len buf.old) form letter len buf.old }
 {
     let told = answer(form, letter, len, buf);
     match told {
-        Grouped::Written(_) => {
+        Ok(_) => {
             groups_put::put_group(form, alphabet::sextet(letter), len, buf);
             told
         }
-        Grouped::Refused {
-            number: _,
-            place: _,
-        } => told,
+        Err(_) => told,
     }
 }
 
 // ---- in a form's own offsets
 
-pub fn group_text(letter: u8, len: usize, buf: &mut [u8]) -> TextGrouped
+pub fn group_text(letter: u8, len: usize, buf: &mut [u8]) -> Result<TextOffset, Refusal<TextOffset>>
     ensures value { result ≡ text_grouped (grouped Text letter len buf.old) }
     ensures buf_after { buf.new ≡ group_left (grouped Text letter len buf.old) Text letter len buf.old }
 {
     match group(Form::Text, letter, len, buf) {
-        Grouped::Written(size) => TextGrouped::Written(TextOffset(size)),
-        Grouped::Refused { number, place } => {
+        Ok(size) => Ok(TextOffset(size)),
+        Err(Refusal { number, place }) => {
             let at = TextOffset(place);
-            TextGrouped::Refused { number, place: at }
+            Err(Refusal { number, place: at })
         }
     }
 }
 
-pub fn group_binary(letter: u8, len: usize, buf: &mut [u8]) -> BinaryGrouped
+pub fn group_binary(
+    letter: u8,
+    len: usize,
+    buf: &mut [u8],
+) -> Result<BinaryOffset, Refusal<BinaryOffset>>
     ensures value { result ≡ binary_grouped (grouped Binary letter len buf.old) }
     ensures buf_after { buf.new ≡ group_left (grouped Binary letter len buf.old) Binary letter len buf.old }
 {
     match group(Form::Binary, letter, len, buf) {
-        Grouped::Written(size) => BinaryGrouped::Written(BinaryOffset(size)),
-        Grouped::Refused { number, place } => {
+        Ok(size) => Ok(BinaryOffset(size)),
+        Err(Refusal { number, place }) => {
             let at = BinaryOffset(place);
-            BinaryGrouped::Refused { number, place: at }
+            Err(Refusal { number, place: at })
         }
     }
 }

@@ -10,7 +10,6 @@ use Rattle.base.specs.Lists.{map-take}
 use Rattle.format.specs.declared.Kind.{Kind}
 use Rattle.format.specs.declared.Kind.TheVariants.{Fixed, Variable, Group, Genus, Indexed}
 use Rattle.format.specs.declared.IndexedItem.{IndexedItem}
-use Rattle.format.specs.declared.TextIndexed.TheVariants as T
 use Rattle.format.specs.Alphabet.{sextet_of}
 use Rattle.format.specs.Offsets.{text_offset}
 use Rattle.format.specs.Units.{text_sextets}
@@ -26,6 +25,8 @@ use Rattle.reading_part.proofs.Answers.{is_found}
 use Rattle.indexed_item.specs.Items.{PlacedIn}
 use Rattle.indexed_item.proofs.Items.{Inside, inside, told}
 use Rattle.indexed_found.specs.Begun.{Begun}
+use Rattle.std.specs.Prelude.{Ok}
+use Rattle.format.specs.Refusals.{refused_by}
 
 own-sextets : (t : List ℕ) (m : ℕ) → text_sextets (take m t) ≡ take m (text_sextets t)
 unfolding text_sextets
@@ -72,11 +73,11 @@ module _ (t : List ℕ) (k : Kind) (h n : ℕ) (b : Begun t k h n) where
     raw-is : p.raw ≡ 3 * n - raw_start k h
     raw-is = rw w (lies k h n _ i.placed).1
 
-    pub no_room : (d : List ℕ) → length d < p.raw → T.Refused 3 (text_offset 0) ≡ text_indexed_answer 0 (found k h n) (text_sextets t) (length d)
+    pub no_room : (d : List ℕ) → length d < p.raw → refused_by 3 (text_offset 0) ≡ text_indexed_answer 0 (found k h n) (text_sextets t) (length d)
     unfolding text_indexed_answer
     no_room d r = rw (lt-ltb (length d) (3 * n - raw_start k h) (rw (raw-is) at r))
 
-    pub some-room : (d : List ℕ) → p.raw ≤ length d → T.Found p ≡ text_indexed_answer 0 (found k h n) (text_sextets t) (length d)
+    pub some-room : (d : List ℕ) → p.raw ≤ length d → Ok p ≡ text_indexed_answer 0 (found k h n) (text_sextets t) (length d)
     unfolding text_indexed_answer
     some-room d r = rw (le-ltb (length d) (3 * n - raw_start k h) (rw (raw-is) at r), w)
 
@@ -84,7 +85,7 @@ module _ (t : List ℕ) (k : Kind) (h n : ℕ) (b : Begun t k h n) where
     pub raw-copied : (d d' : List ℕ) → p.raw ≤ length d
         → (Fit (take (4 * n) t) → p.start.0 ≤ length (take (4 * n) t) / 4 * 3 → length (take (4 * n) t) / 4 * 3 - p.start.0 ≤ length d
         → d' ≡ raw_into (take (4 * n) t) p.start.0 d)
-        → d' ≡ indexed_left (T.Found p) t 0 d
+        → d' ≡ indexed_left (Ok p) t 0 d
     unfolding indexed_left indexed_raw from
     raw-copied d d' r c =
         let T = take (4 * n) t in

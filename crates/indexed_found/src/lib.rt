@@ -8,23 +8,30 @@ ghost use Rattle.format.specs.Reading.Reading.{found};
 ghost use Rattle.format.specs.Indexed.{text_indexed_answer, indexed_left};
 ghost use Rattle.indexed_found.specs.Begun.{Begun};
 
-use format::{Kind, TextIndexed, TextOffset};
+use format::{IndexedItem, Kind, Refusal, TextOffset};
 
 // The item that a part begins with, where there is room for its raw value: 3. Of a part that does not begin with it nothing is said.
-pub fn text_found(part: &[u8], kind: Kind, head: usize, size: usize, out: &mut [u8]) -> TextIndexed
+pub fn text_found(
+    part: &[u8],
+    kind: Kind,
+    head: usize,
+    size: usize,
+    out: &mut [u8],
+) -> Result<IndexedItem, Refusal<TextOffset>>
     ensures value { Begun part.now kind head size → result ≡ text_indexed_answer 0 (found kind head size) (text_sextets part.now) (length out.old) }
     ensures out_after { Begun part.now kind head size → out.new ≡ indexed_left result part.now 0 out.old }
 {
+    let place = TextOffset(0);
     if part.len() / 4 < size {
-        return TextIndexed::Refused(4, TextOffset(0));
+        return Err(Refusal { number: 4, place });
     }
     let cs = framing_head::text_head(part);
     let own = framing_head::within(cs, size);
     let p = indexed_item::item_of(kind, size, own);
     if out.len() < p.raw {
-        return TextIndexed::Refused(3, TextOffset(0));
+        return Err(Refusal { number: 3, place });
     }
     let end = 4 * size;
     reading_raw::copy_raw(&part[..end], p.start, out);
-    TextIndexed::Found(p)
+    Ok(p)
 }

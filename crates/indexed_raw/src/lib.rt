@@ -5,7 +5,7 @@ ghost use Rattle.std.specs.Prelude.{◌≡◌, ◌+◌};
 ghost use Rattle.format.specs.Indexed.{read_indexed_binary, indexed_part};
 ghost use Rattle.indexed_raw.specs.Part.{part_start};
 
-use format::{BinaryIndexed, BinaryOffset};
+use format::BinaryOffset;
 
 // The part of the binary where the raw value of the indexed item at an offset lies: at the item's end. An empty part, at the stream's
 // start, where reading refuses.
@@ -16,8 +16,8 @@ pub fn raw_indexed_binary(s: &[u8], at: BinaryOffset) -> &[u8]
     let from = at.0;
     let read = indexed_binary::read_indexed_binary(s, at);
     match read {
-        BinaryIndexed::Refused(_, _) => &s[..0],
-        BinaryIndexed::Found(p) => {
+        Err(_) => &s[..0],
+        Ok(p) => {
             let start = from + p.start.0;
             let end = start + p.raw;
             &s[start..end]

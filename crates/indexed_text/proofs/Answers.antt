@@ -11,8 +11,6 @@ use Rattle.format.specs.declared.Framed.{Framed}
 use Rattle.format.specs.declared.Framed.TheVariants.{Item, Unframed}
 use Rattle.format.specs.declared.Verdict.{Verdict}
 use Rattle.format.specs.declared.Verdict.TheVariants.{Accepted, Refused}
-use Rattle.format.specs.declared.TextIndexed.{TextIndexed}
-use Rattle.format.specs.declared.TextIndexed.TheVariants as T
 use Rattle.format.specs.Alphabet.{sextet_of}
 use Rattle.format.specs.Offsets.{text_offset}
 use Rattle.format.specs.Units.{text_sextets}
@@ -26,27 +24,32 @@ use Rattle.judging.proofs.Bounds.{Head, by-head, Near, own-near}
 use Rattle.reading_part.specs.Outcome.{outcome}
 use Rattle.reading_part.proofs.Answers.{is-refused, is_found}
 use Rattle.indexed_found.specs.Begun.{Begun}
+use Rattle.std.specs.Prelude.{Ok, Err, Result}
+use Rattle.format.specs.declared.Refusal.{Refusal}
+use Rattle.format.specs.Refusals.{refused_by}
+use Rattle.format.specs.declared.TextOffset.{TextOffset}
+use Rattle.format.specs.declared.IndexedItem.{IndexedItem}
 
 module _ (s : List ℕ) (at room : ℕ) where
-  pub text-long : 4194304 < length s → T.Refused 1 (text_offset 0) ≡ read_indexed_text s at room
+  pub text-long : 4194304 < length s → refused_by 1 (text_offset 0) ≡ read_indexed_text s at room
   unfolding read_indexed_text
   text-long l = simp (lt-ltb _ _ l)
 
   module _ (l : length s ≤ 4194304) where
-    pub text-past : length s ≤ at → T.Refused 4 (text_offset at) ≡ read_indexed_text s at room
+    pub text-past : length s ≤ at → refused_by 4 (text_offset at) ≡ read_indexed_text s at room
     unfolding read_indexed_text from text_sextets reading_indexed read_indexed_framed frame_indexed frame_with text_indexed_answer place_from
     text-past p =
         let z : at + 0 ≡ at = omega arith in
         rw (le-ltb 4194304 (length s) l, drop_of_length-le s {i = at} p, z)
 
     pub text-refused : (m p : ℕ) → outcome (reading_indexed (text_sextets (drop at s))) ≡ Unframed m p
-        → T.Refused m (text_offset (at + p)) ≡ read_indexed_text s at room
+        → refused_by m (text_offset (at + p)) ≡ read_indexed_text s at room
     unfolding read_indexed_text from text_indexed_answer place_from
     text-refused m p e =
         let z : p / 4 * 4 + p % 4 ≡ p = omega arith in
         rw (le-ltb 4194304 (length s) l, is-refused (reading_indexed (text_sextets (drop at s))) m p e, z)
 
-    pub text-found : (k : Kind) (h n : ℕ) → outcome (reading_indexed (text_sextets (drop at s))) ≡ Item k h n → (r : TextIndexed)
+    pub text-found : (k : Kind) (h n : ℕ) → outcome (reading_indexed (text_sextets (drop at s))) ≡ Item k h n → (r : Result IndexedItem (Refusal TextOffset))
         → r ≡ text_indexed_answer 0 (found k h n) (text_sextets (drop at s)) room → r ≡ read_indexed_text s at room
     unfolding read_indexed_text from text_indexed_answer
     text-found k h n e r q = rw (le-ltb 4194304 (length s) l, is_found (reading_indexed (text_sextets (drop at s))) k h n e) q
@@ -57,10 +60,10 @@ pub begun-at : (s : List ℕ) (at : ℕ) (k : Kind) (h n : ℕ) → outcome (rea
 begun-at s at k h n e l = record { read = e; short = omega (arith, length-drop at s) }
 
 -- what the buffer holds, by the part
-pub left-from : (f : TextIndexed) (s : List ℕ) (at : ℕ) (d : List ℕ) → indexed_left f (drop at s) 0 d ≡ indexed_left f s at d
+pub left-from : (f : Result IndexedItem (Refusal TextOffset)) (s : List ℕ) (at : ℕ) (d : List ℕ) → indexed_left f (drop at s) 0 d ≡ indexed_left f s at d
 unfolding indexed_left from
-left-from (T.Found p) s at d = refl
-left-from (T.Refused m p) s at d = refl
+left-from (Ok p) s at d = refl
+left-from (Err why) s at d = refl
 
 -- ---- the place of a refusal can be counted on from the offset
 

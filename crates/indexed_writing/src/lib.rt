@@ -8,12 +8,18 @@ ghost use Rattle.format.specs.Indexed.{write_indexed_text, text_indexed_left, wr
 ghost use Rattle.writing_raw.specs.Item.{Sized, raw_item, room_for, binary_in, text_in};
 ghost use Rattle.indexed_head.specs.Heads.{head_bytes};
 
-use format::{BinaryWritten, IndexCode, IndexRow, TextWritten};
+use format::{BinaryOffset, IndexCode, IndexRow, Refusal, TextOffset};
 use indexed_code::Planned;
 
 // ---- an item of a row, where there is room: 3. Of a raw value that the row does not hold nothing is said.
 
-fn binary_row(c: IndexRow, index: usize, ondex: usize, raw: &[u8], out: &mut [u8]) -> BinaryWritten
+fn binary_row(
+    c: IndexRow,
+    index: usize,
+    ondex: usize,
+    raw: &[u8],
+    out: &mut [u8],
+) -> Result<BinaryOffset, Refusal<usize>>
     ensures value { Sized (length raw.now) (c.size / 4) → result ≡ binary_outcome (room_for 3 (c.size / 4) (length out.old)) }
     ensures out_after { Sized (length raw.now) (c.size / 4) → out.new ≡ binary_in (room_for 3 (c.size / 4) (length out.old)) (raw_item (c.size / 4) (head_bytes c index ondex) raw.now) out.old }
 {
@@ -22,7 +28,13 @@ fn binary_row(c: IndexRow, index: usize, ondex: usize, raw: &[u8], out: &mut [u8
     writing_raw::binary_item(units, head, raw, out)
 }
 
-fn text_row(c: IndexRow, index: usize, ondex: usize, raw: &[u8], out: &mut [u8]) -> TextWritten
+fn text_row(
+    c: IndexRow,
+    index: usize,
+    ondex: usize,
+    raw: &[u8],
+    out: &mut [u8],
+) -> Result<TextOffset, Refusal<usize>>
     ensures value { Sized (length raw.now) (c.size / 4) → result ≡ text_outcome (room_for 4 (c.size / 4) (length out.old)) }
     ensures out_after { Sized (length raw.now) (c.size / 4) → out.new ≡ text_in (room_for 4 (c.size / 4) (length out.old)) (raw_item (c.size / 4) (head_bytes c index ondex) raw.now) out.old }
 {
@@ -40,13 +52,13 @@ pub fn write_indexed_binary(
     ondex: usize,
     raw: &[u8],
     out: &mut [u8],
-) -> BinaryWritten
+) -> Result<BinaryOffset, Refusal<usize>>
     ensures value { result ≡ write_indexed_binary code index ondex raw.now (length out.old) }
     ensures out_after { out.new ≡ binary_indexed_left result code index ondex raw.now out.old }
 {
     let plan = indexed_code::plan(code, index, ondex, raw.len());
     match plan {
-        Planned::Refused(number) => BinaryWritten::Refused(number, 0),
+        Planned::Refused(number) => Err(Refusal { number, place: 0 }),
         Planned::Row(c) => binary_row(c, index, ondex, raw, out),
     }
 }
@@ -58,13 +70,16 @@ pub fn write_indexed_text(
     ondex: usize,
     raw: &[u8],
     out: &mut [u8],
-) -> TextWritten
+) -> Result<TextOffset, Refusal<usize>>
     ensures value { result ≡ write_indexed_text code index ondex raw.now (length out.old) }
     ensures out_after { out.new ≡ text_indexed_left result code index ondex raw.now out.old }
 {
     let plan = indexed_code::plan(code, index, ondex, raw.len());
     match plan {
-        Planned::Refused(number) => TextWritten::Refused(number, 0),
+        Planned::Refused(refused) => Err(Refusal {
+            number: refused,
+            place: 0,
+        }),
         Planned::Row(c) => text_row(c, index, ondex, raw, out),
     }
 }

@@ -11,8 +11,6 @@ use Rattle.format.specs.Alphabet.{sextet_of, char_of}
 use Rattle.format.specs.Units.{sextets_of, triplet_of, quadlet_of, text_sextets, binary_sextets}
 use Rattle.format.specs.Offsets.{text_offset, binary_offset}
 use Rattle.format.specs.Conversion.{to_binary, to_text, first_stranger, text_to_binary, binary_to_text}
-use Rattle.format.specs.declared.ToBinary.TheVariants as B
-use Rattle.format.specs.declared.ToText.TheVariants as T
 use Rattle.laws.specs.Units.{bytes_below, sextets-below, sextets-size, triplet-size, quadlet-size, triplet-sextets, quadlet-sextets, quadlet-back, triplet-back}
 
 -- ---- lengths

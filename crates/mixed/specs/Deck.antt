@@ -1,13 +1,14 @@
 -- 02 d's own order and what stands beside it, as one table under a single claim: streams with their item rows, refusals and remainder. Text
 -- is written by its characters' numbers. What is expected is 02's word, and 01's on text and binary items. Assumes nothing.
 use Rattle.std.specs.Prelude.{ℕ, ◌≡◌, refl, List, [], ◌∷◌, map, length, replicate}
-use Rattle.format.specs.declared.Reported.TheVariants as R
 use Rattle.format.specs.Report.{ItemRow, RefusalRow, RemainderRow, refusals, refusals_of, refusal, be4, verdict_byte}
 use Rattle.format.specs.Report.{row_bytes, refusal_bytes, remainder_bytes, concat, section}
 use Rattle.format.specs.Deck.{given}
 use Rattle.mixed.specs.Json.{hex_of, meets, pattern, passes, hex_from, json_size, fit_json, frame_json}
 use Rattle.mixed.specs.Mixed.{start_of, start_at, form_byte, frame_start, frame_with, judge_start, judge_mixed}
 use Rattle.mixed.specs.Mixed.{rows_mixed, refusals_mixed, remainder_mixed, mixed_row_bytes, mixed_report, mixed_answer, mixed_left}
+use Rattle.std.specs.Prelude.{Ok}
+use Rattle.format.specs.Refusals.{refused_by}
 
 infixr 5 ◌&◌
 -- ---- a stream and what is expected of it
@@ -112,12 +113,12 @@ nines n = replicate n 9
 
 pub record Rooms : Type 0 where
   -- 12 bytes of counts, room 17 for a remainder besides
-  pub empty : (mixed_answer [] 17 ≡ R.Written 12) × (mixed_answer [] 16 ≡ R.Refused 3 0)
+  pub empty : (mixed_answer [] 17 ≡ Ok 12) × (mixed_answer [] 16 ≡ refused_by 3 0)
   -- one JSON item, `{"v":"KERI10JSON000017_`, and none refused: 22 bytes, room 36, since it might have been refused
-  pub one-item : (mixed_answer json (length (nines 36)) ≡ R.Written 22) × (mixed_answer json (length (nines 35)) ≡ R.Refused 3 0)
-  pub one_written : mixed_left (R.Written 22) json (nines 24) ≡
+  pub one-item : (mixed_answer json (length (nines 36)) ≡ Ok 22) × (mixed_answer json (length (nines 35)) ≡ refused_by 3 0)
+  pub one_written : mixed_left (Ok 22) json (nines 24) ≡
       0 ∷ 0 ∷ 0 ∷ 1 ∷ 0 ∷ 0 ∷ 0 ∷ 0 ∷ 0 ∷ 0 ∷ 0 ∷ 23 ∷ 0 ∷ 2 ∷ 0 ∷ 0 ∷ 0 ∷ 0 ∷ 0 ∷ 0 ∷ 0 ∷ 0 ∷ 9 ∷ 9 ∷ []
-  pub one-refused : mixed_left (R.Refused 3 0) json (nines 24) ≡ nines 24
+  pub one-refused : mixed_left (refused_by 3 0) json (nines 24) ≡ nines 24
 
 pub rooms : Rooms
 unfolding told be4 row_bytes refusal_bytes remainder_bytes concat section mixed_row_bytes mixed_report mixed_answer mixed_left

@@ -10,8 +10,6 @@ use Rattle.format.specs.declared.Framed.{Framed}
 use Rattle.format.specs.declared.Framed.TheVariants.{Unframed}
 use Rattle.format.specs.declared.Verdict.{Verdict}
 use Rattle.format.specs.declared.Verdict.TheVariants.{Accepted}
-use Rattle.format.specs.declared.Reported.{Reported}
-use Rattle.format.specs.declared.Reported.TheVariants as R
 use Rattle.format.specs.Alphabet.{within}
 use Rattle.format.specs.Units.{domain}
 use Rattle.format.specs.Report.{ItemRow, RefusalRow, RemainderRow, rows, refusals, remainder, frame_in, judge_in}
@@ -19,6 +17,9 @@ use Rattle.format.specs.Report.{row_bytes, refusal_bytes, remainder_bytes, secti
 use Rattle.mixed.specs.declared.Start.{Start}
 use Rattle.mixed.specs.declared.Start.TheVariants.{Cesr, Json, Other}
 use Rattle.mixed.specs.Json.{frame_json}
+use Rattle.std.specs.Prelude.{Ok, Err, Result}
+use Rattle.format.specs.declared.Refusal.{Refusal}
+use Rattle.format.specs.Refusals.{refused_by}
 
 -- ---- "Each top-level item starts with `-` (text CESR), a byte F8 to FB (binary CESR), or `{` (JSON)"
 
@@ -82,13 +83,13 @@ mixed_report xs =
 abbrev pub mixed_limit : ℕ
 mixed_limit = 4194304
 
-unfoldable pub mixed_answer : List ℕ → ℕ → Reported
+unfoldable pub mixed_answer : List ℕ → ℕ → Result ℕ (Refusal ℕ)
 mixed_answer xs room =
-    pick (ltb mixed_limit (length xs)) (R.Refused 1 0)
-    (pick (ltb room (17 + 19 * length (rows_mixed xs))) (R.Refused 3 0)
-    (R.Written (length (mixed_report xs))))
+    pick (ltb mixed_limit (length xs)) (refused_by 1 0)
+    (pick (ltb room (17 + 19 * length (rows_mixed xs))) (refused_by 3 0)
+    (Ok (length (mixed_report xs))))
 
 -- what a buffer that held out holds afterwards
-unfoldable pub mixed_left : Reported → List ℕ → List ℕ → List ℕ
-mixed_left (R.Written n) xs out = mixed_report xs ++ drop n out
-mixed_left (R.Refused number place) xs out = out
+unfoldable pub mixed_left : Result ℕ (Refusal ℕ) → List ℕ → List ℕ → List ℕ
+mixed_left (Ok n) xs out = mixed_report xs ++ drop n out
+mixed_left (Err e) xs out = out

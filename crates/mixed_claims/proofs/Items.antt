@@ -6,7 +6,6 @@ use Rattle.format.specs.declared.Form.TheVariants.{Text, Binary}
 use Rattle.format.specs.declared.Kind.{Kind}
 use Rattle.format.specs.declared.Framed.TheVariants.{Item, Unframed}
 use Rattle.format.specs.declared.Verdict.TheVariants.{Accepted}
-use Rattle.format.specs.declared.Reported.TheVariants as R
 use Rattle.format.specs.Units.{domain}
 use Rattle.format.specs.Judging.{shift}
 use Rattle.format.specs.Report.{ItemRow, rows_in, rows, remainder, rows_of, remainder_of, frame_in, report, report_answer}
@@ -22,6 +21,7 @@ use Rattle.mixed_claims.proofs.Ratio as Q
 use Rattle.mixed_claims.proofs.Room.{report-long}
 use Rattle.mixed_claims.proofs.Ties as T
 use Rattle.mixed_claims.specs.Claims.{CesrClaims}
+use Rattle.std.specs.Prelude.{Ok}
 
 -- ---- no item
 
@@ -72,8 +72,8 @@ limits Text n h = h
 limits Binary n h = omega arith
 
 calls : (f : Form) (xs : List ℕ) (room : ℕ) → SameReports f xs → length xs ≤ (domain f).limit → 17 + 19 * length (rows_mixed xs) ≤ room
-    → (report_answer (domain f) xs room ≡ R.Written (length (report (domain f) xs)))
-    × (mixed_answer xs room ≡ R.Written (length (report (domain f) xs) + length (rows_mixed xs)))
+    → (report_answer (domain f) xs room ≡ Ok (length (report (domain f) xs)))
+    × (mixed_answer xs room ≡ Ok (length (report (domain f) xs) + length (rows_mixed xs)))
 unfolding report_answer mixed_answer
 calls f xs room S l h =
     let n : length (rows_mixed xs) ≡ length (rows_in (domain f) xs) = ap length S.rows in

@@ -5,8 +5,6 @@ use Rattle.base.specs.Pick.{pick-by}
 use Rattle.format.specs.declared.Form.TheVariants.{Text, Binary}
 use Rattle.format.specs.declared.Kind.{Kind}
 use Rattle.format.specs.declared.Kind.TheVariants.{Genus}
-use Rattle.format.specs.declared.Reported.{Reported}
-use Rattle.format.specs.declared.Reported.TheVariants as R
 use Rattle.format.specs.Report.{rows, remainder}
 use Rattle.mixed.specs.declared.Start.TheVariants.{Cesr, Json}
 use Rattle.mixed.specs.Mixed.{form_byte, frame_with, judge_mixed, rows_mixed, remainder_mixed, mixed_report, mixed_limit, mixed_answer, mixed_left}
@@ -17,6 +15,8 @@ use Rattle.mixed_claims.proofs.Room.{report-long, call-refuses, call-accepts}
 use Rattle.mixed_claims.proofs.Kinded.{cut-kind-free}
 use Rattle.mixed_claims.proofs.Demand3.{demand3}
 use Rattle.mixed_claims.proofs.Items.{other-remains, formed, not-judged, cesr}
+use Rattle.std.specs.Prelude.{Ok, Err, Result}
+use Rattle.format.specs.declared.Refusal.{Refusal}
 
 kind-free : (k : Kind) (xs : List ℕ) → (rows (frame_with k) judge_mixed xs ≡ rows_mixed xs) × (remainder (frame_with k) judge_mixed xs ≡ remainder_mixed xs)
 unfolding rows remainder
@@ -41,9 +41,9 @@ json : JsonClaims
 json = record { refuses = json-refuses; accepts = json-accepts; sizes = json-sizes; total = total-digits; not-judged = not-judged }
 
 -- what an answer says: a refusal's place is 0, and a length is the report's
-abbrev Says : List ℕ → Reported → Type 0
-Says xs (R.Written n) = n ≡ length (mixed_report xs)
-Says xs (R.Refused m p) = p ≡ 0
+abbrev Says : List ℕ → Result ℕ (Refusal ℕ) → Type 0
+Says xs (Ok n) = n ≡ length (mixed_report xs)
+Says xs (Err r) = r.place ≡ 0
 
 says : (xs : List ℕ) (room : ℕ) → Says xs (mixed_answer xs room)
 unfolding mixed_answer

@@ -1,8 +1,6 @@
 -- The report's length, that the room the call asks for is enough, and what the call refuses. Assumes nothing.
 use Rattle.std.specs.Prelude.{ℕ, ◌+◌, ◌*◌, ◌≡◌, refl, List, [], ◌∷◌, length}
 use Rattle.std.proofs.Common.{ap, subst, inl, arith, length-append}
-use Rattle.format.specs.declared.Reported.{Reported}
-use Rattle.format.specs.declared.Reported.TheVariants as R
 use Rattle.format.specs.Report.{ItemRow, RemainderRow, be4, row_bytes, refusal_bytes, remainder_bytes, section}
 use Rattle.filling.specs.Stores.{concat-long, refusal-long}
 use Rattle.claims_rules.specs.Order.{None, Refusal}
@@ -12,6 +10,9 @@ use Rattle.claims_rules.proofs.Rules.By.{none}
 use Rattle.claims_rules.proofs.Rules.Allowed.{end, ◌&◌}
 use Rattle.mixed.specs.Mixed.{rows_mixed, refusals_mixed, remainder_mixed, mixed_row_bytes, mixed_report, mixed_limit, mixed_answer}
 use Rattle.mixed_claims.specs.Words.{mixed_rules}
+use Rattle.std.specs.Prelude.{Ok, Err, Result}
+use Rattle.format.specs.declared.Refusal.{Refusal as CallRefusal}
+use Rattle.format.specs.Refusals.{refused_by}
 
 section-long : {A : Type 0} (f : A → List ℕ) (n : ℕ) → ((a : A) → length (f a) ≡ n) → (l : List A) → length (section f l) ≡ 4 + n * length l
 unfolding section be4
@@ -40,9 +41,9 @@ report-long xs =
 
 -- ---- the call
 
-told_report : Reported → Told
-told_report (R.Written n) = accepted
-told_report (R.Refused m p) = told m
+told_report : Result ℕ (CallRefusal ℕ) → Told
+told_report (Ok n) = accepted
+told_report (Err r) = told r.number
 
 in_order : (xs : List ℕ) (room : ℕ) → By (mixed_rules xs room) (told_report (mixed_answer xs room))
 unfolding mixed_answer told_report
@@ -50,11 +51,11 @@ in_order xs room =
     ask-lt told_report mixed_limit (length xs) 1 _ _ _ refl
     (ask-lt told_report room (17 + 19 * length (rows_mixed xs)) 3 _ _ _ refl (none tt))
 
-pub call-refuses : (xs : List ℕ) (room m p : ℕ) → mixed_answer xs room ≡ R.Refused m p → Refusal (1 ∷ 3 ∷ []) (mixed_rules xs room) m
+pub call-refuses : (xs : List ℕ) (room m p : ℕ) → mixed_answer xs room ≡ refused_by m p → Refusal (1 ∷ 3 ∷ []) (mixed_rules xs room) m
 unfolding told_report
 call-refuses xs room m p e =
     refusal _ _ m (λ z. z) (inl tt & inl tt & end) (by_first _ m (subst (By _) (ap told_report e) (in_order xs room)))
 
-pub call-accepts : (xs : List ℕ) (room n : ℕ) → mixed_answer xs room ≡ R.Written n → None (mixed_rules xs room)
+pub call-accepts : (xs : List ℕ) (room n : ℕ) → mixed_answer xs room ≡ Ok n → None (mixed_rules xs room)
 unfolding told_report
 call-accepts xs room n e = by-none _ (subst (By _) (ap told_report e) (in_order xs room))

@@ -8,7 +8,6 @@ use Rattle.format.specs.declared.Form.TheVariants.{Text, Binary}
 use Rattle.format.specs.declared.Kind.{Kind}
 use Rattle.format.specs.declared.Framed.TheVariants.{Item, Unframed}
 use Rattle.format.specs.declared.Verdict.TheVariants.{Accepted}
-use Rattle.format.specs.declared.Reported.TheVariants as R
 use Rattle.format.specs.Units.{domain}
 use Rattle.format.specs.Conversion.{to_binary, to_text}
 use Rattle.format.specs.Report.{refusal, rows, remainder, rows_in, remainder_in, frame_in, judge_in, refusal_bytes, remainder_bytes, section}
@@ -21,6 +20,8 @@ use Rattle.mixed.specs.Json.{hex_of, json_size, frame_json}
 use Rattle.mixed.specs.Mixed.{start_of, start_at, form_byte, frame_with, frame_mixed, judge_mixed, rows_mixed, refusals_mixed, remainder_mixed}
 use Rattle.mixed.specs.Mixed.{mixed_row_bytes, mixed_report, mixed_answer, mixed_left}
 use Rattle.mixed_claims.specs.Words.{json_rules, mixed_rules, Changed, HeadIs, SameItem, AllStart, SameReports}
+use Rattle.std.specs.Prelude.{Ok}
+use Rattle.format.specs.Refusals.{refused_by}
 
 -- ---- the forms
 
@@ -62,9 +63,9 @@ pub record JsonClaims : Type 0 where
 
 pub record CallClaims : Type 0 where
   -- demand 1, and 01: "Refused whole: 1, then 3"; a refused call leaves its buffer as it was
-  pub refuses : (xs out : List ℕ) (m p : ℕ) → mixed_answer xs (length out) ≡ R.Refused m p
+  pub refuses : (xs out : List ℕ) (m p : ℕ) → mixed_answer xs (length out) ≡ refused_by m p
       → Refusal (1 ∷ 3 ∷ []) (mixed_rules xs (length out)) m × (p ≡ 0) × (mixed_left (mixed_answer xs (length out)) xs out ≡ out)
-  pub accepts : (xs : List ℕ) (room n : ℕ) → mixed_answer xs room ≡ R.Written n → None (mixed_rules xs room) × (n ≡ length (mixed_report xs))
+  pub accepts : (xs : List ℕ) (room n : ℕ) → mixed_answer xs room ≡ Ok n → None (mixed_rules xs room) × (n ≡ length (mixed_report xs))
   -- "room here is 17 + 19 x items": it is always enough
   pub fits : (xs : List ℕ) → length (mixed_report xs) ≤ 17 + 19 * length (rows_mixed xs)
 
@@ -128,8 +129,8 @@ pub record CesrClaims : Type 0 where
   pub as-mixed : (f : Form) (xs : List ℕ) → AllStart f xs (rows_mixed xs) (remainder_mixed xs) → SameReports f xs
   -- and so within the form's limit (binary: 3,145,728 bytes) both calls write, the one a byte an item more
   pub calls : (f : Form) (xs : List ℕ) (room : ℕ) → SameReports f xs → length xs ≤ (domain f).limit → 17 + 19 * length (rows_mixed xs) ≤ room
-      → (report_answer (domain f) xs room ≡ R.Written (length (report (domain f) xs)))
-      × (mixed_answer xs room ≡ R.Written (length (report (domain f) xs) + length (rows_mixed xs)))
+      → (report_answer (domain f) xs room ≡ Ok (length (report (domain f) xs)))
+      × (mixed_answer xs room ≡ Ok (length (report (domain f) xs) + length (rows_mixed xs)))
 
 -- ---- all of it
 

@@ -11,8 +11,6 @@ use Rattle.format.specs.declared.Form.{Form}
 use Rattle.format.specs.declared.Form.TheVariants.{Text, Binary}
 use Rattle.format.specs.declared.Kind.{Kind}
 use Rattle.format.specs.declared.Framed.TheVariants.{Item, Unframed}
-use Rattle.format.specs.declared.Reported.{Reported}
-use Rattle.format.specs.declared.Reported.TheVariants as R
 use Rattle.format.specs.Units.{domain}
 use Rattle.format.specs.Framing.{frame_ruled}
 use Rattle.format.specs.Report.{rows, rows_of, frame_in}
@@ -27,6 +25,8 @@ use Rattle.mixed.specs.Mixed.{start_at, frame_start, frame_with, frame_mixed, ju
 use Rattle.mixed_laws.specs.Json.{json-headed}
 use Rattle.mixed_laws.specs.Frames.{frames-mixed}
 use Rattle.mixed_program.specs.Printed.{printed, printed_answer, printed_left, Prints}
+use Rattle.std.specs.Prelude.{Ok, Err, Result}
+use Rattle.format.specs.declared.Refusal.{Refusal}
 
 -- ---- sizes
 
@@ -70,15 +70,15 @@ counts : (n : ℕ) (xs : List ℕ) → n ≤ length xs → IsPrefixLen n xs
 counts n xs l = (l, sym (length-take-le n xs l))
 
 module _ (xs out : List ℕ) where
-  module _ (room : 51887 ≤ length out) (l : length xs ≤ 8192) (r : Reported) (e : r ≡ mixed_answer xs (length out)) where
-    answered : mixed_answer xs (length out) ≡ R.Written (length (mixed_report xs))
+  module _ (room : 51887 ≤ length out) (l : length xs ≤ 8192) (r : Result ℕ (Refusal ℕ)) (e : r ≡ mixed_answer xs (length out)) where
+    answered : mixed_answer xs (length out) ≡ Ok (length (mixed_report xs))
     unfolding mixed_answer
     answered = rw (le-ltb mixed_limit (length xs) (omega arith), le-ltb (length out) (17 + 19 * length (rows_mixed xs)) (omega (arith, few-rows xs l)))
 
-    pub prints : (out' : List ℕ) → out' ≡ mixed_left r xs out → (n : ℕ) → r ≡ R.Written n → Prints xs out n out'
+    pub prints : (out' : List ℕ) → out' ≡ mixed_left r xs out → (n : ℕ) → r ≡ Ok n → Prints xs out n out'
     unfolding printed printed_answer printed_left mixed_left
     prints out' f n q =
-        let w : R.Written n ≡ R.Written (length (mixed_report xs)) = sym q ∙ e ∙ answered in
+        let w : Ok n ≡ Ok (length (mixed_report xs)) = sym q ∙ e ∙ answered in
         let z : n ≡ length (mixed_report xs) = cc in
         let g : out' ≡ mixed_report xs ++ drop n out = f ∙ rw q in
         record {
@@ -88,9 +88,9 @@ module _ (xs out : List ℕ) where
         }
 
     -- 8,192 bytes are never refused here
-    pub never : (a b : ℕ) → r ≡ R.Refused a b → (n : ℕ) (out' : List ℕ) → Prints xs out n out'
-    never a b q n out' =
-        let w : R.Refused a b ≡ R.Written (length (mixed_report xs)) = sym q ∙ e ∙ answered in
+    pub never : (w : Refusal ℕ) → r ≡ Err w → (n : ℕ) (out' : List ℕ) → Prints xs out n out'
+    never w q n out' =
+        let f : Err w ≡ Ok (length (mixed_report xs)) = sym q ∙ e ∙ answered in
         let z : ◌≡◌ {A = ℕ} 0 1 = cc in
         absurd (omega arith)
 

@@ -5,8 +5,6 @@ ghost use Rattle.std.specs.Prelude.{◌≡◌, length};
 ghost use Rattle.program.specs.Counts.{IsPrefixLen};
 ghost use Rattle.mixed_program.specs.Printed.{printed_answer, printed_left, Prints};
 
-use format::Reported;
-
 // The longest stream that is reported, and room for each such report: 17 + 19 x 2,730.
 const LONGEST: usize = 8192;
 
@@ -23,8 +21,8 @@ fn answer(s: &[u8], out: &mut [u8]) -> usize
         return 1;
     }
     match mixed_report::report_mixed(s, out) {
-        Reported::Written(n) => n,
-        Reported::Refused(_, _) => 0,
+        Ok(n) => n,
+        Err(_) => 0,
     }
 }
 

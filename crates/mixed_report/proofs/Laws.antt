@@ -8,7 +8,6 @@ use mir.Val as val
 use lib.ListN.{length}
 use lib.Seq.{sets, sets-eq, length-sets}
 use borrow.Author.Tests.{lt-ltb, le-ltb}
-use Rattle.format.specs.declared.Reported.TheVariants as R
 use Rattle.format.specs.Report.{be4}
 use Rattle.filling.specs.Stores.{be4-long}
 use Rattle.filling.specs.Filling.{report_of, filled-start, filled-few, filled-counts, stop-rows, end-rows, stop-all, end-all}
@@ -29,6 +28,8 @@ use Rattle.mixed_turn.specs.declared.Turn.TheVariants.{Stored, Rest}
 use Rattle.mixed_turn.specs.Turns.{Fill, Filling, After, Turns}
 use Rattle.mixed_report.specs.Turns.{Read, Counted, Begun, Ends, Ended, Written, Answered}
 use Rattle.runs_tables.specs.declared.Tables.{Tables}
+use Rattle.std.specs.Prelude.{Ok}
+use Rattle.format.specs.Refusals.{refused_by}
 
 -- the report is that of the mixed framing, judge and rows
 report-is : (s : List ℕ) → mixed_report s ≡ report_of frame_mixed judge_mixed frames-mixed (mixed_row_bytes s) 10 (row-ten s) s
@@ -176,23 +177,23 @@ module _ {tables : Tables} {s : List ℕ} {known n : ℕ} {o : List ℕ} (C : Co
 pub known-first : (xs : List ℕ) (to : ℕ) → (Known xs 0 0 → Known xs 0 to) → Known xs 0 to
 known-first xs to k = k (known_start xs)
 
-pub too_long : (xs out : List ℕ) → mixed_limit < length xs → R.Refused 1 0 ≡ mixed_answer xs (length out)
+pub too_long : (xs out : List ℕ) → mixed_limit < length xs → refused_by 1 0 ≡ mixed_answer xs (length out)
 unfolding mixed_answer
 too_long xs out l = rw (lt-ltb mixed_limit (length xs) l)
 
 module _ (xs out : List ℕ) {tables : Tables} {known : ℕ} (Q : Read tables xs known) (n : ℕ) (T : Total tables xs known n) where
-  pub no_room : length out < 17 + 19 * n → Answered xs out (R.Refused 3 0) out
+  pub no_room : length out < 17 + 19 * n → Answered xs out (refused_by 3 0) out
   unfolding mixed_answer mixed_left
   no_room k = record { answer = rw (le-ltb mixed_limit (length xs) Q.few, ← (T.right Q.lent Q.clean), lt-ltb (length out) (17 + 19 * n) k); left = refl }
 
-  pub with-room : 17 + 19 * n ≤ length out → (w : ℕ) (out' : List ℕ) → Written xs out w out' → Answered xs out (R.Written w) out'
+  pub with-room : 17 + 19 * n ≤ length out → (w : ℕ) (out' : List ℕ) → Written xs out w out' → Answered xs out (Ok w) out'
   unfolding mixed_answer mixed_left
   with-room k w out' W =
       let z : 0 + length (mixed_report xs) ≡ length (mixed_report xs) = omega arith in
       let e = T.right Q.lent Q.clean in
       let fits : 0 + length (mixed_report xs) ≤ length out = omega (arith, proved.call.fits xs) in
       record {
-        answer = rw (le-ltb mixed_limit (length xs) Q.few, ← e, le-ltb (length out) (17 + 19 * n) k) (ap R.Written W.long);
+        answer = rw (le-ltb mixed_limit (length xs) Q.few, ← e, le-ltb (length out) (17 + 19 * n) k) (ap Ok W.long);
         left = W.held ∙ sets-eq (mixed_report xs) out 0 fits ∙ rw (z, W.long);
       }
 

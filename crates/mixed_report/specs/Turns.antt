@@ -1,7 +1,6 @@
 -- The loop that stores a mixed report's rows: what all its turns ask, and what they leave. Assumes nothing.
 use Rattle.std.specs.Prelude.{ℕ, ◌+◌, ◌*◌, ◌≤◌, ◌≡◌, List, [], ◌∷◌, ◌++◌, length}
 use Rattle.std.proofs.lemmas.List.Edits.{sets}
-use Rattle.format.specs.declared.Reported.{Reported}
 use Rattle.format.specs.Report.{be4}
 use Rattle.runs_tables.specs.declared.Tables.{Tables}
 use Rattle.runs_tables.specs.Lent.{Lent}
@@ -10,6 +9,8 @@ use Rattle.report_last.specs.declared.End.TheVariants.{Whole, Rest}
 use Rattle.mixed.specs.Mixed.{rows_mixed, mixed_report, mixed_limit, mixed_answer, mixed_left}
 use Rattle.mixed_known.specs.Known.{Known}
 use Rattle.mixed_turn.specs.Turns.{Fill}
+use Rattle.std.specs.Prelude.{Result}
+use Rattle.format.specs.declared.Refusal.{Refusal}
 
 -- a stream within the limit, how far its characters are known, and the tables
 pub record Read (tables : Tables) (s : List ℕ) (known : ℕ) : Type 0 where
@@ -51,6 +52,6 @@ pub record Written (s out : List ℕ) (r : ℕ) (out' : List ℕ) : Type 0 where
   pub held : out' ≡ sets out 0 (mixed_report s)
 
 -- a call's answer, and what it leaves
-pub record Answered (s out : List ℕ) (r : Reported) (out' : List ℕ) : Type 0 where
+pub record Answered (s out : List ℕ) (r : Result ℕ (Refusal ℕ)) (out' : List ℕ) : Type 0 where
   pub answer : r ≡ mixed_answer s (length out)
   pub left : out' ≡ mixed_left r s out

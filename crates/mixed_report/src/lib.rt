@@ -9,7 +9,7 @@ ghost use Rattle.mixed.specs.Mixed.{mixed_answer, mixed_left};
 ghost use Rattle.mixed_report.specs.Turns.{Read, Counted, Begun, Ends, Ended, Written, Answered};
 
 use filling::Position;
-use format::Reported;
+use format::Refusal;
 use mixed_turn::Turn;
 use report_last::End;
 use runs_tables::Tables;
@@ -75,25 +75,36 @@ fn fill(tables: &Tables, s: &[u8], out: &mut [u8], known: usize, n: usize) -> us
 // ---- the call
 
 // By the tables.
-fn report_by(tables: &Tables, s: &[u8], out: &mut [u8], known: usize) -> Reported
+fn report_by(
+    tables: &Tables,
+    s: &[u8],
+    out: &mut [u8],
+    known: usize,
+) -> Result<usize, Refusal<usize>>
     requires { Read tables.now s.now known }
     ensures { Answered s.now out.old result out.new }
 {
     let n = mixed_count::count(tables, s, known);
     if out.len() < 17 + 19 * n {
-        return Reported::Refused(3, 0);
+        return Err(Refusal {
+            number: 3,
+            place: 0,
+        });
     }
     let length = fill(tables, s, out, known, n);
-    Reported::Written(length)
+    Ok(length)
 }
 
 // The report of a mixed stream in a buffer: its length, or 1 or 3, which leave the buffer as it was.
-pub fn report_mixed(s: &[u8], out: &mut [u8]) -> Reported
+pub fn report_mixed(s: &[u8], out: &mut [u8]) -> Result<usize, Refusal<usize>>
     ensures value { result ≡ mixed_answer s.now (length out.old) }
     ensures out_after { out.new ≡ mixed_left result s.now out.old }
 {
     if 4194304 < s.len() {
-        return Reported::Refused(1, 0);
+        return Err(Refusal {
+            number: 1,
+            place: 0,
+        });
     }
     let tables = Tables::new();
     let known = mixed_known::known(s, 0, 0);

@@ -4,7 +4,7 @@
 ghost use Rattle.std.specs.Prelude.{◌≡◌};
 ghost use Rattle.format.specs.Offsets.{offset_in_binary, offset_in_text};
 
-use format::{BinaryOffset, InText, TextOffset};
+use format::{BinaryOffset, TextOffset};
 
 // The start of the unit that holds a text offset, as a binary offset.
 pub fn in_binary(t: TextOffset) -> BinaryOffset
@@ -15,13 +15,13 @@ pub fn in_binary(t: TextOffset) -> BinaryOffset
 }
 
 // The start of the unit that holds a binary offset, as a text offset; none past the longest stream.
-pub fn in_text(b: BinaryOffset) -> InText
+pub fn in_text(b: BinaryOffset) -> Option<TextOffset>
     ensures { result ≡ offset_in_text b }
 {
     let n = b.0;
     if n <= 3145728 {
-        InText::At(TextOffset(n / 3 * 4))
+        Some(TextOffset(n / 3 * 4))
     } else {
-        InText::Past
+        None
     }
 }

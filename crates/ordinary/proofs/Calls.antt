@@ -12,16 +12,8 @@ use Rattle.format.specs.declared.Framed.{Framed}
 use Rattle.format.specs.declared.Framed.TheVariants.{Item, Unframed}
 use Rattle.format.specs.declared.Verdict.{Verdict}
 use Rattle.format.specs.declared.Verdict.TheVariants.{Accepted, Refused}
-use Rattle.format.specs.declared.ToBinary.{ToBinary}
-use Rattle.format.specs.declared.ToBinary.TheVariants as B
 use Rattle.format.specs.declared.BinaryOffset.{BinaryOffset}
-use Rattle.format.specs.declared.TextFound.{TextFound}
-use Rattle.format.specs.declared.TextFound.TheVariants as TF
 use Rattle.format.specs.declared.Code.{Code}
-use Rattle.format.specs.declared.TextWritten.{TextWritten}
-use Rattle.format.specs.declared.TextWritten.TheVariants as TW
-use Rattle.format.specs.declared.BinaryWritten.{BinaryWritten}
-use Rattle.format.specs.declared.BinaryWritten.TheVariants as BW
 use Rattle.format.specs.Alphabet.{sextet_of, stranger_number}
 use Rattle.format.specs.Units.{text, text_sextets}
 use Rattle.format.specs.Framing.{sextet, frame}
@@ -41,6 +33,11 @@ use Rattle.ordinary.specs.Words.{text_written_five, binary_written_five}
 use Rattle.ordinary.proofs.Marks.{pick_to, plain, plain-test, plain-zero, plain-number, plain-all, sextet-masked, sextets-masked, masked-known}
 use Rattle.ordinary.proofs.Framed.{header-known, frame-five}
 use Rattle.ordinary.proofs.Judged.{kind-five, check-five}
+use Rattle.std.specs.Prelude.{Ok, Err, Result}
+use Rattle.format.specs.declared.Refusal.{Refusal}
+use Rattle.format.specs.Refusals.{refused_by}
+use Rattle.format.specs.declared.TextOffset.{TextOffset}
+use Rattle.format.specs.declared.Primitive.{Primitive}
 
 -- ---- conversion
 
@@ -66,13 +63,13 @@ converts s room =
     (λ _. pick_to to_binary_five (ltb room (length s / 4 * 3)) _ _ _ _ (λ _. refl) (λ _. refl)))))
 
 -- what is converted is in the alphabet
-never {ℓ} : {A : Type ℓ} (m : ℕ) {p : _} {n : BinaryOffset} → B.Refused m p ≡ B.Written n → A
+never {ℓ} : {A : Type ℓ} (m : ℕ) {p : TextOffset} {n : BinaryOffset} → refused_by m p ≡ Ok n → A
 never m e = let z : ◌≡◌ {A = ℕ} 0 1 = cc in absurd (omega arith)
 
-converted-known : (s : List ℕ) (room : ℕ) (n : BinaryOffset) → text_to_binary s room ≡ B.Written n → length s ≤ first_stranger s
+converted-known : (s : List ℕ) (room : ℕ) (n : BinaryOffset) → text_to_binary s room ≡ Ok n → length s ≤ first_stranger s
 unfolding text_to_binary
 converted-known s room n =
-    let P : ToBinary → Type 0 = λ r. r ≡ B.Written n → length s ≤ first_stranger s in
+    let P : Result BinaryOffset (Refusal TextOffset) → Type 0 = λ r. r ≡ Ok n → length s ≤ first_stranger s in
     pick-by P (ltb text.limit (length s)) _ _ (λ _. never 1)
     (λ _. pick-by P (ltb 0 (length s % 4)) _ _ (λ _. never 2)
     (λ _. pick-by P (ltb (first_stranger s) (length s)) _ _ (λ _. never (first_number s)) (λ e _. ltb-false _ _ e)))
@@ -82,9 +79,9 @@ pub converts-left : (s d : List ℕ)
 unfolding binary_left to_binary_five
 converts-left s d = rw (converts s (length d)) (go (text_to_binary s (length d)) refl)
   where
-    go : (r : ToBinary) → text_to_binary s (length d) ≡ r → binary_left (to_binary_five r) (masked s) d ≡ binary_left r s d
-    go (B.Refused m p) e = refl
-    go (B.Written n) e = rw (masked-known s (all_known s (converted-known s (length d) n e)))
+    go : (r : Result BinaryOffset (Refusal TextOffset)) → text_to_binary s (length d) ≡ r → binary_left (to_binary_five r) (masked s) d ≡ binary_left r s d
+    go (Err r) e = refl
+    go (Ok n) e = rw (masked-known s (all_known s (converted-known s (length d) n e)))
 
 -- ---- reading
 
@@ -150,9 +147,9 @@ pub reads-left : (s : List ℕ) (at : ℕ) (d : List ℕ)
 unfolding value_left text_read_five text_found_five
 reads-left s at d = rw (reads s at (length d)) (go (read_text s at (length d)).found)
   where
-    go : (f : TextFound) → value_left (text_found_five f) (masked s) at d ≡ value_left f s at d
-    go (TF.Refused m p) = refl
-    go (TF.Found q) =
+    go : (f : Result Primitive (Refusal TextOffset)) → value_left (text_found_five f) (masked s) at d ≡ value_left f s at d
+    go (Err e) = refl
+    go (Ok q) =
         let t : List ℕ = text.sextets (from at s) in
         rw (from-masked s at, reading-five t, value-five t (reading t) refl)
 

@@ -10,16 +10,8 @@ use Rattle.format.specs.declared.Framed.TheVariants.{Item, Unframed}
 use Rattle.format.specs.declared.Verdict.{Verdict}
 use Rattle.format.specs.declared.Verdict.TheVariants.{Accepted, Refused}
 use Rattle.format.specs.declared.TextOffset.{TextOffset}
-use Rattle.format.specs.declared.ToBinary.{ToBinary}
-use Rattle.format.specs.declared.ToBinary.TheVariants as B
 use Rattle.format.specs.declared.Code.{Code}
-use Rattle.format.specs.declared.TextFound.{TextFound}
-use Rattle.format.specs.declared.TextFound.TheVariants as TF
-use Rattle.format.specs.declared.TextRead.{TextRead}
-use Rattle.format.specs.declared.TextWritten.{TextWritten}
-use Rattle.format.specs.declared.TextWritten.TheVariants as TW
-use Rattle.format.specs.declared.BinaryWritten.{BinaryWritten}
-use Rattle.format.specs.declared.BinaryWritten.TheVariants as BW
+use Rattle.format.specs.declared.PrimitiveRead.{PrimitiveRead}
 use Rattle.format.specs.Alphabet.{is_ordinary, sextet_of, stranger_number}
 use Rattle.format.specs.Units.{text, text_sextets}
 use Rattle.format.specs.Framing.{frame}
@@ -46,6 +38,12 @@ use Rattle.ordinary.proofs.Calls.{converts, reads, writes-text, writes-binary}
 use Rattle.ordinary.proofs.Walks.{steps}
 use Rattle.ordinary.proofs.Places.{Shown, On, FramedOn, behind-shown, within-shown, on-within, kind-on, check-on, frame_on, next-on}
 use Rattle.ordinary.proofs.Places.{in-text, framed-on, judged-on, rows_on}
+use Rattle.std.specs.Prelude.{Ok, Err, Result}
+use Rattle.format.specs.declared.Refusal.{Refusal}
+use Rattle.format.specs.Refusals.{refused_by}
+use Rattle.ordinary.proofs.Refused.{same_refusal}
+use Rattle.format.specs.declared.BinaryOffset.{BinaryOffset}
+use Rattle.format.specs.declared.Primitive.{Primitive}
 
 -- ---- one number at a place
 
@@ -136,9 +134,9 @@ rows s = refusal-rows s 0 (rows_in text s) (rows_on s)
 
 -- ---- conversion
 
-abbrev ConvertedOn : List ℕ → ToBinary → Type 0
-ConvertedOn s (B.Written n) = Unit {0}
-ConvertedOn s (B.Refused n p) = Numbered s n p.0
+abbrev ConvertedOn : List ℕ → Result BinaryOffset (Refusal TextOffset) → Type 0
+ConvertedOn s (Ok n) = Unit {0}
+ConvertedOn s (Err why) = Numbered s why.number why.place.0
 
 converted-on : (s : List ℕ) (room : ℕ) → ConvertedOn s (text_to_binary s room)
 unfolding text_to_binary first_number as_five
@@ -148,16 +146,16 @@ converted-on s room =
     (λ _. pick-by (ConvertedOn s) (ltb (first_stranger s) (length s)) _ _ (λ _ e. refl)
     (λ _. pick-by (ConvertedOn s) (ltb room (length s / 4 * 3)) _ _ (λ _ e. absurd (omega arith)) (λ _. tt))))
 
-converted-seen : (r : ToBinary) → ((n : ℕ) × (p : TextOffset) × (r ≡ B.Refused n p)) ⊎ ((m : ℕ) (q : TextOffset) → to_binary_five r ≡ B.Refused m q → ⊥)
+converted-seen : (r : Result BinaryOffset (Refusal TextOffset)) → ((n : ℕ) × (p : TextOffset) × (r ≡ refused_by n p)) ⊎ ((m : ℕ) (q : TextOffset) → to_binary_five r ≡ refused_by m q → ⊥)
 unfolding to_binary_five
-converted-seen (B.Refused n p) = inl (n, p, refl)
-converted-seen (B.Written n) = inr (λ m q e. let z : ◌≡◌ {A = ℕ} 0 1 = cc in omega arith)
+converted-seen (Err why) = inl (why.number, why.place, refl)
+converted-seen (Ok n) = inr (λ m q e. let z : ◌≡◌ {A = ℕ} 0 1 = cc in omega arith)
 
 pub converted : (s : List ℕ) (room : ℕ) (p : TextOffset)
-    → Exactly (text_to_binary s room ≡ B.Refused 19 p) ((text_to_binary (masked s) room ≡ B.Refused 5 p) × OrdinaryAt s p.0)
+    → Exactly (text_to_binary s room ≡ refused_by 19 p) ((text_to_binary (masked s) room ≡ refused_by 5 p) × OrdinaryAt s p.0)
 unfolding to_binary_five
 converted s room p =
-    exactly B.Refused to_binary_five (λ q. q.0) (λ n q. refl) (λ m n q r e. (cc, cc)) s (text_to_binary s room) (text_to_binary (masked s) room)
+    exactly refused_by to_binary_five (λ q. q.0) (λ n q. refl) same_refusal s (text_to_binary s room) (text_to_binary (masked s) room)
     (converts s room) (converted-seen (text_to_binary s room)) (λ n q e. subst (ConvertedOn s) e (converted-on s room)) p
 
 -- ---- reading
@@ -184,9 +182,9 @@ reading-on : (s : List ℕ) → ReadOn s (reading s)
 unfolding reading
 reading-on s = framed-read s (frame s) (frame_on false s)
 
-abbrev FoundOn : List ℕ → TextFound → Type 0
-FoundOn s (TF.Found q) = Unit {0}
-FoundOn s (TF.Refused m p) = Numbered s m p.0
+abbrev FoundOn : List ℕ → Result Primitive (Refusal TextOffset) → Type 0
+FoundOn s (Ok q) = Unit {0}
+FoundOn s (Err why) = Numbered s why.number why.place.0
 
 answer-on : (s : List ℕ) (at room : ℕ) (r : Reading) → ReadOn (text_sextets (drop at s)) r
     → FoundOn s (text_answer at r (text_sextets (drop at s)) room).found
@@ -194,25 +192,25 @@ unfolding text_answer place_from as_five
 answer-on s at room (refused m p) o =
     rw (div-add-mod' p 4) (shown s m (at + p) (behind-shown sextet_of at s m p (in-text (drop at s) m p o)))
 answer-on s at room (found k h n) o =
-    pick-by (λ (r : TextRead). FoundOn s r.found) (ltb room _) _ _ (λ _ e. absurd (omega arith)) (λ _. tt)
+    pick-by (λ (r : PrimitiveRead TextOffset). FoundOn s r.found) (ltb room _) _ _ (λ _ e. absurd (omega arith)) (λ _. tt)
 
 read-on : (s : List ℕ) (at room : ℕ) → FoundOn s (read_text s at room).found
 unfolding read_text from as_five
 read-on s at room =
-    pick-by (λ (r : TextRead). FoundOn s r.found) (ltb text.limit (length s)) _ _ (λ _ e. absurd (omega arith))
+    pick-by (λ (r : PrimitiveRead TextOffset). FoundOn s r.found) (ltb text.limit (length s)) _ _ (λ _ e. absurd (omega arith))
     (λ _. answer-on s at room (reading (text_sextets (drop at s))) (reading-on (text_sextets (drop at s))))
 
-found-seen : (r : TextFound) → ((n : ℕ) × (p : TextOffset) × (r ≡ TF.Refused n p)) ⊎ ((m : ℕ) (q : TextOffset) → text_found_five r ≡ TF.Refused m q → ⊥)
+found-seen : (r : Result Primitive (Refusal TextOffset)) → ((n : ℕ) × (p : TextOffset) × (r ≡ refused_by n p)) ⊎ ((m : ℕ) (q : TextOffset) → text_found_five r ≡ refused_by m q → ⊥)
 unfolding text_found_five
-found-seen (TF.Refused n p) = inl (n, p, refl)
-found-seen (TF.Found q) = inr (λ m p e. let z : ◌≡◌ {A = ℕ} 0 1 = cc in omega arith)
+found-seen (Err why) = inl (why.number, why.place, refl)
+found-seen (Ok q) = inr (λ m p e. let z : ◌≡◌ {A = ℕ} 0 1 = cc in omega arith)
 
 pub read : (s : List ℕ) (at room : ℕ) (p : TextOffset)
-    → Exactly ((read_text s at room).found ≡ TF.Refused 19 p) (((read_text (masked s) at room).found ≡ TF.Refused 5 p) × OrdinaryAt s p.0)
+    → Exactly ((read_text s at room).found ≡ refused_by 19 p) (((read_text (masked s) at room).found ≡ refused_by 5 p) × OrdinaryAt s p.0)
 unfolding text_read_five text_found_five
 read s at room p =
-    exactly TF.Refused text_found_five (λ q. q.0) (λ n q. refl) (λ m n q r e. (cc, cc)) s (read_text s at room).found
-    (read_text (masked s) at room).found (ap (λ (r : TextRead). r.found) (reads s at room)) (found-seen (read_text s at room).found)
+    exactly refused_by text_found_five (λ q. q.0) (λ n q. refl) same_refusal s (read_text s at room).found
+    (read_text (masked s) at room).found (ap (λ (r : PrimitiveRead TextOffset). r.found) (reads s at room)) (found-seen (read_text s at room).found)
     (λ n q e. subst (FoundOn s) e (read-on s at room)) p
 
 -- ---- writing
@@ -245,39 +243,39 @@ module _ (code : Code) (tag : List ℕ) (tags : ℕ) (raw : List ℕ) (room : �
       (λ _ e. absurd (omega arith)))
       (λ _ e. absurd (omega arith)))
 
-  text-numbered : (w : W.Writing) → WritingOn w → (n p : ℕ) → W.text_outcome w ≡ TW.Refused n p → Numbered chars n p
+  text-numbered : (w : W.Writing) → WritingOn w → (n p : ℕ) → W.text_outcome w ≡ refused_by n p → Numbered chars n p
   unfolding W.text_outcome
-  text-numbered (W.refused m q) o n p e = let a : m ≡ n = cc in let b : q ≡ p = cc in rw (← a, ← b) o
+  text-numbered (W.refused m q) o n p e = let s = same_refusal m n q p e in rw (← s.0, ← s.1) o
   text-numbered (W.written m) o n p e = let z : ◌≡◌ {A = ℕ} 0 1 = cc in absurd (omega arith)
 
-  binary-numbered : (w : W.Writing) → WritingOn w → (n p : ℕ) → W.binary_outcome w ≡ BW.Refused n p → Numbered chars n p
+  binary-numbered : (w : W.Writing) → WritingOn w → (n p : ℕ) → W.binary_outcome w ≡ refused_by n p → Numbered chars n p
   unfolding W.binary_outcome
-  binary-numbered (W.refused m q) o n p e = let a : m ≡ n = cc in let b : q ≡ p = cc in rw (← a, ← b) o
+  binary-numbered (W.refused m q) o n p e = let s = same_refusal m n q p e in rw (← s.0, ← s.1) o
   binary-numbered (W.written m) o n p e = let z : ◌≡◌ {A = ℕ} 0 1 = cc in absurd (omega arith)
 
-  text-seen : (r : TextWritten) → ((n : ℕ) × (p : ℕ) × (r ≡ TW.Refused n p)) ⊎ ((m q : ℕ) → text_written_five r ≡ TW.Refused m q → ⊥)
+  text-seen : (r : Result TextOffset (Refusal ℕ)) → ((n : ℕ) × (p : ℕ) × (r ≡ refused_by n p)) ⊎ ((m q : ℕ) → text_written_five r ≡ refused_by m q → ⊥)
   unfolding text_written_five
-  text-seen (TW.Refused n p) = inl (n, p, refl)
-  text-seen (TW.Written n) = inr (λ m q e. let z : ◌≡◌ {A = ℕ} 0 1 = cc in omega arith)
+  text-seen (Err why) = inl (why.number, why.place, refl)
+  text-seen (Ok n) = inr (λ m q e. let z : ◌≡◌ {A = ℕ} 0 1 = cc in omega arith)
 
-  binary-seen : (r : BinaryWritten) → ((n : ℕ) × (p : ℕ) × (r ≡ BW.Refused n p)) ⊎ ((m q : ℕ) → binary_written_five r ≡ BW.Refused m q → ⊥)
+  binary-seen : (r : Result BinaryOffset (Refusal ℕ)) → ((n : ℕ) × (p : ℕ) × (r ≡ refused_by n p)) ⊎ ((m q : ℕ) → binary_written_five r ≡ refused_by m q → ⊥)
   unfolding binary_written_five
-  binary-seen (BW.Refused n p) = inl (n, p, refl)
-  binary-seen (BW.Written n) = inr (λ m q e. let z : ◌≡◌ {A = ℕ} 0 1 = cc in omega arith)
+  binary-seen (Err why) = inl (why.number, why.place, refl)
+  binary-seen (Ok n) = inr (λ m q e. let z : ◌≡◌ {A = ℕ} 0 1 = cc in omega arith)
 
-  pub written-text : (p : ℕ) → Exactly (W.write_text code tag tags raw room ≡ TW.Refused 19 p)
-      ((W.write_text code (masked tag) tags (masked_text (W.named code) raw) room ≡ TW.Refused 5 p) × OrdinaryAt chars p)
+  pub written-text : (p : ℕ) → Exactly (W.write_text code tag tags raw room ≡ refused_by 19 p)
+      ((W.write_text code (masked tag) tags (masked_text (W.named code) raw) room ≡ refused_by 5 p) × OrdinaryAt chars p)
   unfolding W.write_text text_written_five
   written-text p =
-      exactly TW.Refused text_written_five (λ q. q) (λ n q. refl) (λ m n q r e. (cc, cc)) chars (W.write_text code tag tags raw room)
+      exactly refused_by text_written_five (λ q. q) (λ n q. refl) same_refusal chars (W.write_text code tag tags raw room)
       (W.write_text code (masked tag) tags (masked_text (W.named code) raw) room) (writes-text code tag tags raw room) (text-seen (W.write_text code tag tags raw room))
       (text-numbered (W.writing 4 (W.named code) tag tags raw room) (writing-on 4)) p
 
-  pub written-binary : (p : ℕ) → Exactly (W.write_binary code tag tags raw room ≡ BW.Refused 19 p)
-      ((W.write_binary code (masked tag) tags (masked_text (W.named code) raw) room ≡ BW.Refused 5 p) × OrdinaryAt chars p)
+  pub written-binary : (p : ℕ) → Exactly (W.write_binary code tag tags raw room ≡ refused_by 19 p)
+      ((W.write_binary code (masked tag) tags (masked_text (W.named code) raw) room ≡ refused_by 5 p) × OrdinaryAt chars p)
   unfolding W.write_binary binary_written_five
   written-binary p =
-      exactly BW.Refused binary_written_five (λ q. q) (λ n q. refl) (λ m n q r e. (cc, cc)) chars (W.write_binary code tag tags raw room)
+      exactly refused_by binary_written_five (λ q. q) (λ n q. refl) same_refusal chars (W.write_binary code tag tags raw room)
       (W.write_binary code (masked tag) tags (masked_text (W.named code) raw) room) (writes-binary code tag tags raw room) (binary-seen (W.write_binary code tag tags raw room))
       (binary-numbered (W.writing 3 (W.named code) tag tags raw room) (writing-on 3)) p
 

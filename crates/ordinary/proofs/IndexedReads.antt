@@ -11,8 +11,6 @@ use Rattle.format.specs.declared.Framed.{Framed}
 use Rattle.format.specs.declared.Framed.TheVariants.{Item, Unframed}
 use Rattle.format.specs.declared.Verdict.{Verdict}
 use Rattle.format.specs.declared.TextOffset.{TextOffset}
-use Rattle.format.specs.declared.TextIndexed.{TextIndexed}
-use Rattle.format.specs.declared.TextIndexed.TheVariants as TI
 use Rattle.format.specs.Alphabet.{sextet_of}
 use Rattle.format.specs.Units.{text, text_sextets}
 use Rattle.format.specs.Framing.{sextet, frame_indexed}
@@ -30,6 +28,11 @@ use Rattle.ordinary.proofs.Judged.{kind-five, check-five}
 use Rattle.ordinary.proofs.Calls.{reading_five, judged-five, from-masked}
 use Rattle.ordinary.proofs.Places.{On, FramedOn, behind-shown, on-within, kind-on, check-on, frame_on, in-text}
 use Rattle.ordinary.proofs.Exact.{Numbered, shown, ReadOn, judged-read, exactly}
+use Rattle.std.specs.Prelude.{Ok, Err, Result}
+use Rattle.format.specs.declared.Refusal.{Refusal}
+use Rattle.format.specs.Refusals.{refused_by}
+use Rattle.ordinary.proofs.Refused.{same_refusal}
+use Rattle.format.specs.declared.IndexedItem.{IndexedItem}
 
 -- ---- masked characters
 
@@ -86,9 +89,9 @@ pub reads-indexed-left : (s : List ℕ) (at : ℕ) (d : List ℕ)
 unfolding indexed_left text_indexed_five
 reads-indexed-left s at d = rw (reads-indexed s at (length d)) (go (read_indexed_text s at (length d)))
   where
-    go : (f : TextIndexed) → indexed_left (text_indexed_five f) (masked s) at d ≡ indexed_left f s at d
-    go (TI.Refused m p) = refl
-    go (TI.Found q) =
+    go : (f : Result IndexedItem (Refusal TextOffset)) → indexed_left (text_indexed_five f) (masked s) at d ≡ indexed_left f s at d
+    go (Err e) = refl
+    go (Ok q) =
         let t : List ℕ = text.sextets (from at s) in
         rw (from-masked s at, reading-five t, raw-five t (reading_indexed t) refl)
 
@@ -105,9 +108,9 @@ reading-on : (s : List ℕ) → ReadOn s (reading_indexed s)
 unfolding reading_indexed
 reading-on s = framed-read s (frame_indexed s) (frame_on true s)
 
-abbrev FoundOn : List ℕ → TextIndexed → Type 0
-FoundOn s (TI.Found q) = Unit {0}
-FoundOn s (TI.Refused m p) = Numbered s m p.0
+abbrev FoundOn : List ℕ → Result IndexedItem (Refusal TextOffset) → Type 0
+FoundOn s (Ok q) = Unit {0}
+FoundOn s (Err why) = Numbered s why.number why.place.0
 
 answer-on : (s : List ℕ) (at room : ℕ) (r : Reading) → ReadOn (text_sextets (drop at s)) r
     → FoundOn s (text_indexed_answer at r (text_sextets (drop at s)) room)
@@ -123,16 +126,16 @@ read-on s at room =
     pick-by (FoundOn s) (ltb text.limit (length s)) _ _ (λ _ e. absurd (omega arith))
     (λ _. answer-on s at room (reading_indexed (text_sextets (drop at s))) (reading-on (text_sextets (drop at s))))
 
-found-seen : (r : TextIndexed) → ((n : ℕ) × (p : TextOffset) × (r ≡ TI.Refused n p))
-    ⊎ ((m : ℕ) (q : TextOffset) → text_indexed_five r ≡ TI.Refused m q → ⊥)
+found-seen : (r : Result IndexedItem (Refusal TextOffset)) → ((n : ℕ) × (p : TextOffset) × (r ≡ refused_by n p))
+    ⊎ ((m : ℕ) (q : TextOffset) → text_indexed_five r ≡ refused_by m q → ⊥)
 unfolding text_indexed_five
-found-seen (TI.Refused n p) = inl (n, p, refl)
-found-seen (TI.Found q) = inr (λ m p e. let z : ◌≡◌ {A = ℕ} 0 1 = cc in omega arith)
+found-seen (Err why) = inl (why.number, why.place, refl)
+found-seen (Ok q) = inr (λ m p e. let z : ◌≡◌ {A = ℕ} 0 1 = cc in omega arith)
 
 pub read-indexed : (s : List ℕ) (at room : ℕ) (p : TextOffset)
-    → Exactly (read_indexed_text s at room ≡ TI.Refused 19 p) ((read_indexed_text (masked s) at room ≡ TI.Refused 5 p) × OrdinaryAt s p.0)
+    → Exactly (read_indexed_text s at room ≡ refused_by 19 p) ((read_indexed_text (masked s) at room ≡ refused_by 5 p) × OrdinaryAt s p.0)
 unfolding text_indexed_five
 read-indexed s at room p =
-    exactly TI.Refused text_indexed_five (λ q. q.0) (λ n q. refl) (λ m n q r e. (cc, cc)) s (read_indexed_text s at room)
+    exactly refused_by text_indexed_five (λ q. q.0) (λ n q. refl) same_refusal s (read_indexed_text s at room)
     (read_indexed_text (masked s) at room) (reads-indexed s at room) (found-seen (read_indexed_text s at room))
     (λ n q e. subst (FoundOn s) e (read-on s at room)) p

@@ -1,3 +1,4 @@
+pub mod Refused
 pub mod Reports
 pub mod Judged
 pub mod Calls

@@ -3,14 +3,9 @@
 -- the numbers stand in 01's order, 19 beside 5, is Demand1 and the walk's `refuses`; the table's marks are LookupClaims. Assumes nothing.
 use Rattle.std.specs.Prelude.{ℕ, ◌≡◌, List, map, length}
 use Rattle.format.specs.declared.TextOffset.{TextOffset}
-use Rattle.format.specs.declared.ToBinary.TheVariants as B
 use Rattle.format.specs.declared.Code.{Code}
 use Rattle.format.specs.declared.Framed.TheVariants.{Unframed}
 use Rattle.format.specs.declared.Verdict.TheVariants.{Refused}
-use Rattle.format.specs.declared.TextFound.TheVariants as TF
-use Rattle.format.specs.declared.TextIndexed.TheVariants as TI
-use Rattle.format.specs.declared.TextWritten.TheVariants as TW
-use Rattle.format.specs.declared.BinaryWritten.TheVariants as BW
 use Rattle.format.specs.Units.{text}
 use Rattle.format.specs.Conversion.{text_to_binary, binary_left}
 use Rattle.format.specs.Report.{RefusalRow, rows_in, refusals_in, remainder_in, frame_in, judge_in, report, report_answer}
@@ -23,6 +18,7 @@ use Rattle.walk_state.specs.Walking.{step_in}
 use Rattle.walk_claims.specs.Words.{after}
 use Rattle.ordinary.specs.Words.{masked, masked_text, OrdinaryAt, as_five, verdict_five, framed_five, row_five, refusal_five, remainder_five, report_five}
 use Rattle.ordinary.specs.Words.{to_binary_five, text_read_five, text_indexed_five, text_written_five, binary_written_five, stepped_five, Exactly, Each}
+use Rattle.format.specs.Refusals.{refused_by}
 
 -- ---- "every caller should report them as number 19 where they would have given 5, at the same place in the same order." If `!` stands for
 -- each of the three, each answer is the same, but that 5 is given for 19
@@ -69,18 +65,18 @@ pub record NineteenClaims : Type 0 where
   pub judged : (s : List ℕ) (p : ℕ) → Exactly (judge_in text s ≡ Refused 19 p) ((judge_in text (masked s) ≡ Refused 5 p) × OrdinaryAt s p)
   pub rows : (s : List ℕ) → Each (λ r. Exactly (r.number ≡ 19) (((refusal_five r).number ≡ 5) × OrdinaryAt s r.place)) (refusals_in text s)
   pub converted : (s : List ℕ) (room : ℕ) (p : TextOffset)
-      → Exactly (text_to_binary s room ≡ B.Refused 19 p) ((text_to_binary (masked s) room ≡ B.Refused 5 p) × OrdinaryAt s p.0)
+      → Exactly (text_to_binary s room ≡ refused_by 19 p) ((text_to_binary (masked s) room ≡ refused_by 5 p) × OrdinaryAt s p.0)
   pub read : (s : List ℕ) (at room : ℕ) (p : TextOffset)
-      → Exactly ((read_text s at room).found ≡ TF.Refused 19 p) (((read_text (masked s) at room).found ≡ TF.Refused 5 p) × OrdinaryAt s p.0)
+      → Exactly ((read_text s at room).found ≡ refused_by 19 p) (((read_text (masked s) at room).found ≡ refused_by 5 p) × OrdinaryAt s p.0)
   pub read-indexed : (s : List ℕ) (at room : ℕ) (p : TextOffset)
-      → Exactly (read_indexed_text s at room ≡ TI.Refused 19 p) ((read_indexed_text (masked s) at room ≡ TI.Refused 5 p) × OrdinaryAt s p.0)
+      → Exactly (read_indexed_text s at room ≡ refused_by 19 p) ((read_indexed_text (masked s) at room ≡ refused_by 5 p) × OrdinaryAt s p.0)
   -- a writer's place is that among the characters asked: a text's own, for every other code the tag's
   pub written-text : (code : Code) (tag : List ℕ) (tags : ℕ) (raw : List ℕ) (room p : ℕ)
-      → Exactly (write_text code tag tags raw room ≡ TW.Refused 19 p)
-      ((write_text code (masked tag) tags (masked_text (named code) raw) room ≡ TW.Refused 5 p) × OrdinaryAt (chars_of (named code) tag raw) p)
+      → Exactly (write_text code tag tags raw room ≡ refused_by 19 p)
+      ((write_text code (masked tag) tags (masked_text (named code) raw) room ≡ refused_by 5 p) × OrdinaryAt (chars_of (named code) tag raw) p)
   pub written-binary : (code : Code) (tag : List ℕ) (tags : ℕ) (raw : List ℕ) (room p : ℕ)
-      → Exactly (write_binary code tag tags raw room ≡ BW.Refused 19 p)
-      ((write_binary code (masked tag) tags (masked_text (named code) raw) room ≡ BW.Refused 5 p) × OrdinaryAt (chars_of (named code) tag raw) p)
+      → Exactly (write_binary code tag tags raw room ≡ refused_by 19 p)
+      ((write_binary code (masked tag) tags (masked_text (named code) raw) room ≡ refused_by 5 p) × OrdinaryAt (chars_of (named code) tag raw) p)
   pub stepped : (s : List ℕ) (w : Walk) (p : ℕ)
       → Exactly ((step_in text s w).found ≡ F.Refused 19 p) (((step_in text (masked s) w).found ≡ F.Refused 5 p) × OrdinaryAt s p)
 

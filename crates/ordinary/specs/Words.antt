@@ -6,17 +6,7 @@ use Rattle.format.specs.declared.Verdict.{Verdict}
 use Rattle.format.specs.declared.Verdict.TheVariants.{Accepted, Refused}
 use Rattle.format.specs.declared.Framed.{Framed}
 use Rattle.format.specs.declared.Framed.TheVariants.{Item, Unframed}
-use Rattle.format.specs.declared.ToBinary.{ToBinary}
-use Rattle.format.specs.declared.ToBinary.TheVariants as B
-use Rattle.format.specs.declared.TextFound.{TextFound}
-use Rattle.format.specs.declared.TextFound.TheVariants as TF
-use Rattle.format.specs.declared.TextRead.{TextRead}
-use Rattle.format.specs.declared.TextIndexed.{TextIndexed}
-use Rattle.format.specs.declared.TextIndexed.TheVariants as TI
-use Rattle.format.specs.declared.TextWritten.{TextWritten}
-use Rattle.format.specs.declared.TextWritten.TheVariants as TW
-use Rattle.format.specs.declared.BinaryWritten.{BinaryWritten}
-use Rattle.format.specs.declared.BinaryWritten.TheVariants as BW
+use Rattle.format.specs.declared.PrimitiveRead.{PrimitiveRead}
 use Rattle.format.specs.Alphabet.{is_ordinary}
 use Rattle.format.specs.Units.{text}
 use Rattle.format.specs.Report.{ItemRow, RefusalRow, RemainderRow, rows_in, refusals_in, remainder_in}
@@ -26,6 +16,13 @@ use Rattle.format.specs.Writing.Named.{unknown, row, variable, textual}
 use Rattle.walk_state.specs.declared.Found.{Found}
 use Rattle.walk_state.specs.declared.Found.TheVariants as F
 use Rattle.walk_state.specs.declared.Stepped.{Stepped}
+use Rattle.std.specs.Prelude.{Ok, Err, Result}
+use Rattle.format.specs.declared.Refusal.{Refusal}
+use Rattle.format.specs.Refusals.{refused_by}
+use Rattle.format.specs.declared.TextOffset.{TextOffset}
+use Rattle.format.specs.declared.BinaryOffset.{BinaryOffset}
+use Rattle.format.specs.declared.Primitive.{Primitive}
+use Rattle.format.specs.declared.IndexedItem.{IndexedItem}
 
 -- ---- the same text with `!`, which no alphabet has, for each of the three
 
@@ -76,28 +73,28 @@ report_five s =
     ++ (section (λ r. refusal_bytes (refusal_five r)) (refusals_in text s)
     ++ section (λ r. remainder_bytes (remainder_five r)) (remainder_in text s))
 
-unfoldable pub to_binary_five : ToBinary → ToBinary
-to_binary_five (B.Written n) = B.Written n
-to_binary_five (B.Refused m p) = B.Refused (as_five m) p
+unfoldable pub to_binary_five : Result BinaryOffset (Refusal TextOffset) → Result BinaryOffset (Refusal TextOffset)
+to_binary_five (Ok n) = Ok n
+to_binary_five (Err e) = refused_by (as_five e.number) e.place
 
-unfoldable pub text_found_five : TextFound → TextFound
-text_found_five (TF.Found q) = TF.Found q
-text_found_five (TF.Refused m p) = TF.Refused (as_five m) p
+unfoldable pub text_found_five : Result Primitive (Refusal TextOffset) → Result Primitive (Refusal TextOffset)
+text_found_five (Ok q) = Ok q
+text_found_five (Err e) = refused_by (as_five e.number) e.place
 
-unfoldable pub text_read_five : TextRead → TextRead
+unfoldable pub text_read_five : PrimitiveRead TextOffset → PrimitiveRead TextOffset
 text_read_five r = record { found = text_found_five r.found; tag = r.tag }
 
-unfoldable pub text_indexed_five : TextIndexed → TextIndexed
-text_indexed_five (TI.Found q) = TI.Found q
-text_indexed_five (TI.Refused m p) = TI.Refused (as_five m) p
+unfoldable pub text_indexed_five : Result IndexedItem (Refusal TextOffset) → Result IndexedItem (Refusal TextOffset)
+text_indexed_five (Ok q) = Ok q
+text_indexed_five (Err e) = refused_by (as_five e.number) e.place
 
-unfoldable pub text_written_five : TextWritten → TextWritten
-text_written_five (TW.Written n) = TW.Written n
-text_written_five (TW.Refused m p) = TW.Refused (as_five m) p
+unfoldable pub text_written_five : Result TextOffset (Refusal ℕ) → Result TextOffset (Refusal ℕ)
+text_written_five (Ok n) = Ok n
+text_written_five (Err e) = refused_by (as_five e.number) e.place
 
-unfoldable pub binary_written_five : BinaryWritten → BinaryWritten
-binary_written_five (BW.Written n) = BW.Written n
-binary_written_five (BW.Refused m p) = BW.Refused (as_five m) p
+unfoldable pub binary_written_five : Result BinaryOffset (Refusal ℕ) → Result BinaryOffset (Refusal ℕ)
+binary_written_five (Ok n) = Ok n
+binary_written_five (Err e) = refused_by (as_five e.number) e.place
 
 unfoldable pub found_five : Found → Found
 found_five (F.Item o n d k h) = F.Item o n d k h

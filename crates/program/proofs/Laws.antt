@@ -9,8 +9,6 @@ use borrow.Author.Tests.{lt-ltb, le-ltb}
 use Rattle.program.specs.Counts.{IsPrefixLen}
 use Rattle.format.specs.declared.Kind.{Kind}
 use Rattle.format.specs.declared.Framed.TheVariants.{Item, Unframed}
-use Rattle.format.specs.declared.Reported.{Reported}
-use Rattle.format.specs.declared.Reported.TheVariants as R
 use Rattle.format.specs.Units.{Domain}
 use Rattle.format.specs.Report.{rows, rows_in, frame_in, report, report_answer, report_left}
 use Rattle.laws.specs.Domains.{Reader}
@@ -19,6 +17,9 @@ use Rattle.laws.specs.Items.{rows_at, by-items, rows-nil, rows-refused, rows-ite
 use Rattle.claims.specs.Claims.{Demand3}
 use Rattle.claims.proofs.Room.{report-fits}
 use Rattle.program.specs.Printed.{printed, printed_answer, printed_left}
+use Rattle.std.specs.Prelude.{Ok, Result}
+use Rattle.format.specs.declared.Refusal.{Refusal}
+use Rattle.format.specs.Refusals.{refused_by}
 
 wider : (n u : ℕ) → 3 ≤ u → n * 3 ≤ n * u
 wider zero u l = omega arith
@@ -48,23 +49,23 @@ module _ (d : Domain) (G : Reader d) where
   few-rows u xs l = let z : length (rows_in d xs) * 3 ≤ length (rows_in d xs) * d.unit = wider (length (rows_in d xs)) d.unit u in omega (arith, few xs 0)
 
   module _ (D : Demand3 d) (u : 3 ≤ d.unit) (lim : 8192 ≤ d.limit) (xs out : List ℕ) (room : 49157 ≤ length out) where
-    answered : length xs ≤ 8192 → report_answer d xs (length out) ≡ R.Written (length (report d xs))
+    answered : length xs ≤ 8192 → report_answer d xs (length out) ≡ Ok (length (report d xs))
     unfolding report_answer
     answered l = rw (le-ltb d.limit (length xs) (omega arith), le-ltb (length out) (17 + 18 * length (rows_in d xs)) (omega (arith, few-rows u xs l)))
 
-    pub prints : length xs ≤ 8192 → (r : Reported) → r ≡ report_answer d xs (length out) → (out' : List ℕ) → out' ≡ report_left r d xs out
-        → (n : ℕ) → r ≡ R.Written n
+    pub prints : length xs ≤ 8192 → (r : Result ℕ (Refusal ℕ)) → r ≡ report_answer d xs (length out) → (out' : List ℕ) → out' ≡ report_left r d xs out
+        → (n : ℕ) → r ≡ Ok n
         → (n ≡ printed_answer d xs (length out)) × ((out' ≡ printed_left d xs out) × IsPrefixLen n out')
     unfolding printed printed_answer printed_left report_left
     prints l r e out' f n q =
-        let w : R.Written n ≡ R.Written (length (report d xs)) = sym q ∙ e ∙ answered l in
+        let w : Ok n ≡ Ok (length (report d xs)) = sym q ∙ e ∙ answered l in
         let z : n ≡ length (report d xs) = cc in
         let g : out' ≡ report d xs ++ drop n out = f ∙ rw q in
         let m : n ≤ length out' = rw g (omega (arith, length-append (report d xs) (drop n out))) in
         rw (le-ltb 8192 (length xs) l, le-ltb (length out) 49157 room) (z, (g ∙ ap (λ (k : ℕ). report d xs ++ drop k out) z, counts n out' m))
 
-    pub never : length xs ≤ 8192 → (r : Reported) → r ≡ report_answer d xs (length out) → (a b : ℕ) → r ≡ R.Refused a b → ◌≡◌ {A = ℕ} 0 1
-    never l r e a b q = let w : R.Refused a b ≡ R.Written (length (report d xs)) = sym q ∙ e ∙ answered l in cc
+    pub never : length xs ≤ 8192 → (r : Result ℕ (Refusal ℕ)) → r ≡ report_answer d xs (length out) → (a b : ℕ) → r ≡ refused_by a b → ◌≡◌ {A = ℕ} 0 1
+    never l r e a b q = let w : refused_by a b ≡ Ok (length (report d xs)) = sym q ∙ e ∙ answered l in cc
 
   pub prints-one : (xs out : List ℕ) → 49157 ≤ length out → 8192 < length xs
       → (1 ≡ printed_answer d xs (length out)) × ((set out 0 1 ≡ printed_left d xs out) × IsPrefixLen 1 (set out 0 1))

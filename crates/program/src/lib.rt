@@ -8,7 +8,6 @@ ghost use Rattle.format.specs.Units.{text, binary};
 ghost use Rattle.program.specs.Printed.{printed_answer, printed_left, Fits, Came};
 ghost use Rattle.program.specs.Taken.{Takes, Took};
 
-use format::Reported;
 use std::io::Read;
 
 // The longest stream that is reported, and room for each such report: 17 + 18 x 2,730.
@@ -72,8 +71,8 @@ pub fn answer_text(s: &[u8], out: &mut [u8]) -> usize
         return 1;
     }
     match report::report_text(s, out) {
-        Reported::Written(n) => n,
-        Reported::Refused(_, _) => 0,
+        Ok(n) => n,
+        Err(_) => 0,
     }
 }
 
@@ -91,7 +90,7 @@ pub fn answer_binary(s: &[u8], out: &mut [u8]) -> usize
         return 1;
     }
     match report::report_binary(s, out) {
-        Reported::Written(n) => n,
-        Reported::Refused(_, _) => 0,
+        Ok(n) => n,
+        Err(_) => 0,
     }
 }

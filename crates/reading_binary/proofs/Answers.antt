@@ -12,7 +12,6 @@ use Rattle.base.specs.Lists.{map-drop}
 use Rattle.format.specs.declared.Kind.{Kind}
 use Rattle.format.specs.declared.Framed.TheVariants.{Item}
 use Rattle.format.specs.declared.Primitive.{Primitive}
-use Rattle.format.specs.declared.BinaryFound.TheVariants as B
 use Rattle.format.specs.declared.BinaryOffset.{BinaryOffset}
 use Rattle.format.specs.Alphabet.{char_of}
 use Rattle.format.specs.Units.{text_sextets, binary_sextets}
@@ -30,6 +29,8 @@ use Rattle.reading_part.specs.Outcome.{outcome}
 use Rattle.reading_part.proofs.Answers.{is_found, inside, text-few, told_text}
 use Rattle.reading_found.specs.Found.{no_binary, any_text}
 use Rattle.reading_found.proofs.Answers.{Found, few, out-found, binary-long}
+use Rattle.std.specs.Prelude.{Ok}
+use Rattle.format.specs.Refusals.{refused_by}
 
 -- ---- 3, which is asked last
 
@@ -56,7 +57,7 @@ module _ (s : List ℕ) (at room : ℕ) (p : Primitive) (f : Found s at p) where
 
 -- a refusal is the same whatever room there is
 refused-in : (s : List ℕ) (at room : ℕ) (r : Reading) (m : ℕ) (q : BinaryOffset) → length s ≤ 3145728 → reading (binary_sextets (drop at s)) ≡ r
-    → (binary_answer at r (binary_sextets (drop at s)) any_text).found ≡ B.Refused m q
+    → (binary_answer at r (binary_sextets (drop at s)) any_text).found ≡ refused_by m q
     → binary_answer at r (binary_sextets (drop at s)) any_text ≡ binary_answer at r (binary_sextets (drop at s)) room
 unfolding binary_answer text_at
 refused-in s at room (refused n p) m q l e f = refl
@@ -65,7 +66,7 @@ refused-in s at room (found k h n) m q l e f =
     let g = rw (le-ltb any_text (length (text_in k h (take (4 * n) b))) (few (drop at s) k h n (out-found _ k h n e) (omega (arith, length-drop at s)))) at f in
     let z : ◌≡◌ {A = ℕ} 0 1 = cc in absurd (omega arith)
 
-pub refused-anyway : (s : List ℕ) (at room m : ℕ) (q : BinaryOffset) → (read_binary s at any_text).found ≡ B.Refused m q
+pub refused-anyway : (s : List ℕ) (at room m : ℕ) (q : BinaryOffset) → (read_binary s at any_text).found ≡ refused_by m q
     → read_binary s at any_text ≡ read_binary s at room
 unfolding read_binary from
 refused-anyway s at room m q e =
@@ -90,7 +91,7 @@ chars-of b k h n e =
     rw (text_of (take (n * 3) b), own, ← map-drop char_of (4 * n - length (text_in k h (take (4 * n) s))) (take (4 * n) s)) (sym (told_text s k h n e))
 
 pub chars-are : (s : List ℕ) (at : ℕ) (p : Primitive) → Found s at p → at < length s → (d : List ℕ)
-    → chars_into (take (3 * p.size) (drop at s)) (4 * p.size - p.text) d ≡ chars_left (B.Found p) s at d
+    → chars_into (take (3 * p.size) (drop at s)) (4 * p.size - p.text) d ≡ chars_left (Ok p) s at d
 unfolding chars_left text_at from primitive_of
 chars-are s at p f start d =
     let b = drop at s in

@@ -8,7 +8,7 @@ ghost use Rattle.reading_chars.specs.Chars.{chars_into};
 ghost use Rattle.reading_found.specs.Found.{any_text};
 ghost use Rattle.reading_binary.specs.Part.{part_start};
 
-use format::{BinaryFound, BinaryOffset, BinaryRead, TextOffset};
+use format::{BinaryOffset, PrimitiveRead, TextOffset};
 
 // The text of an item of so many units from a byte on: its last characters.
 fn copy_text(s: &[u8], from: usize, size: usize, text: usize, out: &mut [u8])
@@ -22,15 +22,15 @@ fn copy_text(s: &[u8], from: usize, size: usize, text: usize, out: &mut [u8])
 
 // A primitive of a binary at an offset. A text is copied to the buffer's start; any other raw value is not: it lies where `start` and
 // `raw` say. A refused call writes nothing.
-pub fn read_binary(s: &[u8], at: BinaryOffset, out: &mut [u8]) -> BinaryRead
+pub fn read_binary(s: &[u8], at: BinaryOffset, out: &mut [u8]) -> PrimitiveRead<BinaryOffset>
     ensures value { result ≡ read_binary s.now at.0 (length out.old) }
     ensures out_after { out.new ≡ chars_left result.found s.now at.0 out.old }
 {
     let read = reading_found::found_at(s, at);
     let found = read.found;
     match found {
-        BinaryFound::Refused(_, _) => read,
-        BinaryFound::Found(p) => {
+        Err(_) => read,
+        Ok(p) => {
             if out.len() < p.text {
                 return reading_found::no_binary(3, 0);
             }
@@ -50,8 +50,8 @@ pub fn raw_binary(s: &[u8], at: BinaryOffset) -> &[u8]
     let read = reading_found::found_at(s, at);
     let found = read.found;
     match found {
-        BinaryFound::Refused(_, _) => &s[..0],
-        BinaryFound::Found(p) => {
+        Err(_) => &s[..0],
+        Ok(p) => {
             let start = from + p.start.0;
             let end = start + p.raw;
             &s[start..end]

@@ -6,7 +6,6 @@ use native.Mathlib.Omega.{arith}
 use lib.ListN.{length, take, drop, length-drop, drop_of_length-le}
 use lib.Seq.{take_at, drop_at, drop-drop, drop-append-le, length-take-le, take_all}
 use Rattle.base.specs.Each.{each}
-use Rattle.format.specs.declared.ToText.{ToText}
 use Rattle.format.specs.Units.{quadlet_of}
 use Rattle.format.specs.Conversion.{to_text, binary_to_text, text_left}
 use Rattle.laws.specs.Units.{quadlet-size}
@@ -14,6 +13,10 @@ use Rattle.laws.specs.Conversion.{text-joins, length-to-text}
 use Rattle.convert.proofs.Answers.{binary-converted}
 use Rattle.judging.proofs.Laws.{to_end}
 use Rattle.reading_chars.specs.Chars.{chars_into}
+use Rattle.std.specs.Prelude.{Result}
+use Rattle.format.specs.declared.Refusal.{Refusal}
+use Rattle.format.specs.declared.TextOffset.{TextOffset}
+use Rattle.format.specs.declared.BinaryOffset.{BinaryOffset}
 
 -- ---- from a character on
 
@@ -41,7 +44,7 @@ within-unit b k r h few =
 -- ---- into a buffer
 
 -- whole triplets are converted, where there is room
-converts : (b d : List ℕ) (r : ToText) (d' : List ℕ) → length b ≤ 3145728 → length b % 3 ≡ 0 → length b / 3 * 4 ≤ length d
+converts : (b d : List ℕ) (r : Result TextOffset (Refusal BinaryOffset)) (d' : List ℕ) → length b ≤ 3145728 → length b % 3 ≡ 0 → length b / 3 * 4 ≤ length d
     → r ≡ binary_to_text b (length d) → d' ≡ text_left r b d → d' ≡ to_text b ++ drop (length b / 3 * 4) d
 unfolding text_left
 converts b d r d' l w h e p = p ∙ rw (e ∙ binary-converted b (length d) l (omega arith) h)
@@ -59,7 +62,7 @@ module _ (b d : List ℕ) (k r : ℕ) (few : r < 4) (there : k * 3 + 3 ≤ lengt
     rest = rw p (drop_at (drop r q) (drop (4 - r) d) (4 - r) size)
 
     -- the unit's last characters, and what is converted behind them
-    pub copied : (t : ToText) (d₂ : List ℕ)
+    pub copied : (t : Result TextOffset (Refusal BinaryOffset)) (d₂ : List ℕ)
         → t ≡ binary_to_text (take (length b - (k * 3 + 3)) (drop (k * 3 + 3) b)) (length (take (length d₁ - (4 - r)) (drop (4 - r) d₁)))
         → d₂ ≡ text_left t (take (length b - (k * 3 + 3)) (drop (k * 3 + 3) b)) (take (length d₁ - (4 - r)) (drop (4 - r) d₁))
         → take (4 - r) d₁ ++ (d₂ ++ drop (length d₁ - (4 - r)) (drop (4 - r) d₁)) ≡ chars_into b (k * 4 + r) d

@@ -35,7 +35,7 @@ fn copy_from(item: &[u8], unit: usize, within: usize, out: &mut [u8])
     put_unit(item, at, within, out);
     let from = at + 3;
     let to = 4 - within;
-    convert::binary_to_text(&item[from..], &mut out[to..]);
+    let _ = convert::binary_to_text(&item[from..], &mut out[to..]);
 }
 
 // The item's characters from one of them on.

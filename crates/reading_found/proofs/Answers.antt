@@ -11,8 +11,8 @@ use Rattle.base.specs.Each.{each}
 use Rattle.format.specs.declared.Kind.{Kind}
 use Rattle.format.specs.declared.Framed.TheVariants.{Item, Unframed}
 use Rattle.format.specs.declared.Primitive.{Primitive}
-use Rattle.format.specs.declared.BinaryFound.TheVariants as B
-use Rattle.format.specs.declared.BinaryRead.{BinaryRead}
+use Rattle.format.specs.declared.BinaryOffset.{BinaryOffset}
+use Rattle.format.specs.declared.PrimitiveRead.{PrimitiveRead}
 use Rattle.format.specs.Units.{binary_sextets}
 use Rattle.format.specs.Framing.{frame_with, frame}
 use Rattle.format.specs.Values.{text_in, tag_of}
@@ -27,6 +27,7 @@ use Rattle.reading_fill.specs.Texts.{text_start}
 use Rattle.reading_part.specs.Outcome.{outcome}
 use Rattle.reading_part.proofs.Answers.{is-refused, is_found, inside, text-few, told-start, told-size, told-primitive, told-tag}
 use Rattle.reading_found.specs.Found.{no_binary, any_text}
+use Rattle.std.specs.Prelude.{Ok}
 
 module _ (s : List ℕ) (at room : ℕ) where
   pub binary-long : 3145728 < length s → no_binary 1 0 ≡ read_binary s at room
@@ -45,7 +46,7 @@ module _ (s : List ℕ) (at room : ℕ) where
     unfolding read_binary from binary_answer place_from
     binary-refused m p e = rw (le-ltb 3145728 (length s) l, is-refused (reading (binary_sextets (drop at s))) m p e)
 
-    pub binary-found : (k : Kind) (h n : ℕ) → outcome (reading (binary_sextets (drop at s))) ≡ Item k h n → (r : BinaryRead)
+    pub binary-found : (k : Kind) (h n : ℕ) → outcome (reading (binary_sextets (drop at s))) ≡ Item k h n → (r : PrimitiveRead BinaryOffset)
         → r ≡ binary_answer 0 (found k h n) (binary_sextets (drop at s)) room → r ≡ read_binary s at room
     unfolding read_binary from binary_answer
     binary-found k h n e r q = rw (le-ltb 3145728 (length s) l, is_found (reading (binary_sextets (drop at s))) k h n e) q
@@ -63,7 +64,7 @@ module _ (b : List ℕ) (k : Kind) (h n : ℕ) (e : outcome (reading (binary_sex
   pub binary-item : (cs own t : List ℕ) (start text : ℕ) (p : Primitive) → cs ≡ head_of (binary_sextets b) → own ≡ head_of (take (4 * n) cs)
       → (h ≤ 2 → n ≤ 1048576 → start ≡ text_start k h n own) → (n ≤ 1048576 → text ≡ 4 * n - start)
       → (h ≤ 2 → n ≤ 1048576 → Shaped k h n → p ≡ primitive_of k h n text) → (Taggable k → t ≡ padded (tag_of k own))
-      → record { found = B.Found p; tag = t } ≡ binary_answer 0 (found k h n) (binary_sextets b) any_text
+      → record { found = Ok p; tag = t } ≡ binary_answer 0 (found k h n) (binary_sextets b) any_text
   unfolding binary_answer text_at
   binary-item cs own t start text p a c f g w z =
       let s = binary_sextets b in
@@ -87,7 +88,7 @@ unfolding outcome
 out-found r k h n e = rw e
 
 found_in : (s : List ℕ) (at : ℕ) (r : Reading) (p : Primitive) → length s ≤ 3145728 → reading (binary_sextets (drop at s)) ≡ r
-    → (binary_answer at r (binary_sextets (drop at s)) any_text).found ≡ B.Found p → Found s at p
+    → (binary_answer at r (binary_sextets (drop at s)) any_text).found ≡ Ok p → Found s at p
 unfolding binary_answer text_at
 found_in s at (refused m q) p l e f = let z : ◌≡◌ {A = ℕ} 0 1 = cc in absurd (omega arith)
 found_in s at (found k h n) p l e f =
@@ -96,12 +97,12 @@ found_in s at (found k h n) p l e f =
     let g = rw (le-ltb any_text (length (text_in k h (take (4 * n) b))) (few (drop at s) k h n o (omega (arith, length-drop at s)))) at f in
     record { short = l; kind = k; head = h; size = n; item = o; told = cc }
 
-past-none : (s : List ℕ) (at room : ℕ) (p : Primitive) → length s ≤ at → (read_binary s at room).found ≡ B.Found p → ⊥
+past-none : (s : List ℕ) (at room : ℕ) (p : Primitive) → length s ≤ at → (read_binary s at room).found ≡ Ok p → ⊥
 past-none s at room p l e =
     ⊎_elim (λ g. let z : ◌≡◌ {A = ℕ} 0 1 = cc (binary-long s at room g) in omega arith)
     (λ g. let z : ◌≡◌ {A = ℕ} 0 1 = cc (binary-past s at room g l) in omega arith) (lt-or-ge 3145728 (length s))
 
-pub found_of : (s : List ℕ) (at : ℕ) (p : Primitive) → (read_binary s at any_text).found ≡ B.Found p → Found s at p
+pub found_of : (s : List ℕ) (at : ℕ) (p : Primitive) → (read_binary s at any_text).found ≡ Ok p → Found s at p
 unfolding read_binary from
 found_of s at p e =
     ⊎_elim (λ g. let z : ◌≡◌ {A = ℕ} 0 1 = cc (binary-long s at any_text g) in absurd (omega arith))
@@ -127,9 +128,9 @@ module _ (s : List ℕ) (at : ℕ) (p : Primitive) (f : Found s at p) (start : a
   text-inside = rw f.told (text-few (binary_sextets (drop at s)) f.kind f.head f.size f.item)
 
 -- an offset that a primitive is found at is in front of the end
-pub found-start : (s : List ℕ) (at room : ℕ) (p : Primitive) → (read_binary s at room).found ≡ B.Found p → at < length s
+pub found-start : (s : List ℕ) (at room : ℕ) (p : Primitive) → (read_binary s at room).found ≡ Ok p → at < length s
 found-start s at room p e = ⊎_elim (λ l. l) (λ l. absurd (past-none s at room p l e)) (lt-or-ge at (length s))
 
 -- the part that is handed back lies in the stream
-pub found_inside : (s : List ℕ) (at : ℕ) (p : Primitive) → (read_binary s at any_text).found ≡ B.Found p → at + p.start.0 + p.raw ≤ length s
+pub found_inside : (s : List ℕ) (at : ℕ) (p : Primitive) → (read_binary s at any_text).found ≡ Ok p → at + p.start.0 + p.raw ≤ length s
 found_inside s at p e = part-inside s at p (found_of s at p e) (found-start s at any_text p e)

@@ -10,20 +10,23 @@ ghost use Rattle.format.specs.Reading.Reading.{found};
 ghost use Rattle.reading_part.specs.Outcome.{outcome};
 ghost use Rattle.reading_found.specs.Found.{no_binary, any_text};
 
-use format::{BinaryFound, BinaryOffset, BinaryRead, Framed, Kind};
+use format::{BinaryOffset, Framed, Kind, PrimitiveRead, Refusal};
 
 // A refusal has no tag characters.
-pub fn no_binary(number: u8, place: usize) -> BinaryRead
+pub fn no_binary(number: u8, place: usize) -> PrimitiveRead<BinaryOffset>
     ensures { result ≡ no_binary number place }
 {
-    BinaryRead {
-        found: BinaryFound::Refused(number, BinaryOffset(place)),
+    PrimitiveRead {
+        found: Err(Refusal {
+            number,
+            place: BinaryOffset(place),
+        }),
         tag: [0; 11],
     }
 }
 
 // The item that a part begins with.
-fn binary_found(part: &[u8], kind: Kind, head: usize, size: usize) -> BinaryRead
+fn binary_found(part: &[u8], kind: Kind, head: usize, size: usize) -> PrimitiveRead<BinaryOffset>
     requires { (outcome (reading (binary_sextets part.now)) ≡ Item kind head size) × (length part.now ≤ 3145728) }
     ensures { result ≡ binary_answer 0 (found kind head size) (binary_sextets part.now) any_text }
 {
@@ -33,14 +36,11 @@ fn binary_found(part: &[u8], kind: Kind, head: usize, size: usize) -> BinaryRead
     let text = reading_fill::text_size(size, start);
     let p = reading_item::primitive_of(kind, head, size, text);
     let tag = reading_tag::tag_of(kind, own);
-    BinaryRead {
-        found: BinaryFound::Found(p),
-        tag,
-    }
+    PrimitiveRead { found: Ok(p), tag }
 }
 
 // A primitive of a binary at an offset, its room not asked.
-pub fn found_at(s: &[u8], at: BinaryOffset) -> BinaryRead
+pub fn found_at(s: &[u8], at: BinaryOffset) -> PrimitiveRead<BinaryOffset>
     ensures { result ≡ read_binary s.now at.0 any_text }
 {
     if 3145728 < s.len() {

@@ -8,7 +8,6 @@ use lib.Seq.{drop_at, drop-drop, drop-set-lt, length-take-le, take_all}
 use Rattle.base.specs.Lists.{list3, map-drop}
 use Rattle.base.specs.Digits.{below-drop}
 use Rattle.base.specs.Each.{each}
-use Rattle.format.specs.declared.ToBinary.{ToBinary}
 use Rattle.format.specs.Alphabet.{sextet_of}
 use Rattle.format.specs.Units.{triplet_of, text_sextets}
 use Rattle.format.specs.Conversion.{to_binary, text_to_binary, binary_left}
@@ -17,6 +16,10 @@ use Rattle.laws.specs.Conversion.{binary-joins, length-to-binary, no-stranger}
 use Rattle.convert_order.proofs.Answers.{length_whole, text-converted}
 use Rattle.judging.proofs.Laws.{to_end}
 use Rattle.reading_raw.specs.Raw.{Fit, units_into, raw_into}
+use Rattle.std.specs.Prelude.{Result}
+use Rattle.format.specs.declared.Refusal.{Refusal}
+use Rattle.format.specs.declared.TextOffset.{TextOffset}
+use Rattle.format.specs.declared.BinaryOffset.{BinaryOffset}
 
 -- ---- the units from a character on
 
@@ -29,7 +32,7 @@ fit-drop t k w h f = record {
 }
 
 -- a fit text is converted, where there is room
-pub fit-converts : (t d : List ℕ) (r : ToBinary) (d' : List ℕ) → Fit t → length t / 4 * 3 ≤ length d → r ≡ text_to_binary t (length d)
+pub fit-converts : (t d : List ℕ) (r : Result BinaryOffset (Refusal TextOffset)) (d' : List ℕ) → Fit t → length t / 4 * 3 ≤ length d → r ≡ text_to_binary t (length d)
     → d' ≡ binary_left r t d → d' ≡ to_binary t ++ drop (length t / 4 * 3) d
 unfolding binary_left
 fit-converts t d r d' f h e p =
@@ -117,7 +120,7 @@ module _ (t d : List ℕ) (start k : ℕ) (i : start ≤ length t / 4 * 3) (room
         )
 
 -- what a lent part of the buffer holds when it is back
-pub put-units : (t d : List ℕ) (at to : ℕ) (r : ToBinary) (d' : List ℕ) → Fit t → at % 4 ≡ 0 → at ≤ length t
+pub put-units : (t d : List ℕ) (at to : ℕ) (r : Result BinaryOffset (Refusal TextOffset)) (d' : List ℕ) → Fit t → at % 4 ≡ 0 → at ≤ length t
     → to + (length t - at) / 4 * 3 ≤ length d → r ≡ text_to_binary (take (length t - at) (drop at t)) (length (take (length d - to) (drop to d)))
     → d' ≡ binary_left r (take (length t - at) (drop at t)) (take (length d - to) (drop to d))
     → take to d ++ (d' ++ drop (length d - to) (drop to d)) ≡ units_into t at d to

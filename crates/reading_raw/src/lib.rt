@@ -6,14 +6,14 @@ ghost use Rattle.std.specs.Prelude.{◌≡◌, ◌+◌, ◌-◌, ◌*◌, ◌≤
 ghost use Rattle.format.specs.Units.{triplet_of};
 ghost use Rattle.reading_raw.specs.Raw.{Fit, units_into, raw_into};
 
-use format::{BinaryOffset, InText, TextOffset};
+use format::{BinaryOffset, TextOffset};
 
 // The bytes of a text's units from a character on, into a buffer from a place on.
 fn copy_units(item: &[u8], from: usize, out: &mut [u8], to: usize)
     requires { (from ≤ length item.now) × (to ≤ length out.old) }
     ensures { Fit item.now → from % 4 ≡ 0 → to + (length item.now - from) / 4 * 3 ≤ length out.old → out.new ≡ units_into item.now from out.old to }
 {
-    convert::text_to_binary(&item[from..], &mut out[to..]);
+    let _ = convert::text_to_binary(&item[from..], &mut out[to..]);
 }
 
 fn triplet_at(item: &[u8], at: usize) -> [u8; 3]
@@ -68,7 +68,7 @@ pub fn copy_raw(item: &[u8], start: BinaryOffset, out: &mut [u8])
         return;
     }
     match offsets::in_text(start) {
-        InText::At(unit) => copy_from(item, from, unit.0, out),
-        InText::Past => {}
+        Some(unit) => copy_from(item, from, unit.0, out),
+        None => {}
     }
 }

@@ -13,9 +13,7 @@ use Rattle.base.specs.Each.{length-each}
 use Rattle.format.specs.declared.Kind.{Kind}
 use Rattle.format.specs.declared.Framed.TheVariants.{Item, Unframed}
 use Rattle.format.specs.declared.Primitive.{Primitive}
-use Rattle.format.specs.declared.TextFound.{TextFound}
-use Rattle.format.specs.declared.TextFound.TheVariants as T
-use Rattle.format.specs.declared.TextRead.{TextRead}
+use Rattle.format.specs.declared.PrimitiveRead.{PrimitiveRead}
 use Rattle.format.specs.Alphabet.{sextet_of, char_of}
 use Rattle.format.specs.Units.{bytes_of, text_sextets}
 use Rattle.format.specs.Conversion.{to_binary}
@@ -36,6 +34,9 @@ use Rattle.reading_value.specs.Value.{value_into}
 use Rattle.reading_text.specs.Told.{no_text, Tells}
 use Rattle.reading_part.proofs.Bounds.{item-known, place-near}
 use Rattle.reading_part.proofs.Answers.{is-refused, is_found, accepts, inside, item-long, text-few, told-start, told_text, told-size, told-primitive, told-tag}
+use Rattle.std.specs.Prelude.{Ok, Err, Result}
+use Rattle.format.specs.declared.Refusal.{Refusal}
+use Rattle.format.specs.declared.TextOffset.{TextOffset}
 
 module _ (s : List ℕ) (at room : ℕ) where
   pub text-long : 4194304 < length s → no_text 1 0 ≡ read_text s at room
@@ -55,16 +56,16 @@ module _ (s : List ℕ) (at room : ℕ) where
         let z : p / 4 * 4 + p % 4 ≡ p = omega arith in
         rw (le-ltb 4194304 (length s) l, is-refused (reading (text_sextets (drop at s))) m p e, z)
 
-    pub text-found : (k : Kind) (h n : ℕ) → outcome (reading (text_sextets (drop at s))) ≡ Item k h n → (r : TextRead)
+    pub text-found : (k : Kind) (h n : ℕ) → outcome (reading (text_sextets (drop at s))) ≡ Item k h n → (r : PrimitiveRead TextOffset)
         → r ≡ text_answer 0 (found k h n) (text_sextets (drop at s)) room → r ≡ read_text s at room
     unfolding read_text from text_answer
     text-found k h n e r q = rw (le-ltb 4194304 (length s) l, is_found (reading (text_sextets (drop at s))) k h n e) q
 
 -- what the buffer holds, by the part
-pub left-from : (f : TextFound) (s : List ℕ) (at : ℕ) (d : List ℕ) → value_left f (drop at s) 0 d ≡ value_left f s at d
+pub left-from : (f : Result Primitive (Refusal TextOffset)) (s : List ℕ) (at : ℕ) (d : List ℕ) → value_left f (drop at s) 0 d ≡ value_left f s at d
 unfolding value_left from
-left-from (T.Found p) s at d = refl
-left-from (T.Refused m p) s at d = refl
+left-from (Ok p) s at d = refl
+left-from (Err r) s at d = refl
 
 -- the place of a refusal can be counted on from the offset
 pub text-place : (s : List ℕ) (at m p : ℕ) → outcome (reading (text_sextets (drop at s))) ≡ Unframed m p → p ≤ length s + 8
@@ -148,7 +149,7 @@ module _ (t : List ℕ) (k : Kind) (h n : ℕ) (e : outcome (reading (text_sexte
     no_room d r = rw (lt-ltb (length d) (length (value_at (found k h n) (text_sextets t))) (rw (← value-size) at r))
 
     pub text-item : (d : List ℕ) → p.raw + p.text ≤ length d
-        → record { found = T.Found p; tag = g } ≡ text_answer 0 (found k h n) (text_sextets t) (length d)
+        → record { found = Ok p; tag = g } ≡ text_answer 0 (found k h n) (text_sextets t) (length d)
     unfolding text_answer text_at
     text-item d r = rw (le-ltb (length d) (length (value_at (found k h n) (text_sextets t))) (rw (← value-size) at r), w.item, w.tags)
 
@@ -156,7 +157,7 @@ module _ (t : List ℕ) (k : Kind) (h n : ℕ) (e : outcome (reading (text_sexte
     pub value-copied : (d d' : List ℕ) → p.raw + p.text ≤ length d
         → (p.text ≤ length (take (4 * n) t) → p.raw + p.text ≤ length d → Fit (take (4 * n) t) → p.start.0 ≤ length (take (4 * n) t) / 4 * 3 → p.raw ≡ length (take (4 * n) t) / 4 * 3 - p.start.0
         → d' ≡ value_into (take (4 * n) t) p.start.0 p.text d)
-        → d' ≡ value_left (T.Found p) t 0 d
+        → d' ≡ value_left (Ok p) t 0 d
     unfolding value_left from value_at value_of primitive_of
     value-copied d d' r c =
         let T = take (4 * n) t in

@@ -10,13 +10,16 @@ ghost use Rattle.format.specs.Reading.Reading.{found};
 ghost use Rattle.reading_part.specs.Outcome.{outcome};
 ghost use Rattle.reading_text.specs.Told.{no_text, Tells};
 
-use format::{Framed, Kind, Primitive, TextFound, TextOffset, TextRead};
+use format::{Framed, Kind, Primitive, PrimitiveRead, Refusal, TextOffset};
 
-fn no_text(number: u8, place: usize) -> TextRead
+fn no_text(number: u8, place: usize) -> PrimitiveRead<TextOffset>
     ensures { result ≡ no_text number place }
 {
-    TextRead {
-        found: TextFound::Refused(number, TextOffset(place)),
+    PrimitiveRead {
+        found: Err(Refusal {
+            number,
+            place: TextOffset(place),
+        }),
         tag: [0; 11],
     }
 }
@@ -42,7 +45,13 @@ fn text_item(part: &[u8], kind: Kind, head: usize, size: usize) -> Told
 }
 
 // The item that a part begins with, where there is room for its value: 3.
-fn text_found(part: &[u8], kind: Kind, head: usize, size: usize, out: &mut [u8]) -> TextRead
+fn text_found(
+    part: &[u8],
+    kind: Kind,
+    head: usize,
+    size: usize,
+    out: &mut [u8],
+) -> PrimitiveRead<TextOffset>
     requires { (outcome (reading (text_sextets part.now)) ≡ Item kind head size) × (length part.now ≤ 4194304) }
     ensures value { result ≡ text_answer 0 (found kind head size) (text_sextets part.now) (length out.old) }
     ensures out_after { out.new ≡ value_left result.found part.now 0 out.old }
@@ -55,14 +64,11 @@ fn text_found(part: &[u8], kind: Kind, head: usize, size: usize, out: &mut [u8])
     let end = 4 * size;
     reading_value::copy_value(&part[..end], p.start, p.raw, p.text, out);
     let tag = read.tag;
-    TextRead {
-        found: TextFound::Found(p),
-        tag,
-    }
+    PrimitiveRead { found: Ok(p), tag }
 }
 
 // A primitive of a text at an offset; its value is copied to the buffer's start. A refused call writes nothing.
-pub fn read_text(s: &[u8], at: TextOffset, out: &mut [u8]) -> TextRead
+pub fn read_text(s: &[u8], at: TextOffset, out: &mut [u8]) -> PrimitiveRead<TextOffset>
     ensures value { result ≡ read_text s.now at.0 (length out.old) }
     ensures out_after { out.new ≡ value_left result.found s.now at.0 out.old }
 {

@@ -21,12 +21,6 @@ pub fn read_full<R: Read>(reader: &mut R, buffer: &mut [u8]) -> usize
     done
 }
 
-pub fn wide(x: u8) -> usize
-    ensures { (result ≡ x) × (result < 256) }
-{
-    x as usize
-}
-
 // Big-endian.
 pub fn number(high: u8, low: u8) -> usize
     ensures { result < 65536 }

@@ -11,7 +11,6 @@ use lib.Seq.{sets, sets-eq, length-sets}
 use borrow.Author.Tests.{lt-ltb, le-ltb}
 use Rattle.format.specs.declared.Form.{Form}
 use Rattle.format.specs.declared.Form.TheVariants.{Text, Binary}
-use Rattle.format.specs.declared.Reported.TheVariants as R
 use Rattle.format.specs.Units.{Domain, domain}
 use Rattle.format.specs.Report.{rows_in, frame_in, judge_in, be4, row_bytes, report, report_answer, report_left}
 use Rattle.laws.specs.Domains.{reader}
@@ -38,6 +37,8 @@ use Rattle.report.specs.Turns.{Read, Counted, Begun, Ends, Ended, Written, Answe
 use Rattle.report_last.specs.declared.End.{End}
 use Rattle.report_last.specs.declared.End.TheVariants.{Whole}
 use Rattle.report_last.specs.declared.End.TheVariants as E
+use Rattle.std.specs.Prelude.{Ok}
+use Rattle.format.specs.Refusals.{refused_by}
 
 -- the report of a domain is that of its framing, judge and rows
 report-is : (f : Form) (s : List ℕ) → report (domain f) s ≡ report_of (frame_in (domain f)) (judge_in (domain f)) (frames (domain f) (reader f)) row_bytes 9 row-long s
@@ -223,7 +224,7 @@ demand3 Binary = binary-demand3
 known-first : (s : List ℕ) → Clear s 0 0
 known-first s i h l = absurd (omega arith)
 
-pub too_long : (d : Domain) (xs out : List ℕ) → d.limit < length xs → R.Refused 1 0 ≡ report_answer d xs (length out)
+pub too_long : (d : Domain) (xs out : List ℕ) → d.limit < length xs → refused_by 1 0 ≡ report_answer d xs (length out)
 unfolding report_answer
 too_long d xs out l = rw (lt-ltb d.limit (length xs) l)
 
@@ -233,18 +234,18 @@ module _ (f : Form) (xs out : List ℕ) where
 
   module _ {u : ℕ} {tables : Tables} {known n : ℕ} (Q : Read f u tables xs known)
       (T : Total f tables xs known n) where
-    pub no_room : length out < 17 + 18 * n → Answered f xs out (R.Refused 3 0) out
+    pub no_room : length out < 17 + 18 * n → Answered f xs out (refused_by 3 0) out
     unfolding report_answer report_left
     no_room k = record { answer = rw (le-ltb d.limit (length xs) Q.few, ← read_count Q n T, lt-ltb (length out) (17 + 18 * n) k); left = refl }
 
-    pub with-room : 17 + 18 * n ≤ length out → (w : ℕ) (out' : List ℕ) → Written f xs out w out' → Answered f xs out (R.Written w) out'
+    pub with-room : 17 + 18 * n ≤ length out → (w : ℕ) (out' : List ℕ) → Written f xs out w out' → Answered f xs out (Ok w) out'
     unfolding report_answer report_left
     with-room k w out' W =
         let z : 0 + length (report d xs) ≡ length (report d xs) = omega arith in
         let e = read_count Q n T in
         let fits : 0 + length (report d xs) ≤ length out = omega (arith, report-fits d (demand3 f) xs) in
         record {
-          answer = rw (le-ltb d.limit (length xs) Q.few, ← e, le-ltb (length out) (17 + 18 * n) k) (ap R.Written W.long);
+          answer = rw (le-ltb d.limit (length xs) Q.few, ← e, le-ltb (length out) (17 + 18 * n) k) (ap Ok W.long);
           left = W.held ∙ sets-eq (report d xs) out 0 fits ∙ rw (z, W.long);
         }
 

@@ -2,7 +2,6 @@
 use Rattle.std.specs.Prelude.{ℕ, ◌+◌, ◌*◌, ◌≤◌, ◌≡◌, List, [], ◌∷◌, ◌++◌, length}
 use Rattle.std.proofs.lemmas.List.Edits.{sets}
 use Rattle.format.specs.declared.Form.{Form}
-use Rattle.format.specs.declared.Reported.{Reported}
 use Rattle.format.specs.Units.{domain}
 use Rattle.format.specs.Report.{rows_in, be4, report, report_answer, report_left}
 use Rattle.runs.specs.Levels.{Clear}
@@ -11,6 +10,8 @@ use Rattle.runs_tables.specs.Lent.{Lent}
 use Rattle.report_general.specs.Turns.{Fill}
 use Rattle.report_last.specs.declared.End.{End}
 use Rattle.report_last.specs.declared.End.TheVariants.{Whole, Rest}
+use Rattle.std.specs.Prelude.{Result}
+use Rattle.format.specs.declared.Refusal.{Refusal}
 
 -- a stream within the limit, u elements to the unit, known from its start to a unit, and the tables
 pub record Read (f : Form) (u : ℕ) (tables : Tables) (s : List ℕ) (known : ℕ) : Type 0 where
@@ -53,6 +54,6 @@ pub record Written (f : Form) (s out : List ℕ) (r : ℕ) (out' : List ℕ) : T
   pub held : out' ≡ sets out 0 (report (domain f) s)
 
 -- a call's answer, and what it leaves
-pub record Answered (f : Form) (s out : List ℕ) (r : Reported) (out' : List ℕ) : Type 0 where
+pub record Answered (f : Form) (s out : List ℕ) (r : Result ℕ (Refusal ℕ)) (out' : List ℕ) : Type 0 where
   pub answer : r ≡ report_answer (domain f) s (length out)
   pub left : out' ≡ report_left r (domain f) s out

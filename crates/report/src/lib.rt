@@ -10,7 +10,7 @@ ghost use Rattle.format.specs.Report.{report_answer, report_left};
 ghost use Rattle.report.specs.Turns.{Read, Counted, Begun, Ends, Ended, Written, Answered};
 
 use filling::Position;
-use format::{Form, Reported};
+use format::{Form, Refusal};
 use report_general::Turn;
 use report_last::End;
 use runs_tables::Tables;
@@ -108,21 +108,24 @@ fn report_by(
     s: &[u8],
     out: &mut [u8],
     known: usize,
-) -> Reported
+) -> Result<usize, Refusal<usize>>
     requires { Read form u tables.now s.now known }
     ensures { Answered form s.now out.old result out.new }
 {
     let n = report_count::count(form, tables, s, known);
     if out.len() < 17 + 18 * n {
-        return Reported::Refused(3, 0);
+        return Err(Refusal {
+            number: 3,
+            place: 0,
+        });
     }
     let length = fill(form, u, tables, s, out, known, n);
-    Reported::Written(length)
+    Ok(length)
 }
 
 // Of a stream within the limit. The limit is looked at by the calls themselves: where the compiler knows it here, it stores a row byte
 // by byte.
-fn report(form: Form, s: &[u8], out: &mut [u8]) -> Reported
+fn report(form: Form, s: &[u8], out: &mut [u8]) -> Result<usize, Refusal<usize>>
     requires { length s.now ≤ (domain form).limit }
     ensures { Answered form s.now out.old result out.new }
 {
@@ -132,23 +135,29 @@ fn report(form: Form, s: &[u8], out: &mut [u8]) -> Reported
 }
 
 // The report of a text in a buffer: its length, or 1 or 3, which leave the buffer as it was.
-pub fn report_text(s: &[u8], out: &mut [u8]) -> Reported
+pub fn report_text(s: &[u8], out: &mut [u8]) -> Result<usize, Refusal<usize>>
     ensures value { result ≡ report_answer text s.now (length out.old) }
     ensures out_after { out.new ≡ report_left result text s.now out.old }
 {
     if 4194304 < s.len() {
-        return Reported::Refused(1, 0);
+        return Err(Refusal {
+            number: 1,
+            place: 0,
+        });
     }
     report(Form::Text, s, out)
 }
 
 // The report of a binary.
-pub fn report_binary(s: &[u8], out: &mut [u8]) -> Reported
+pub fn report_binary(s: &[u8], out: &mut [u8]) -> Result<usize, Refusal<usize>>
     ensures value { result ≡ report_answer binary s.now (length out.old) }
     ensures out_after { out.new ≡ report_left result binary s.now out.old }
 {
     if 3145728 < s.len() {
-        return Reported::Refused(1, 0);
+        return Err(Refusal {
+            number: 1,
+            place: 0,
+        });
     }
     report(Form::Binary, s, out)
 }

@@ -7,10 +7,9 @@ use Rattle.base.specs.Digits.{Below, below-take, below-drop}
 use Rattle.format.specs.declared.Kind.{Kind}
 use Rattle.format.specs.declared.Kind.TheVariants.{Fixed, Variable, Group, Genus, Indexed}
 use Rattle.format.specs.declared.Primitive.{Primitive}
-use Rattle.format.specs.declared.TextFound.TheVariants as T
-use Rattle.format.specs.declared.BinaryFound.TheVariants as B
-use Rattle.format.specs.declared.BinaryRead.{BinaryRead}
-use Rattle.format.specs.declared.TextRead.{TextRead}
+use Rattle.format.specs.declared.TextOffset.{TextOffset}
+use Rattle.format.specs.declared.BinaryOffset.{BinaryOffset}
+use Rattle.format.specs.declared.PrimitiveRead.{PrimitiveRead}
 use Rattle.format.specs.Alphabet.{sextet_of}
 use Rattle.format.specs.Units.{text, binary, text_sextets, binary_sextets}
 use Rattle.format.specs.Conversion.{to_binary, to_text}
@@ -27,6 +26,7 @@ use Rattle.roundtrip_laws.specs.Counts.{has-lead}
 use Rattle.roundtrip_laws.specs.Writes.{own-writes}
 use Rattle.roundtrip.proofs.Sextets.{reads-written}
 use Rattle.roundtrip.specs.Claims.{Given, tag_given, text_given, Reads, Tells, BinaryReads, TextReads, WritesBack}
+use Rattle.std.specs.Prelude.{Ok}
 
 -- ---- the raw value lies at the item's end
 
@@ -96,7 +96,7 @@ chars k h n s = length (text_in k h (take (4 * n) s))
 binary-answer : (xs : List ℕ) (at room : ℕ) (k : Kind) (h n : ℕ) → length xs ≤ binary.limit → chars k h n (binary_sextets (drop at xs)) ≤ room
     → reading (binary_sextets (drop at xs)) ≡ found k h n
     → let s = binary_sextets (drop at xs) in
-    read_binary xs at room ≡ record { found = B.Found (primitive_of k h n (chars k h n s)); tag = padded (tag_of k (take (4 * n) s)) }
+    read_binary xs at room ≡ record { found = Ok (primitive_of k h n (chars k h n s)); tag = padded (tag_of k (take (4 * n) s)) }
 unfolding read_binary binary_answer text_at from
 binary-answer xs at room k h n l r e =
     rw (le-ltb binary.limit (length xs) l, e, le-ltb room (chars k h n (binary_sextets (drop at xs))) r)
@@ -104,7 +104,7 @@ binary-answer xs at room k h n l r e =
 text-answer : (xs : List ℕ) (at room : ℕ) (k : Kind) (h n : ℕ) → length xs ≤ text.limit
     → length (value_of k h (take (4 * n) (text_sextets (drop at xs)))) ≤ room → reading (text_sextets (drop at xs)) ≡ found k h n
     → let s = text_sextets (drop at xs) in
-    read_text xs at room ≡ record { found = T.Found (primitive_of k h n (chars k h n s)); tag = padded (tag_of k (take (4 * n) s)) }
+    read_text xs at room ≡ record { found = Ok (primitive_of k h n (chars k h n s)); tag = padded (tag_of k (take (4 * n) s)) }
 unfolding read_text text_answer value_at text_at from
 text-answer xs at room k h n l r e =
     rw (le-ltb text.limit (length xs) l, e, le-ltb room (length (value_of k h (take (4 * n) (text_sextets (drop at xs))))) r)
@@ -135,12 +135,12 @@ binary-by xs at room g n c l f low r =
     let ld = length-drop at xs in
     record {
       item = primitive_of r.kind r.head n (chars r.kind r.head n s);
-      reads = ap (λ (x : BinaryRead). x.found) a;
+      reads = ap (λ (x : PrimitiveRead BinaryOffset). x.found) a;
       tells = tells s g n r c (omega arith);
-      tag_back = ap (λ (x : BinaryRead). x.tag) a ∙ ap padded r.tag_back;
-      part-back = ap (λ (x : BinaryRead). part_at xs at x.found ++ text_given g) a
+      tag_back = ap (λ (x : PrimitiveRead BinaryOffset). x.tag) a ∙ ap padded r.tag_back;
+      part-back = ap (λ (x : PrimitiveRead BinaryOffset). part_at xs at x.found ++ text_given g) a
           ∙ rw (part-is xs at r.kind r.head n o.0 (omega (arith, o.1)) low, ← r.text-back) r.raw-back;
-      text-back = λ d. ap (λ (x : BinaryRead). chars_left x.found xs at d) a ∙ rw (r.reads, r.text-back);
+      text-back = λ d. ap (λ (x : PrimitiveRead BinaryOffset). chars_left x.found xs at d) a ∙ rw (r.reads, r.text-back);
     }
 
 pub text-by : (xs : List ℕ) (at room : ℕ) (g : Given) (n : ℕ) → length (tag_given g) ≡ g.tags → length xs ≤ text.limit
@@ -155,10 +155,10 @@ text-by xs at room g n c l f r =
     (omega (arith, ap length r.raw-back)) r.reads in
     record {
       item = primitive_of r.kind r.head n (chars r.kind r.head n s);
-      reads = ap (λ (x : TextRead). x.found) a;
+      reads = ap (λ (x : PrimitiveRead TextOffset). x.found) a;
       tells = t;
-      tag_back = ap (λ (x : TextRead). x.tag) a ∙ ap padded r.tag_back;
-      raw-back = λ d. ap (λ (x : TextRead). value_left x.found xs at d) a ∙ rw (r.reads, r.raw-back, t.raw-length);
+      tag_back = ap (λ (x : PrimitiveRead TextOffset). x.tag) a ∙ ap padded r.tag_back;
+      raw-back = λ d. ap (λ (x : PrimitiveRead TextOffset). value_left x.found xs at d) a ∙ rw (r.reads, r.raw-back, t.raw-length);
     }
 
 -- ---- what an answer comes from
@@ -185,30 +185,30 @@ BinaryFrom xs at p = From (binary_sextets (drop at xs)) (length xs) binary.limit
 abbrev pub TextFrom : List ℕ → ℕ → Primitive → Type 0
 TextFrom xs at p = From (text_sextets (drop at xs)) (length xs) text.limit p
 
-pub binary-from : (xs : List ℕ) (at room : ℕ) (p : Primitive) → (read_binary xs at room).found ≡ B.Found p
+pub binary-from : (xs : List ℕ) (at room : ℕ) (p : Primitive) → (read_binary xs at room).found ≡ Ok p
     → BinaryFrom xs at p × (p.text ≤ room)
 unfolding read_binary binary_answer text_at from primitive_of
 binary-from xs at room p =
-    pick-by (λ (x : BinaryRead). x.found ≡ B.Found p → BinaryFrom xs at p × (p.text ≤ room))
+    pick-by (λ (x : PrimitiveRead BinaryOffset). x.found ≡ Ok p → BinaryFrom xs at p × (p.text ≤ room))
     (ltb binary.limit (length xs)) _ _ (λ _ e. let z : ◌≡◌ {A = ℕ} 0 1 = cc in absurd (omega arith))
     (λ l e. by (ltb-false binary.limit (length xs) l) (reading (binary_sextets (drop at xs))) refl e)
   where
     by : length xs ≤ binary.limit → (r : Reading) → reading (binary_sextets (drop at xs)) ≡ r
-        → (binary_answer at r (binary_sextets (drop at xs)) room).found ≡ B.Found p → BinaryFrom xs at p × (p.text ≤ room)
+        → (binary_answer at r (binary_sextets (drop at xs)) room).found ≡ Ok p → BinaryFrom xs at p × (p.text ≤ room)
     by l (refused m q) f = λ e. let z : ◌≡◌ {A = ℕ} 0 1 = cc in absurd (omega arith)
     by l (found k h n) f =
-        pick-by (λ (x : BinaryRead). x.found ≡ B.Found p → BinaryFrom xs at p × (p.text ≤ room))
+        pick-by (λ (x : PrimitiveRead BinaryOffset). x.found ≡ Ok p → BinaryFrom xs at p × (p.text ≤ room))
         (ltb room (chars k h n (binary_sextets (drop at xs)))) _ _ (λ _ e. let z : ◌≡◌ {A = ℕ} 0 1 = cc in absurd (omega arith))
         (λ g e. let i : p ≡ primitive_of k h n (chars k h n (binary_sextets (drop at xs))) = cc in (
           record { kind = k; head = h; size = n; short = l; reads = f; item = i },
           rw i (ltb-false room (chars k h n (binary_sextets (drop at xs))) g),
         ))
 
-pub text-from : (xs : List ℕ) (at room : ℕ) (p : Primitive) → (read_text xs at room).found ≡ T.Found p
+pub text-from : (xs : List ℕ) (at room : ℕ) (p : Primitive) → (read_text xs at room).found ≡ Ok p
     → (g : TextFrom xs at p) × (length (value_of g.kind g.head (take (4 * g.size) (text_sextets (drop at xs)))) ≤ room)
 unfolding read_text text_answer value_at text_at from primitive_of
 text-from xs at room p =
-    pick-by (λ (x : TextRead). x.found ≡ T.Found p → Roomed)
+    pick-by (λ (x : PrimitiveRead TextOffset). x.found ≡ Ok p → Roomed)
     (ltb text.limit (length xs)) _ _ (λ _ e. let z : ◌≡◌ {A = ℕ} 0 1 = cc in absurd (omega arith))
     (λ l e. by (ltb-false text.limit (length xs) l) (reading (text_sextets (drop at xs))) refl e)
   where
@@ -216,11 +216,11 @@ text-from xs at room p =
     Roomed = (g : TextFrom xs at p) × (length (value_of g.kind g.head (take (4 * g.size) (text_sextets (drop at xs)))) ≤ room)
 
     by : length xs ≤ text.limit → (r : Reading) → reading (text_sextets (drop at xs)) ≡ r
-        → (text_answer at r (text_sextets (drop at xs)) room).found ≡ T.Found p
+        → (text_answer at r (text_sextets (drop at xs)) room).found ≡ Ok p
         → Roomed
     by l (refused m q) f = λ e. let z : ◌≡◌ {A = ℕ} 0 1 = cc in absurd (omega arith)
     by l (found k h n) f =
-        pick-by (λ (x : TextRead). x.found ≡ T.Found p → Roomed)
+        pick-by (λ (x : PrimitiveRead TextOffset). x.found ≡ Ok p → Roomed)
         (ltb room (length (value_of k h (take (4 * n) (text_sextets (drop at xs)))))) _ _
         (λ _ e. let z : ◌≡◌ {A = ℕ} 0 1 = cc in absurd (omega arith))
         (λ g e. let i : p ≡ primitive_of k h n (chars k h n (text_sextets (drop at xs))) = cc in
@@ -228,8 +228,8 @@ text-from xs at room p =
 
 -- ---- written back
 
-pub binary-back : (xs : List ℕ) (at room : ℕ) (p : Primitive) (d : List ℕ) → Below 256 xs → (read_binary xs at room).found ≡ B.Found p
-    → let raw = part_at xs at (B.Found p) ++ take p.text (chars_left (B.Found p) xs at d) in
+pub binary-back : (xs : List ℕ) (at room : ℕ) (p : Primitive) (d : List ℕ) → Below 256 xs → (read_binary xs at room).found ≡ Ok p
+    → let raw = part_at xs at (Ok p) ++ take p.text (chars_left (Ok p) xs at d) in
     WritesBack p.code (read_binary xs at room).tag p.tags raw p.size (take (p.size * 3) (drop at xs))
 unfolding part_at chars_left text_at from primitive_of value_of
 binary-back xs at room p d low e =
@@ -246,14 +246,14 @@ binary-back xs at room p d low e =
     let inside : n * 3 ≤ length (drop at xs) = omega (arith, o.1) in
     let own : Below 256 (take (n * 3) (drop at xs)) = below-take 256 (n * 3) _ (below-drop 256 at xs low) in
     let there : chars k h n s ≤ room = rw g.item at f.1 in
-    let a = ap (λ (x : BinaryRead). x.tag) (binary-answer xs at room k h n short there g.reads) in
+    let a = ap (λ (x : PrimitiveRead BinaryOffset). x.tag) (binary-answer xs at room k h n short there g.reads) in
     let t = text_in k h (take (4 * n) s) in
     let c = take_at t (drop (length t) d) (length t) refl in
     rw (g.item, a, g.reads, c, part-is xs at k h n o.0 inside own, ← (binary-own (drop at xs) n inside own))
     (reads-written s k h n g.reads (omega (arith, o.1)))
 
-pub text-back : (xs : List ℕ) (at room : ℕ) (p : Primitive) (d : List ℕ) → (read_text xs at room).found ≡ T.Found p
-    → let raw = take (p.raw + p.text) (value_left (T.Found p) xs at d) in
+pub text-back : (xs : List ℕ) (at room : ℕ) (p : Primitive) (d : List ℕ) → (read_text xs at room).found ≡ Ok p
+    → let raw = take (p.raw + p.text) (value_left (Ok p) xs at d) in
     WritesBack p.code (read_text xs at room).tag p.tags raw p.size (to_binary (take (p.size * 4) (drop at xs)))
 unfolding value_left value_at from primitive_of
 text-back xs at room p d e =
@@ -268,13 +268,13 @@ text-back xs at room p d e =
     let ld = length-drop at xs in
     let short = g.short in
     let inside : n * 4 ≤ length (drop at xs) = omega (arith, o.1) in
-    let a = ap (λ (x : TextRead). x.tag) (text-answer xs at room k h n short f.1 g.reads) in
+    let a = ap (λ (x : PrimitiveRead TextOffset). x.tag) (text-answer xs at room k h n short f.1 g.reads) in
     let many = 3 * n - raw_start k h + chars k h n s in
     let raw = take_at (value_of k h (take (4 * n) s)) (drop many d) many (value-length k h n (take (4 * n) s) o.0) in
     rw (g.item, a, g.reads, raw, ← (text-own (drop at xs) n inside)) (reads-written s k h n g.reads (omega (arith, o.1)))
 
 -- an accepted item's own characters are whole units of the alphabet, so they are the text of its bytes
-pub text-whole : (xs : List ℕ) (at room : ℕ) (p : Primitive) → (read_text xs at room).found ≡ T.Found p
+pub text-whole : (xs : List ℕ) (at room : ℕ) (p : Primitive) → (read_text xs at room).found ≡ Ok p
     → to_text (to_binary (take (p.size * 4) (drop at xs))) ≡ take (p.size * 4) (drop at xs)
 unfolding primitive_of
 text-whole xs at room p e =
@@ -289,8 +289,8 @@ text-whole xs at room p e =
 
 -- ---- how long the value is that a call hands back
 
-pub binary-value : (xs : List ℕ) (at room : ℕ) (p : Primitive) (d : List ℕ) → (read_binary xs at room).found ≡ B.Found p
-    → length (part_at xs at (B.Found p) ++ take p.text (chars_left (B.Found p) xs at d)) ≡ p.raw + p.text
+pub binary-value : (xs : List ℕ) (at room : ℕ) (p : Primitive) (d : List ℕ) → (read_binary xs at room).found ≡ Ok p
+    → length (part_at xs at (Ok p) ++ take p.text (chars_left (Ok p) xs at d)) ≡ p.raw + p.text
 unfolding part_at chars_left text_at from primitive_of
 binary-value xs at room p d e =
     let g = (binary-from xs at room p e).0 in
@@ -304,8 +304,8 @@ binary-value xs at room p d e =
     let t = text_in g.kind g.head (take (4 * n) s) in
     rw (g.item, g.reads, take_at t (drop (length t) d) (length t) refl, length-append, part)
 
-pub text-value : (xs : List ℕ) (at room : ℕ) (p : Primitive) (d : List ℕ) → (read_text xs at room).found ≡ T.Found p
-    → length (take (p.raw + p.text) (value_left (T.Found p) xs at d)) ≡ p.raw + p.text
+pub text-value : (xs : List ℕ) (at room : ℕ) (p : Primitive) (d : List ℕ) → (read_text xs at room).found ≡ Ok p
+    → length (take (p.raw + p.text) (value_left (Ok p) xs at d)) ≡ p.raw + p.text
 unfolding value_left value_at from primitive_of
 text-value xs at room p d e =
     let g = (text-from xs at room p e).0 in

@@ -9,7 +9,6 @@ use Rattle.format.specs.declared.Kind.{Kind}
 use Rattle.format.specs.declared.Kind.TheVariants.{Fixed, Variable, Group, Genus, Indexed}
 use Rattle.format.specs.declared.Primitive.{Primitive}
 use Rattle.format.specs.declared.Code.TheVariants as C
-use Rattle.format.specs.declared.BinaryFound.TheVariants as B
 use Rattle.format.specs.Alphabet.{char_of}
 use Rattle.format.specs.Registry.{is_type, is_text}
 use Rattle.format.specs.Values.{raw_start, text_in}

@@ -6,8 +6,6 @@ use Rattle.std.proofs.Math.ListN.{length, drop}
 use Rattle.std.proofs.Math.Seq.{drop-append_seam}
 use Rattle.format.specs.declared.TextOffset.{TextOffset}
 use Rattle.format.specs.declared.BinaryOffset.{BinaryOffset}
-use Rattle.format.specs.declared.TextWritten.TheVariants as T
-use Rattle.format.specs.declared.BinaryWritten.TheVariants as B
 use Rattle.format.specs.Offsets.{text_offset, binary_offset}
 use Rattle.format.specs.Units.{text, binary}
 use Rattle.format.specs.Conversion.{to_text}
@@ -21,10 +19,11 @@ use Rattle.roundtrip.specs.Claims.{TextAccepts, binary_buffer, text_buffer, Bina
 use Rattle.roundtrip.proofs.Spelling.{spelling}
 use Rattle.roundtrip.proofs.Parts.{text-parts}
 use Rattle.roundtrip.specs.Claims.{WrittenReads, WrittenConverts, ReadWrites, RoundTrip}
+use Rattle.std.specs.Prelude.{Ok}
 
 -- ---- what a call wrote
 
-pub binary-written : (w : Writing) (n : ℕ) → binary_outcome w ≡ B.Written (binary_offset (n * 3)) → w ≡ written n
+pub binary-written : (w : Writing) (n : ℕ) → binary_outcome w ≡ Ok (binary_offset (n * 3)) → w ≡ written n
 unfolding binary_outcome
 binary-written (refused m p) n e = let z : ◌≡◌ {A = ℕ} 0 1 = cc in absurd (omega arith)
 binary-written (written m) n e =
@@ -32,7 +31,7 @@ binary-written (written m) n e =
     let k : m * 3 ≡ n * 3 = ap (λ (x : BinaryOffset). x.0) o in
     ap written (omega arith)
 
-pub text-written : (w : Writing) (n : ℕ) → text_outcome w ≡ T.Written (text_offset (n * 4)) → w ≡ written n
+pub text-written : (w : Writing) (n : ℕ) → text_outcome w ≡ Ok (text_offset (n * 4)) → w ≡ written n
 unfolding text_outcome
 text-written (refused m p) n e = let z : ◌≡◌ {A = ℕ} 0 1 = cc in absurd (omega arith)
 text-written (written m) n e =

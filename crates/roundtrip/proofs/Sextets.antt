@@ -8,8 +8,6 @@ use Rattle.base.specs.Pick.{pick-by}
 use Rattle.base.specs.Lists.{map-join}
 use Rattle.base.specs.Digits.{Below}
 use Rattle.format.specs.declared.Kind.{Kind}
-use Rattle.format.specs.declared.ToBinary.TheVariants as ToBinary
-use Rattle.format.specs.declared.ToText.TheVariants as ToText
 use Rattle.format.specs.Alphabet.{sextet_of}
 use Rattle.format.specs.Units.{text, binary, text_sextets, binary_sextets}
 use Rattle.format.specs.Offsets.{text_offset, binary_offset}
@@ -26,6 +24,7 @@ use Rattle.roundtrip_laws.specs.Reads.{own-reads, read-own}
 use Rattle.roundtrip_laws.specs.Words.{name_of, chars_in, Made}
 use Rattle.roundtrip_laws.specs.Writes.{own-named, own-writes, text-fits, made, made_code}
 use Rattle.roundtrip.specs.Claims.{Given, tag_given, text_for, item_of, Accepts, Reads, WritesBack}
+use Rattle.std.specs.Prelude.{Ok}
 
 -- ---- what an accepted write says
 
@@ -163,7 +162,7 @@ module _ (u room n : ℕ) (g : Given) (w : Accepts u g room n) where
   text-back = binary-back (item_of g) (omega (arith, written-length)) written_below
 
   pub text-converts : (for-binary : ℕ) → n * 3 ≤ for-binary
-      → text_to_binary (to_text (item_of g)) for-binary ≡ ToBinary.Written (binary_offset (n * 3))
+      → text_to_binary (to_text (item_of g)) for-binary ≡ Ok (binary_offset (n * 3))
   unfolding text_to_binary
   text-converts for-binary r =
       let t = to_text (item_of g) in
@@ -178,7 +177,7 @@ module _ (u room n : ℕ) (g : Given) (w : Accepts u g room n) where
       )
 
   pub binary-converts : (for-text : ℕ) → n * 4 ≤ for-text
-      → binary_to_text (item_of g) for-text ≡ ToText.Written (text_offset (n * 4))
+      → binary_to_text (item_of g) for-text ≡ Ok (text_offset (n * 4))
   unfolding binary_to_text
   binary-converts for-text r =
       let b = item_of g in

@@ -10,8 +10,6 @@ use Rattle.format.specs.declared.Kind.TheVariants.{Fixed, Variable, Group, Genus
 use Rattle.format.specs.declared.Primitive.{Primitive}
 use Rattle.format.specs.declared.Code.{Code}
 use Rattle.format.specs.declared.Code.TheVariants as C
-use Rattle.format.specs.declared.TextFound.TheVariants as T
-use Rattle.format.specs.declared.BinaryFound.TheVariants as B
 use Rattle.format.specs.Alphabet.{char_of, sextet_of}
 use Rattle.format.specs.Units.{text, binary_sextets}
 use Rattle.format.specs.Conversion.{to_text}
@@ -33,6 +31,7 @@ use Rattle.roundtrip.proofs.Sextets.{reads-written}
 use Rattle.roundtrip.proofs.Calls.{From, value-length, text-short, binary-short, text-from, text-back, text-whole, text-value}
 use Rattle.roundtrip.proofs.Calls.{binary-from, binary-back, binary-value}
 use Rattle.roundtrip.specs.Claims.{type_of, OneSpelling}
+use Rattle.std.specs.Prelude.{Ok}
 
 -- ---- the code
 
@@ -172,9 +171,9 @@ module _ {s s' : List ℕ} {long limit long' limit' : ℕ} (p p' : Primitive) (f
       ∙ ap (λ (x : Primitive). x.tags) (sym f'.item)
 
 text-calls : (xs xs' : List ℕ) (at at' room room' : ℕ) (p p' : Primitive) (d d' : List ℕ)
-    → (read_text xs at room).found ≡ T.Found p → (read_text xs' at' room').found ≡ T.Found p'
+    → (read_text xs at room).found ≡ Ok p → (read_text xs' at' room').found ≡ Ok p'
     → type_of p.code ≡ type_of p'.code → (read_text xs at room).tag ≡ (read_text xs' at' room').tag
-    → take (p.raw + p.text) (value_left (T.Found p) xs at d) ≡ take (p'.raw + p'.text) (value_left (T.Found p') xs' at' d')
+    → take (p.raw + p.text) (value_left (Ok p) xs at d) ≡ take (p'.raw + p'.text) (value_left (Ok p') xs' at' d')
     → take (p.size * 4) (drop at xs) ≡ take (p'.size * 4) (drop at' xs')
 text-calls xs xs' at at' room room' p p' d d' r r' t g value =
     let f = (text-from xs at room p r).0 in
@@ -189,18 +188,18 @@ text-calls xs xs' at at' room room' p p' d d' r r' t g value =
     ∙ (ap to_text w' ∙ text-whole xs' at' room' p' r')
 
 binary-calls : (xs xs' : List ℕ) (at at' room room' : ℕ) (p p' : Primitive) (d d' : List ℕ) → Below 256 xs → Below 256 xs'
-    → (read_binary xs at room).found ≡ B.Found p → (read_binary xs' at' room').found ≡ B.Found p'
+    → (read_binary xs at room).found ≡ Ok p → (read_binary xs' at' room').found ≡ Ok p'
     → type_of p.code ≡ type_of p'.code → (read_binary xs at room).tag ≡ (read_binary xs' at' room').tag
-    → part_at xs at (B.Found p) ≡ part_at xs' at' (B.Found p')
-    → take p.text (chars_left (B.Found p) xs at d) ≡ take p'.text (chars_left (B.Found p') xs' at' d')
+    → part_at xs at (Ok p) ≡ part_at xs' at' (Ok p')
+    → take p.text (chars_left (Ok p) xs at d) ≡ take p'.text (chars_left (Ok p') xs' at' d')
     → take (p.size * 3) (drop at xs) ≡ take (p'.size * 3) (drop at' xs')
 binary-calls xs xs' at at' room room' p p' d d' low low' r r' t g part text =
     let f = (binary-from xs at room p r).0 in
     let f' = (binary-from xs' at' room' p' r').0 in
     let s = binary-short xs at f.short in
     let s' = binary-short xs' at' f'.short in
-    let value = ap (λ (x : List ℕ). x ++ take p.text (chars_left (B.Found p) xs at d)) part
-    ∙ ap (λ (x : List ℕ). part_at xs' at' (B.Found p') ++ x) text in
+    let value = ap (λ (x : List ℕ). x ++ take p.text (chars_left (Ok p) xs at d)) part
+    ∙ ap (λ (x : List ℕ). part_at xs' at' (Ok p') ++ x) text in
     let l = sym (binary-value xs at room p d r) ∙ ap length value ∙ binary-value xs' at' room' p' d' r' in
     sym (binary-back xs at room p d low r).bytes
     ∙ same_bytes _ _ _ _ _ _ _ _ (told-code p p' f f' s s' t l) g (told-tags p p' f f' s s' t l) value

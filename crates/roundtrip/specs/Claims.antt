@@ -7,12 +7,6 @@ use Rattle.format.specs.declared.Kind.{Kind}
 use Rattle.format.specs.declared.Code.{Code}
 use Rattle.format.specs.declared.Code.TheVariants as Code
 use Rattle.format.specs.declared.Primitive.{Primitive}
-use Rattle.format.specs.declared.ToBinary.TheVariants as ToBinary
-use Rattle.format.specs.declared.ToText.TheVariants as ToText
-use Rattle.format.specs.declared.TextFound.TheVariants as TextFound
-use Rattle.format.specs.declared.BinaryFound.TheVariants as BinaryFound
-use Rattle.format.specs.declared.TextWritten.TheVariants as TextWritten
-use Rattle.format.specs.declared.BinaryWritten.TheVariants as BinaryWritten
 use Rattle.format.specs.Units.{text, binary, text_sextets, binary_sextets}
 use Rattle.format.specs.Offsets.{text_offset, binary_offset}
 use Rattle.format.specs.Conversion.{to_binary, to_text, text_to_binary, binary_to_text}
@@ -20,6 +14,7 @@ use Rattle.format.specs.Values.{bytes_in, text_in, value_of, tag_of}
 use Rattle.format.specs.Reading.{code_of, tags_of, found, reading, padded, read_text, value_left, read_binary, chars_left, part_at}
 use Rattle.format.specs.Writing.{Named, unknown, row, variable, textual, named, written, writing, written_bytes}
 use Rattle.format.specs.Writing.{write_text, write_binary, text_item_left, binary_item_left}
+use Rattle.std.specs.Prelude.{Ok}
 
 -- ---- words
 
@@ -55,10 +50,10 @@ Accepts u g room n = writing u (named g.code) g.tag g.tags g.raw room ≡ writte
 
 -- the calls do
 abbrev pub BinaryAccepts : Given → ℕ → ℕ → Type 0
-BinaryAccepts g room n = write_binary g.code g.tag g.tags g.raw room ≡ BinaryWritten.Written (binary_offset (n * 3))
+BinaryAccepts g room n = write_binary g.code g.tag g.tags g.raw room ≡ Ok (binary_offset (n * 3))
 
 abbrev pub TextAccepts : Given → ℕ → ℕ → Type 0
-TextAccepts g room n = write_text g.code g.tag g.tags g.raw room ≡ TextWritten.Written (text_offset (n * 4))
+TextAccepts g room n = write_text g.code g.tag g.tags g.raw room ≡ Ok (text_offset (n * 4))
 
 -- what a buffer that held d then holds
 abbrev pub binary_buffer : Given → List ℕ → List ℕ
@@ -89,7 +84,7 @@ pub record Tells (p : Primitive) (g : Given) (n : ℕ) : Type 0 where
 -- lies", "tag characters come by value with their number, unused places 0"; 02 c: "Characters are copied out in both forms"
 pub record BinaryReads (xs : List ℕ) (at room : ℕ) (g : Given) (n : ℕ) : Type 0 where
   pub item : Primitive
-  pub reads : (read_binary xs at room).found ≡ BinaryFound.Found item
+  pub reads : (read_binary xs at room).found ≡ Ok item
   pub tells : Tells item g n
   pub tag_back : (read_binary xs at room).tag ≡ padded (tag_given g)
   pub part-back : part_at xs at (read_binary xs at room).found ++ text_given g ≡ g.raw
@@ -98,15 +93,15 @@ pub record BinaryReads (xs : List ℕ) (at room : ℕ) (g : Given) (n : ℕ) : T
 -- a read of a text at an offset with room finds it. 01: "3 for T, where raw is copied out", "bytes behind it stay"
 pub record TextReads (xs : List ℕ) (at room : ℕ) (g : Given) (n : ℕ) : Type 0 where
   pub item : Primitive
-  pub reads : (read_text xs at room).found ≡ TextFound.Found item
+  pub reads : (read_text xs at room).found ≡ Ok item
   pub tells : Tells item g n
   pub tag_back : (read_text xs at room).tag ≡ padded (tag_given g)
   pub raw-back : (d : List ℕ) → value_left (read_text xs at room).found xs at d ≡ g.raw ++ drop (length g.raw) d
 
 -- a write accepts in either form where there is room for n units, and its bytes are b, the text's too
 pub record WritesBack (code : Code) (tag : List ℕ) (tags : ℕ) (raw : List ℕ) (n : ℕ) (b : List ℕ) : Type 0 where
-  pub binary-accepts : (room : ℕ) → n * 3 ≤ room → write_binary code tag tags raw room ≡ BinaryWritten.Written (binary_offset (n * 3))
-  pub text-accepts : (room : ℕ) → n * 4 ≤ room → write_text code tag tags raw room ≡ TextWritten.Written (text_offset (n * 4))
+  pub binary-accepts : (room : ℕ) → n * 3 ≤ room → write_binary code tag tags raw room ≡ Ok (binary_offset (n * 3))
+  pub text-accepts : (room : ℕ) → n * 4 ≤ room → write_text code tag tags raw room ≡ Ok (text_offset (n * 4))
   pub bytes : written_bytes code tag tags raw ≡ b
 
 -- ---- "what the writer accepts, the reader reads back (code, tag characters, raw value) in the domain it was written in"
@@ -137,9 +132,9 @@ pub record WrittenConverts : Type 0 where
   pub text-binary : (u room n : ℕ) (g : Given) → Accepts u g room n → to_binary (to_text (item_of g)) ≡ item_of g
   -- neither conversion refuses it where there is room: an item is never longer than a stream may be
   pub text-converts : (u room n for-binary : ℕ) (g : Given) → Accepts u g room n → n * 3 ≤ for-binary
-      → text_to_binary (to_text (item_of g)) for-binary ≡ ToBinary.Written (binary_offset (n * 3))
+      → text_to_binary (to_text (item_of g)) for-binary ≡ Ok (binary_offset (n * 3))
   pub binary-converts : (u room n for-text : ℕ) (g : Given) → Accepts u g room n → n * 4 ≤ for-text
-      → binary_to_text (item_of g) for-text ≡ ToText.Written (text_offset (n * 4))
+      → binary_to_text (item_of g) for-text ≡ Ok (text_offset (n * 4))
 
 -- ---- "what the reader accepts, the writer writes back byte for byte (the two agree on every accepted primitive, small or large
 -- as it stood)"
@@ -150,12 +145,12 @@ pub record ReadWrites : Type 0 where
       → let own = take (4 * n) s in WritesBack (code_of k h) (padded (tag_of k own)) (tags_of k) (value_of k h own) n (bytes_in own)
   -- by the calls: the item's own bytes, d being the buffer that a text was written to
   pub binary-calls : (xs : List ℕ) (at room : ℕ) (p : Primitive) (d : List ℕ) → Below 256 xs
-      → (read_binary xs at room).found ≡ BinaryFound.Found p
-      → let raw = part_at xs at (BinaryFound.Found p) ++ take p.text (chars_left (BinaryFound.Found p) xs at d) in
+      → (read_binary xs at room).found ≡ Ok p
+      → let raw = part_at xs at (Ok p) ++ take p.text (chars_left (Ok p) xs at d) in
       WritesBack p.code (read_binary xs at room).tag p.tags raw p.size (take (p.size * 3) (drop at xs))
   -- its own characters, d being the buffer that the raw value or the text was written to
-  pub text-calls : (xs : List ℕ) (at room : ℕ) (p : Primitive) (d : List ℕ) → (read_text xs at room).found ≡ TextFound.Found p
-      → let raw = take (p.raw + p.text) (value_left (TextFound.Found p) xs at d) in
+  pub text-calls : (xs : List ℕ) (at room : ℕ) (p : Primitive) (d : List ℕ) → (read_text xs at room).found ≡ Ok p
+      → let raw = take (p.raw + p.text) (value_left (Ok p) xs at d) in
       WritesBack p.code (read_text xs at room).tag p.tags raw p.size (to_binary (take (p.size * 4) (drop at xs)))
       × (to_text (written_bytes p.code (read_text xs at room).tag p.tags raw) ≡ take (p.size * 4) (drop at xs))
 
@@ -176,16 +171,16 @@ pub record OneSpelling : Type 0 where
       tag_of k own ≡ tag_of k' own' → value_of k h own ≡ value_of k' h' own' → own ≡ own'
   -- by the calls, "equal text": the items' own characters; d and d' are the buffers that the values were written to
   pub text-calls : (xs xs' : List ℕ) (at at' room room' : ℕ) (p p' : Primitive) (d d' : List ℕ)
-      → (read_text xs at room).found ≡ TextFound.Found p → (read_text xs' at' room').found ≡ TextFound.Found p'
+      → (read_text xs at room).found ≡ Ok p → (read_text xs' at' room').found ≡ Ok p'
       → type_of p.code ≡ type_of p'.code → (read_text xs at room).tag ≡ (read_text xs' at' room').tag
-      → take (p.raw + p.text) (value_left (TextFound.Found p) xs at d) ≡ take (p'.raw + p'.text) (value_left (TextFound.Found p') xs' at' d')
+      → take (p.raw + p.text) (value_left (Ok p) xs at d) ≡ take (p'.raw + p'.text) (value_left (Ok p') xs' at' d')
       → take (p.size * 4) (drop at xs) ≡ take (p'.size * 4) (drop at' xs')
   -- and equal binary: their own bytes; d and d' are the buffers that texts were written to
   pub binary-calls : (xs xs' : List ℕ) (at at' room room' : ℕ) (p p' : Primitive) (d d' : List ℕ) → Below 256 xs → Below 256 xs'
-      → (read_binary xs at room).found ≡ BinaryFound.Found p → (read_binary xs' at' room').found ≡ BinaryFound.Found p'
+      → (read_binary xs at room).found ≡ Ok p → (read_binary xs' at' room').found ≡ Ok p'
       → type_of p.code ≡ type_of p'.code → (read_binary xs at room).tag ≡ (read_binary xs' at' room').tag
-      → part_at xs at (BinaryFound.Found p) ≡ part_at xs' at' (BinaryFound.Found p')
-      → take p.text (chars_left (BinaryFound.Found p) xs at d) ≡ take p'.text (chars_left (BinaryFound.Found p') xs' at' d')
+      → part_at xs at (Ok p) ≡ part_at xs' at' (Ok p')
+      → take p.text (chars_left (Ok p) xs at d) ≡ take p'.text (chars_left (Ok p') xs' at' d')
       → take (p.size * 3) (drop at xs) ≡ take (p'.size * 3) (drop at' xs')
 
 -- ---- 02 c: "Characters are copied out in both forms .. so 01's returned part no longer serves type `A`"
@@ -195,14 +190,14 @@ abbrev pub EmptyPart : Primitive → Type 0
 EmptyPart p = (p.raw ≡ 0) × (p.start ≡ binary_offset (3 * p.size))
 
 pub record TextParts : Type 0 where
-  pub binary-none : (xs : List ℕ) (at room : ℕ) (p : Primitive) → (read_binary xs at room).found ≡ BinaryFound.Found p
-      → type_of p.code ≡ Code.Small 65 → EmptyPart p × (part_at xs at (BinaryFound.Found p) ≡ [])
-  pub text-none : (xs : List ℕ) (at room : ℕ) (p : Primitive) → (read_text xs at room).found ≡ TextFound.Found p
+  pub binary-none : (xs : List ℕ) (at room : ℕ) (p : Primitive) → (read_binary xs at room).found ≡ Ok p
+      → type_of p.code ≡ Code.Small 65 → EmptyPart p × (part_at xs at (Ok p) ≡ [])
+  pub text-none : (xs : List ℕ) (at room : ℕ) (p : Primitive) → (read_text xs at room).found ≡ Ok p
       → type_of p.code ≡ Code.Small 65 → EmptyPart p
   -- and no other code has characters: its value is raw, and in B nothing is copied out
-  pub binary-others : (xs : List ℕ) (at room : ℕ) (p : Primitive) → (read_binary xs at room).found ≡ BinaryFound.Found p
+  pub binary-others : (xs : List ℕ) (at room : ℕ) (p : Primitive) → (read_binary xs at room).found ≡ Ok p
       → ¬ (type_of p.code ≡ Code.Small 65) → p.text ≡ 0
-  pub text-others : (xs : List ℕ) (at room : ℕ) (p : Primitive) → (read_text xs at room).found ≡ TextFound.Found p
+  pub text-others : (xs : List ℕ) (at room : ℕ) (p : Primitive) → (read_text xs at room).found ≡ Ok p
       → ¬ (type_of p.code ≡ Code.Small 65) → p.text ≡ 0
 
 pub record RoundTrip : Type 0 where

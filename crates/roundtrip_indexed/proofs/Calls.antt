@@ -10,10 +10,6 @@ use Rattle.format.specs.declared.IndexRow.{IndexRow}
 use Rattle.format.specs.declared.IndexedItem.{IndexedItem}
 use Rattle.format.specs.declared.Kind.{Kind}
 use Rattle.format.specs.declared.Kind.TheVariants.{Fixed, Variable, Group, Genus, Indexed}
-use Rattle.format.specs.declared.TextIndexed.{TextIndexed}
-use Rattle.format.specs.declared.TextIndexed.TheVariants as T
-use Rattle.format.specs.declared.BinaryIndexed.{BinaryIndexed}
-use Rattle.format.specs.declared.BinaryIndexed.TheVariants as B
 use Rattle.format.specs.Units.{text, binary, text_sextets, binary_sextets}
 use Rattle.format.specs.Conversion.{to_binary, to_text}
 use Rattle.format.specs.Registry.{index_chars, index_head}
@@ -30,6 +26,10 @@ use Rattle.roundtrip_indexed.specs.Own.{Own}
 use Rattle.roundtrip_indexed.proofs.Reading.{Read, read-own}
 use Rattle.roundtrip_indexed.proofs.Sextets.{Back, reads-written}
 use Rattle.roundtrip_indexed.specs.Claims.{Given, Reads, Tells, BinaryReads, TextReads, WritesBack}
+use Rattle.std.specs.Prelude.{Ok, Result}
+use Rattle.format.specs.declared.Refusal.{Refusal}
+use Rattle.format.specs.declared.TextOffset.{TextOffset}
+use Rattle.format.specs.declared.BinaryOffset.{BinaryOffset}
 
 -- ---- what is found is an indexed item
 
@@ -73,13 +73,13 @@ module _ (c : IndexRow) (n : ℕ) where
 
   binary-answer : (xs : List ℕ) (at : ℕ) → length xs ≤ binary.limit
       → reading_indexed (binary_sextets (drop at xs)) ≡ found (Indexed c) (index_head c) n
-      → read_indexed_binary xs at ≡ B.Found (told (binary_sextets (drop at xs)))
+      → read_indexed_binary xs at ≡ Ok (told (binary_sextets (drop at xs)))
   unfolding read_indexed_binary binary_indexed_answer from
   binary-answer xs at l e = rw (le-ltb binary.limit (length xs) l, e)
 
   text-answer : (xs : List ℕ) (at room : ℕ) → length xs ≤ text.limit → (told (text_sextets (drop at xs))).raw ≤ room
       → reading_indexed (text_sextets (drop at xs)) ≡ found (Indexed c) (index_head c) n
-      → read_indexed_text xs at room ≡ T.Found (told (text_sextets (drop at xs)))
+      → read_indexed_text xs at room ≡ Ok (told (text_sextets (drop at xs)))
   unfolding read_indexed_text text_indexed_answer from indexed_of
   text-answer xs at room l r e =
       rw (le-ltb text.limit (length xs) l, e, le-ltb room (3 * n - raw_start (Indexed c) (index_head c)) r)
@@ -129,7 +129,7 @@ binary-by xs at g n l low r =
       item = told c n s;
       reads = a;
       tells = tells s g n r;
-      part-back = ap (λ (x : BinaryIndexed). indexed_part xs at x) a
+      part-back = ap (λ (x : Result IndexedItem (Refusal BinaryOffset)). indexed_part xs at x) a
           ∙ part-at xs at (raw_start (Indexed c) (index_head c)) n (own-inside c n _ o) inside
           ∙ sym (ap (drop (raw_start (Indexed c) (index_head c))) (binary-own (drop at xs) n inside low)) ∙ raw-is s g n r;
     }
@@ -145,7 +145,7 @@ text-by xs at room g n l f r =
       item = told r.row n s;
       reads = a;
       tells = t;
-      raw-back = λ d. ap (λ (x : TextIndexed). indexed_left x xs at d) a ∙ rw (r.reads, r.raw-back, t.raw-length);
+      raw-back = λ d. ap (λ (x : Result IndexedItem (Refusal TextOffset)). indexed_left x xs at d) a ∙ rw (r.reads, r.raw-back, t.raw-length);
     }
 
 -- ---- what an answer comes from
@@ -170,28 +170,28 @@ from_found s p k h n e i =
       is = rw (← t.kind, ← t.head) i;
     }
 
-binary-from : (xs : List ℕ) (at : ℕ) (p : IndexedItem) → read_indexed_binary xs at ≡ B.Found p → From (binary_sextets (drop at xs)) p
+binary-from : (xs : List ℕ) (at : ℕ) (p : IndexedItem) → read_indexed_binary xs at ≡ Ok p → From (binary_sextets (drop at xs)) p
 unfolding read_indexed_binary binary_indexed_answer from
 binary-from xs at p =
-    pick-by (λ (x : BinaryIndexed). x ≡ B.Found p → From (binary_sextets (drop at xs)) p) (ltb binary.limit (length xs)) _ _
+    pick-by (λ (x : Result IndexedItem (Refusal BinaryOffset)). x ≡ Ok p → From (binary_sextets (drop at xs)) p) (ltb binary.limit (length xs)) _ _
     (λ _ e. let z : ◌≡◌ {A = ℕ} 0 1 = cc in absurd (omega arith)) (λ _ e. by (reading_indexed (binary_sextets (drop at xs))) refl e)
   where
     by : (r : Reading) → reading_indexed (binary_sextets (drop at xs)) ≡ r
-        → binary_indexed_answer at r (binary_sextets (drop at xs)) ≡ B.Found p → From (binary_sextets (drop at xs)) p
+        → binary_indexed_answer at r (binary_sextets (drop at xs)) ≡ Ok p → From (binary_sextets (drop at xs)) p
     by (refused m q) f e = let z : ◌≡◌ {A = ℕ} 0 1 = cc in absurd (omega arith)
     by (found k h n) f e = let i : p ≡ indexed_of k h n (take (4 * n) (binary_sextets (drop at xs))) = cc in from_found _ p k h n f i
 
-text-from : (xs : List ℕ) (at room : ℕ) (p : IndexedItem) → read_indexed_text xs at room ≡ T.Found p → From (text_sextets (drop at xs)) p
+text-from : (xs : List ℕ) (at room : ℕ) (p : IndexedItem) → read_indexed_text xs at room ≡ Ok p → From (text_sextets (drop at xs)) p
 unfolding read_indexed_text text_indexed_answer from
 text-from xs at room p =
-    pick-by (λ (x : TextIndexed). x ≡ T.Found p → From (text_sextets (drop at xs)) p) (ltb text.limit (length xs)) _ _
+    pick-by (λ (x : Result IndexedItem (Refusal TextOffset)). x ≡ Ok p → From (text_sextets (drop at xs)) p) (ltb text.limit (length xs)) _ _
     (λ _ e. let z : ◌≡◌ {A = ℕ} 0 1 = cc in absurd (omega arith)) (λ _ e. by (reading_indexed (text_sextets (drop at xs))) refl e)
   where
     by : (r : Reading) → reading_indexed (text_sextets (drop at xs)) ≡ r
-        → text_indexed_answer at r (text_sextets (drop at xs)) room ≡ T.Found p → From (text_sextets (drop at xs)) p
+        → text_indexed_answer at r (text_sextets (drop at xs)) room ≡ Ok p → From (text_sextets (drop at xs)) p
     by (refused m q) f = λ e. let z : ◌≡◌ {A = ℕ} 0 1 = cc in absurd (omega arith)
     by (found k h n) f =
-        pick-by (λ (x : TextIndexed). x ≡ T.Found p → From (text_sextets (drop at xs)) p)
+        pick-by (λ (x : Result IndexedItem (Refusal TextOffset)). x ≡ Ok p → From (text_sextets (drop at xs)) p)
         (ltb room (3 * n - raw_start k h)) _ _
         (λ _ e. let z : ◌≡◌ {A = ℕ} 0 1 = cc in absurd (omega arith))
         (λ _ e. let i : p ≡ indexed_of k h n (take (4 * n) (text_sextets (drop at xs))) = cc in from_found _ p k h n f i)
@@ -206,8 +206,8 @@ back-of s c h n (c', e, w) =
     let q : c' ≡ c = cc in
     subst (λ (x : IndexRow). WritesBack (code_of_row x) (index_of x s) (ondex_of x s) (raw_of (Indexed c) h s) n (bytes_in s)) q w
 
-pub binary-back : (xs : List ℕ) (at : ℕ) (p : IndexedItem) → Below 256 xs → read_indexed_binary xs at ≡ B.Found p
-    → WritesBack p.code p.index p.ondex (indexed_part xs at (B.Found p)) p.size (take (p.size * 3) (drop at xs))
+pub binary-back : (xs : List ℕ) (at : ℕ) (p : IndexedItem) → Below 256 xs → read_indexed_binary xs at ≡ Ok p
+    → WritesBack p.code p.index p.ondex (indexed_part xs at (Ok p)) p.size (take (p.size * 3) (drop at xs))
 unfolding indexed_part indexed_of raw_of
 binary-back xs at p low e =
     let g = binary-from xs at p e in
@@ -219,8 +219,8 @@ binary-back xs at p low e =
     rw (g.is, part-at xs at (raw_start (Indexed c) (index_head c)) n (own-inside c n _ g.own) inside, ← (binary-own (drop at xs) n inside own))
     (back-of (take (4 * n) s) c (index_head c) n (reads-written s (Indexed c) (index_head c) n g.reads))
 
-pub text-back : (xs : List ℕ) (at room : ℕ) (p : IndexedItem) (d : List ℕ) → read_indexed_text xs at room ≡ T.Found p
-    → let raw = take p.raw (indexed_left (T.Found p) xs at d) in
+pub text-back : (xs : List ℕ) (at room : ℕ) (p : IndexedItem) (d : List ℕ) → read_indexed_text xs at room ≡ Ok p
+    → let raw = take p.raw (indexed_left (Ok p) xs at d) in
     WritesBack p.code p.index p.ondex raw p.size (to_binary (take (p.size * 4) (drop at xs)))
 unfolding indexed_left indexed_raw from indexed_of
 text-back xs at room p d e =
@@ -235,7 +235,7 @@ text-back xs at room p d e =
     (back-of (take (4 * n) s) c (index_head c) n (reads-written s (Indexed c) (index_head c) n g.reads))
 
 -- an accepted item's own characters are whole units of the alphabet, so they are the text of its bytes
-pub text-whole : (xs : List ℕ) (at room : ℕ) (p : IndexedItem) → read_indexed_text xs at room ≡ T.Found p
+pub text-whole : (xs : List ℕ) (at room : ℕ) (p : IndexedItem) → read_indexed_text xs at room ≡ Ok p
     → to_text (to_binary (take (p.size * 4) (drop at xs))) ≡ take (p.size * 4) (drop at xs)
 unfolding indexed_of
 text-whole xs at room p e =
@@ -253,14 +253,14 @@ told-end : (s : List ℕ) (p : IndexedItem) → From s p → p.start.0 + p.raw �
 unfolding indexed_of
 told-end s p g = rw g.is (omega (arith, own-inside g.row g.size _ g.own))
 
-pub binary-end : (xs : List ℕ) (at : ℕ) (p : IndexedItem) → read_indexed_binary xs at ≡ B.Found p → p.start.0 + p.raw ≡ p.size * 3
+pub binary-end : (xs : List ℕ) (at : ℕ) (p : IndexedItem) → read_indexed_binary xs at ≡ Ok p → p.start.0 + p.raw ≡ p.size * 3
 binary-end xs at p e = told-end _ p (binary-from xs at p e)
 
-pub text-end : (xs : List ℕ) (at room : ℕ) (p : IndexedItem) → read_indexed_text xs at room ≡ T.Found p → p.start.0 + p.raw ≡ p.size * 3
+pub text-end : (xs : List ℕ) (at room : ℕ) (p : IndexedItem) → read_indexed_text xs at room ≡ Ok p → p.start.0 + p.raw ≡ p.size * 3
 text-end xs at room p e = told-end _ p (text-from xs at room p e)
 
-pub end-part : (xs : List ℕ) (at : ℕ) (p : IndexedItem) → read_indexed_binary xs at ≡ B.Found p
-    → indexed_part xs at (B.Found p) ≡ drop p.start.0 (take (p.size * 3) (drop at xs))
+pub end-part : (xs : List ℕ) (at : ℕ) (p : IndexedItem) → read_indexed_binary xs at ≡ Ok p
+    → indexed_part xs at (Ok p) ≡ drop p.start.0 (take (p.size * 3) (drop at xs))
 unfolding indexed_part indexed_of
 end-part xs at p e =
     let g = binary-from xs at p e in

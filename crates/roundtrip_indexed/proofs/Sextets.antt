@@ -10,8 +10,6 @@ use Rattle.base.specs.Digits.{Below}
 use Rattle.format.specs.declared.IndexRow.{IndexRow}
 use Rattle.format.specs.declared.Kind.{Kind}
 use Rattle.format.specs.declared.Kind.TheVariants.{Fixed, Variable, Group, Genus, Indexed}
-use Rattle.format.specs.declared.ToBinary.TheVariants as ToBinary
-use Rattle.format.specs.declared.ToText.TheVariants as ToText
 use Rattle.format.specs.Alphabet.{sextet_of}
 use Rattle.format.specs.Units.{text, binary, text_sextets, binary_sextets}
 use Rattle.format.specs.Offsets.{text_offset, binary_offset}
@@ -32,6 +30,7 @@ use Rattle.roundtrip_indexed.proofs.Reading.{Read, own-reads, read-own}
 use Rattle.roundtrip_indexed.proofs.Back.{written_back, own-fits}
 use Rattle.roundtrip_indexed.proofs.Made as M
 use Rattle.roundtrip_indexed.specs.Claims.{Given, item_of, Accepts, Reads, WritesBack}
+use Rattle.std.specs.Prelude.{Ok}
 
 -- ---- what an accepted write says
 
@@ -148,7 +147,7 @@ module _ (u room n : ℕ) (g : Given) (w : Accepts u g room n) where
   text-back = binary-back (item_of g) (omega (arith, written-length)) written_below
 
   pub text-converts : (for-binary : ℕ) → n * 3 ≤ for-binary
-      → text_to_binary (to_text (item_of g)) for-binary ≡ ToBinary.Written (binary_offset (n * 3))
+      → text_to_binary (to_text (item_of g)) for-binary ≡ Ok (binary_offset (n * 3))
   unfolding text_to_binary
   text-converts for-binary r =
       let t = to_text (item_of g) in
@@ -162,7 +161,7 @@ module _ (u room n : ℕ) (g : Given) (w : Accepts u g room n) where
         le-ltb for-binary (n * 3) r,
       )
 
-  pub binary-converts : (for-text : ℕ) → n * 4 ≤ for-text → binary_to_text (item_of g) for-text ≡ ToText.Written (text_offset (n * 4))
+  pub binary-converts : (for-text : ℕ) → n * 4 ≤ for-text → binary_to_text (item_of g) for-text ≡ Ok (text_offset (n * 4))
   unfolding binary_to_text
   binary-converts for-text r =
       let b = item_of g in

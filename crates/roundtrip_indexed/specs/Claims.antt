@@ -7,12 +7,6 @@ use Rattle.format.specs.declared.IndexCode.{IndexCode}
 use Rattle.format.specs.declared.IndexedItem.{IndexedItem}
 use Rattle.format.specs.declared.Kind.{Kind}
 use Rattle.format.specs.declared.Kind.TheVariants.{Indexed}
-use Rattle.format.specs.declared.ToBinary.TheVariants as ToBinary
-use Rattle.format.specs.declared.ToText.TheVariants as ToText
-use Rattle.format.specs.declared.TextIndexed.TheVariants as TextIndexed
-use Rattle.format.specs.declared.BinaryIndexed.TheVariants as BinaryIndexed
-use Rattle.format.specs.declared.TextWritten.TheVariants as TextWritten
-use Rattle.format.specs.declared.BinaryWritten.TheVariants as BinaryWritten
 use Rattle.format.specs.Units.{text, binary, text_sextets, binary_sextets}
 use Rattle.format.specs.Offsets.{text_offset, binary_offset}
 use Rattle.format.specs.Conversion.{to_binary, to_text, text_to_binary, binary_to_text}
@@ -21,6 +15,7 @@ use Rattle.format.specs.Reading.{found}
 use Rattle.format.specs.Writing.{written}
 use Rattle.format.specs.Indexed.{code_of_row, reading_indexed, read_indexed_text, indexed_left, read_indexed_binary, indexed_part, named_index}
 use Rattle.format.specs.Indexed.{writing_indexed, written_indexed, write_indexed_text, write_indexed_binary, text_indexed_left, binary_indexed_left}
+use Rattle.std.specs.Prelude.{Ok}
 
 -- ---- words
 
@@ -42,10 +37,10 @@ Accepts u g room n = writing_indexed u (named_index g.code) g.index g.ondex (len
 
 -- the calls do
 abbrev pub BinaryAccepts : Given → ℕ → ℕ → Type 0
-BinaryAccepts g room n = write_indexed_binary g.code g.index g.ondex g.raw room ≡ BinaryWritten.Written (binary_offset (n * 3))
+BinaryAccepts g room n = write_indexed_binary g.code g.index g.ondex g.raw room ≡ Ok (binary_offset (n * 3))
 
 abbrev pub TextAccepts : Given → ℕ → ℕ → Type 0
-TextAccepts g room n = write_indexed_text g.code g.index g.ondex g.raw room ≡ TextWritten.Written (text_offset (n * 4))
+TextAccepts g room n = write_indexed_text g.code g.index g.ondex g.raw room ≡ Ok (text_offset (n * 4))
 
 -- what a buffer that held d then holds
 abbrev pub binary_buffer : Given → List ℕ → List ℕ
@@ -77,21 +72,21 @@ pub record Tells (p : IndexedItem) (g : Given) (n : ℕ) : Type 0 where
 -- a read of a binary at an offset finds it. 01: "the raw value is handed back as the part of the binary stream where it lies"
 pub record BinaryReads (xs : List ℕ) (at : ℕ) (g : Given) (n : ℕ) : Type 0 where
   pub item : IndexedItem
-  pub reads : read_indexed_binary xs at ≡ BinaryIndexed.Found item
+  pub reads : read_indexed_binary xs at ≡ Ok item
   pub tells : Tells item g n
   pub part-back : indexed_part xs at (read_indexed_binary xs at) ≡ g.raw
 
 -- a read of a text at an offset with room finds it. 01: "3 for T, where raw is copied out", "bytes behind it stay"
 pub record TextReads (xs : List ℕ) (at room : ℕ) (g : Given) (n : ℕ) : Type 0 where
   pub item : IndexedItem
-  pub reads : read_indexed_text xs at room ≡ TextIndexed.Found item
+  pub reads : read_indexed_text xs at room ≡ Ok item
   pub tells : Tells item g n
   pub raw-back : (d : List ℕ) → indexed_left (read_indexed_text xs at room) xs at d ≡ g.raw ++ drop (length g.raw) d
 
 -- a write accepts in either form where there is room for n units, and its bytes are b, the text's too
 pub record WritesBack (code : IndexCode) (index ondex : ℕ) (raw : List ℕ) (n : ℕ) (b : List ℕ) : Type 0 where
-  pub binary-accepts : (room : ℕ) → n * 3 ≤ room → write_indexed_binary code index ondex raw room ≡ BinaryWritten.Written (binary_offset (n * 3))
-  pub text-accepts : (room : ℕ) → n * 4 ≤ room → write_indexed_text code index ondex raw room ≡ TextWritten.Written (text_offset (n * 4))
+  pub binary-accepts : (room : ℕ) → n * 3 ≤ room → write_indexed_binary code index ondex raw room ≡ Ok (binary_offset (n * 3))
+  pub text-accepts : (room : ℕ) → n * 4 ≤ room → write_indexed_text code index ondex raw room ≡ Ok (text_offset (n * 4))
   pub bytes : written_indexed code index ondex raw ≡ b
 
 -- ---- what the writer accepts, the reader reads back: code, index, ondex and raw value, in the form it was written in
@@ -120,9 +115,9 @@ pub record WrittenConverts : Type 0 where
   pub text-binary : (u room n : ℕ) (g : Given) → Accepts u g room n → to_binary (to_text (item_of g)) ≡ item_of g
   -- neither conversion refuses it where there is room
   pub text-converts : (u room n for-binary : ℕ) (g : Given) → Accepts u g room n → n * 3 ≤ for-binary
-      → text_to_binary (to_text (item_of g)) for-binary ≡ ToBinary.Written (binary_offset (n * 3))
+      → text_to_binary (to_text (item_of g)) for-binary ≡ Ok (binary_offset (n * 3))
   pub binary-converts : (u room n for-text : ℕ) (g : Given) → Accepts u g room n → n * 4 ≤ for-text
-      → binary_to_text (item_of g) for-text ≡ ToText.Written (text_offset (n * 4))
+      → binary_to_text (item_of g) for-text ≡ Ok (text_offset (n * 4))
 
 -- ---- what the reader accepts, the writer writes back byte for byte
 
@@ -132,21 +127,21 @@ pub record ReadWrites : Type 0 where
       → let own = take (4 * n) s in
       (c : IndexRow) × (k ≡ Indexed c) × WritesBack (code_of_row c) (index_of c own) (ondex_of c own) (raw_of k h own) n (bytes_in own)
   -- by the calls: the item's own bytes
-  pub binary-calls : (xs : List ℕ) (at : ℕ) (p : IndexedItem) → Below 256 xs → read_indexed_binary xs at ≡ BinaryIndexed.Found p
-      → WritesBack p.code p.index p.ondex (indexed_part xs at (BinaryIndexed.Found p)) p.size (take (p.size * 3) (drop at xs))
+  pub binary-calls : (xs : List ℕ) (at : ℕ) (p : IndexedItem) → Below 256 xs → read_indexed_binary xs at ≡ Ok p
+      → WritesBack p.code p.index p.ondex (indexed_part xs at (Ok p)) p.size (take (p.size * 3) (drop at xs))
   -- its own characters, d being the buffer that the raw value was written to
-  pub text-calls : (xs : List ℕ) (at room : ℕ) (p : IndexedItem) (d : List ℕ) → read_indexed_text xs at room ≡ TextIndexed.Found p
-      → let raw = take p.raw (indexed_left (TextIndexed.Found p) xs at d) in
+  pub text-calls : (xs : List ℕ) (at room : ℕ) (p : IndexedItem) (d : List ℕ) → read_indexed_text xs at room ≡ Ok p
+      → let raw = take p.raw (indexed_left (Ok p) xs at d) in
       WritesBack p.code p.index p.ondex raw p.size (to_binary (take (p.size * 4) (drop at xs)))
       × (to_text (written_indexed p.code p.index p.ondex raw) ≡ take (p.size * 4) (drop at xs))
 
 -- ---- 01: "So in B the raw value is always whole bytes at the item's end"
 
 pub record AtEnd : Type 0 where
-  pub ends : (xs : List ℕ) (at : ℕ) (p : IndexedItem) → read_indexed_binary xs at ≡ BinaryIndexed.Found p → p.start.0 + p.raw ≡ p.size * 3
-  pub part : (xs : List ℕ) (at : ℕ) (p : IndexedItem) → read_indexed_binary xs at ≡ BinaryIndexed.Found p
-      → indexed_part xs at (BinaryIndexed.Found p) ≡ drop p.start.0 (take (p.size * 3) (drop at xs))
-  pub ends-text : (xs : List ℕ) (at room : ℕ) (p : IndexedItem) → read_indexed_text xs at room ≡ TextIndexed.Found p
+  pub ends : (xs : List ℕ) (at : ℕ) (p : IndexedItem) → read_indexed_binary xs at ≡ Ok p → p.start.0 + p.raw ≡ p.size * 3
+  pub part : (xs : List ℕ) (at : ℕ) (p : IndexedItem) → read_indexed_binary xs at ≡ Ok p
+      → indexed_part xs at (Ok p) ≡ drop p.start.0 (take (p.size * 3) (drop at xs))
+  pub ends-text : (xs : List ℕ) (at room : ℕ) (p : IndexedItem) → read_indexed_text xs at room ≡ Ok p
       → p.start.0 + p.raw ≡ p.size * 3
 
 pub record IndexedTrip : Type 0 where

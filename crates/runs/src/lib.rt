@@ -122,10 +122,3 @@ pub fn plain(rows: &[u16; 192], a: u8, b: u8, c: u8, d: u8) -> usize
     }
     if a == 56 { not_text(b, c, d) } else { 0 }
 }
-
-// How far a number is beyond another; 0 where it is not.
-pub fn beyond(x: usize, y: usize) -> usize
-    ensures { result ≡ x - y }
-{
-    x.saturating_sub(y)
-}

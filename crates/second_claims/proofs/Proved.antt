@@ -2,8 +2,6 @@
 use Rattle.std.specs.Prelude.{ℕ, ◌*◌, ◌/◌, ◌≤◌, ◌<◌, ◌≡◌, refl, List, ◌++◌, length, drop, take, ltb}
 use Rattle.std.proofs.Common.{ap, ◌∙◌, ⊎_elim, arith, take_at, drop_at, lt-ltb, le-ltb}
 use Rattle.base.specs.Cases.{lt-or-ge}
-use Rattle.format.specs.declared.Reported.{Reported}
-use Rattle.format.specs.declared.Reported.TheVariants as R
 use Rattle.format.specs.Units.{binary}
 use Rattle.format.specs.Conversion.{to_text}
 use Rattle.format.specs.Report.{report_answer, report_left}
@@ -11,6 +9,9 @@ use Rattle.laws.specs.Conversion.{length-to-text}
 use Rattle.second_claims.specs.Second.{second_binary, work_left}
 use Rattle.second_claims.proofs.ByText.{rows-by-text, remainder-by-text}
 use Rattle.second_claims.specs.Claims.{SecondClaims}
+use Rattle.std.specs.Prelude.{Result}
+use Rattle.format.specs.declared.Refusal.{Refusal}
+use Rattle.format.specs.Refusals.{refused_by}
 
 equal : (xs : List ℕ) (work room : ℕ) → length xs / 3 * 4 ≤ work → second_binary xs work room ≡ report_answer binary xs room
 unfolding second_binary report_answer
@@ -18,11 +19,11 @@ equal xs work room h =
     ⊎_elim (λ over. rw (lt-ltb binary.limit (length xs) over)) (λ short. rw (le-ltb binary.limit (length xs) short, le-ltb work (length xs / 3 * 4) h))
     (lt-or-ge binary.limit (length xs))
 
-less : (xs : List ℕ) (work room : ℕ) → length xs ≤ binary.limit → work < length xs / 3 * 4 → second_binary xs work room ≡ R.Refused 3 0
+less : (xs : List ℕ) (work room : ℕ) → length xs ≤ binary.limit → work < length xs / 3 * 4 → second_binary xs work room ≡ refused_by 3 0
 unfolding second_binary
 less xs work room short h = rw (le-ltb binary.limit (length xs) short, lt-ltb work (length xs / 3 * 4) h)
 
-one : (xs : List ℕ) (work room : ℕ) → binary.limit < length xs → second_binary xs work room ≡ R.Refused 1 0
+one : (xs : List ℕ) (work room : ℕ) → binary.limit < length xs → second_binary xs work room ≡ refused_by 1 0
 unfolding second_binary
 one xs work room over = rw (lt-ltb binary.limit (length xs) over)
 
@@ -49,7 +50,7 @@ proved = record {
   rows-by-text = rows-by-text;
   remainder-by-text = remainder-by-text;
   equal = equal;
-  equal-left = λ xs out work h. ap (λ (r : Reported). report_left r binary xs out) (equal xs work (length out) h);
+  equal-left = λ xs out work h. ap (λ (r : Result ℕ (Refusal ℕ)). report_left r binary xs out) (equal xs work (length out) h);
   less = less;
   one = one;
   kept-one = kept-one;

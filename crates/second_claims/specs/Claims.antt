@@ -1,10 +1,10 @@
 -- What 02 m asks of the second judge. Statements only. Proved in Proved. Assumes nothing.
 use Rattle.std.specs.Prelude.{ℕ, ◌*◌, ◌/◌, ◌≤◌, ◌<◌, ◌≡◌, List, ◌++◌, length, drop, take}
-use Rattle.format.specs.declared.Reported.TheVariants as R
 use Rattle.format.specs.Units.{binary}
 use Rattle.format.specs.Conversion.{to_text}
 use Rattle.format.specs.Report.{rows_in, remainder_in, report_answer, report_left}
 use Rattle.second_claims.specs.Second.{rows_by_text, remainder_by_text, second_binary, work_left}
+use Rattle.format.specs.Refusals.{refused_by}
 
 pub record SecondClaims : Type 0 where
   -- "convert to text, then frame and judge": for every stream, "in whole units or not", what is found by way of the text is what 01's
@@ -17,8 +17,8 @@ pub record SecondClaims : Type 0 where
   pub equal-left : (xs out : List ℕ) (work : ℕ) → length xs / 3 * 4 ≤ work
       → report_left (second_binary xs work (length out)) binary xs out ≡ report_left (report_answer binary xs (length out)) binary xs out
   -- "with less it answers 3, after 1"
-  pub less : (xs : List ℕ) (work room : ℕ) → length xs ≤ binary.limit → work < length xs / 3 * 4 → second_binary xs work room ≡ R.Refused 3 0
-  pub one : (xs : List ℕ) (work room : ℕ) → binary.limit < length xs → second_binary xs work room ≡ R.Refused 1 0
+  pub less : (xs : List ℕ) (work room : ℕ) → length xs ≤ binary.limit → work < length xs / 3 * 4 → second_binary xs work room ≡ refused_by 3 0
+  pub one : (xs : List ℕ) (work room : ℕ) → binary.limit < length xs → second_binary xs work room ≡ refused_by 1 0
   -- the working room
   pub kept-one : (xs work : List ℕ) → binary.limit < length xs → work_left xs work ≡ work
   pub kept_less : (xs work : List ℕ) → length work < length xs / 3 * 4 → work_left xs work ≡ work

@@ -6,9 +6,6 @@ use native.Mathlib.Omega.{arith}
 use lib.ListN.{length, take, drop, length-map, length-drop}
 use lib.Seq.{take_at, length-take-le}
 use borrow.Author.Tests.{lt-ltb, le-ltb}
-use Rattle.format.specs.declared.Reported.{Reported}
-use Rattle.format.specs.declared.Reported.TheVariants as R
-use Rattle.format.specs.declared.ToText.{ToText}
 use Rattle.format.specs.Units.{text, binary}
 use Rattle.format.specs.Conversion.{to_text, binary_to_text, text_left}
 use Rattle.format.specs.Report.{rows_in, report_answer, report_left}
@@ -16,10 +13,15 @@ use Rattle.laws.specs.Conversion.{length-to-text, binary-to-text-sextets, text-j
 use Rattle.second_claims.specs.Second.{row_back, rows_by_text, second_binary, work_left}
 use Rattle.second_claims.proofs.ByText.{rows-by-text}
 use Rattle.second_report.specs.Reports.{form_of, Given, Answered}
+use Rattle.std.specs.Prelude.{Result}
+use Rattle.format.specs.declared.Refusal.{Refusal}
+use Rattle.format.specs.Refusals.{refused_by}
+use Rattle.format.specs.declared.TextOffset.{TextOffset}
+use Rattle.format.specs.declared.BinaryOffset.{BinaryOffset}
 
 -- ---- a text
 
-pub text-long : (s out : List ℕ) → 4194304 < length s → (R.Refused 1 0 ≡ report_answer text s (length out)) × (out ≡ report_left (R.Refused 1 0) text s out)
+pub text-long : (s out : List ℕ) → 4194304 < length s → (refused_by 1 0 ≡ report_answer text s (length out)) × (out ≡ report_left (refused_by 1 0) text s out)
 unfolding report_answer report_left
 text-long s out l = (rw (lt-ltb 4194304 (length s) l), refl)
 
@@ -27,7 +29,7 @@ pub text-given : (s : List ℕ) → length s ≤ 4194304 → Given 4 s s
 unfolding form_of
 text-given s l = record { form = refl; few = l; long = l; same = refl; items = refl }
 
-pub text-answer : (s out : List ℕ) (r : Reported) (out' : List ℕ) → Answered (form_of 4) s out r out'
+pub text-answer : (s out : List ℕ) (r : Result ℕ (Refusal ℕ)) (out' : List ℕ) → Answered (form_of 4) s out r out'
     → (r ≡ report_answer text s (length out)) × (out' ≡ report_left r text s out)
 unfolding form_of
 text-answer s out r out' A = (A.answer, A.left)
@@ -36,7 +38,7 @@ text-answer s out r out' A = (A.answer, A.left)
 
 module _ (s work : List ℕ) where
   pub binary-long : (out : List ℕ) → 3145728 < length s
-      → (R.Refused 1 0 ≡ second_binary s (length work) (length out)) × (work ≡ work_left s work) × (out ≡ report_left (R.Refused 1 0) binary s out)
+      → (refused_by 1 0 ≡ second_binary s (length work) (length out)) × (work ≡ work_left s work) × (out ≡ report_left (refused_by 1 0) binary s out)
   unfolding second_binary work_left report_left
   binary-long out l = (rw (lt-ltb 3145728 (length s) l), rw (lt-ltb 3145728 (length s) l), refl)
 
@@ -45,7 +47,7 @@ module _ (s work : List ℕ) where
     same-room = omega arith
 
     pub work-short : (out : List ℕ) → length work < 4 * (length s / 3)
-        → (R.Refused 3 0 ≡ second_binary s (length work) (length out)) × (work ≡ work_left s work) × (out ≡ report_left (R.Refused 3 0) binary s out)
+        → (refused_by 3 0 ≡ second_binary s (length work) (length out)) × (work ≡ work_left s work) × (out ≡ report_left (refused_by 3 0) binary s out)
     unfolding second_binary work_left report_left
     work-short out l = (
       rw (le-ltb 3145728 (length s) few, same-room, lt-ltb (length work) (4 * (length s / 3)) l),
@@ -72,7 +74,7 @@ module _ (s work : List ℕ) where
     unfolding rows_by_text
     items-same = sym (ap length (rows-by-text s) ∙ length-map (rows_in text (to_text s)) row_back)
 
-    module _ (room : 4 * (length s / 3) ≤ length work) (r : ToText) (er : r ≡ binary_to_text (take (3 * (length s / 3)) s) (length work)) (work' : List ℕ)
+    module _ (room : 4 * (length s / 3) ≤ length work) (r : Result TextOffset (Refusal BinaryOffset)) (er : r ≡ binary_to_text (take (3 * (length s / 3)) s) (length work)) (work' : List ℕ)
         (ew : work' ≡ text_left r (take (3 * (length s / 3)) s) work) where
       converted : work' ≡ to_text s ++ drop (4 * (length s / 3)) work
       unfolding binary_to_text text_left
@@ -104,7 +106,7 @@ module _ (s work : List ℕ) where
             items = items-same;
           }
 
-      pub binary-answer : (out : List ℕ) (a : Reported) (out' : List ℕ) → Answered (form_of 3) s out a out'
+      pub binary-answer : (out : List ℕ) (a : Result ℕ (Refusal ℕ)) (out' : List ℕ) → Answered (form_of 3) s out a out'
           → (a ≡ second_binary s (length work) (length out)) × (work' ≡ work_left s work) × (out' ≡ report_left a binary s out)
       unfolding form_of second_binary work_left
       binary-answer out a out' A = (

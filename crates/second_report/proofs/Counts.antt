@@ -24,9 +24,9 @@ use Rattle.format.specs.Report.{rows, rows_in, frame_in, placed, be4, verdict_by
 use Rattle.laws.specs.Domains.{text-reader}
 use Rattle.laws.specs.Frames.{frames}
 use Rattle.laws.specs.Items.{rows_at, rows-nil, rows-refused, rows-item}
-use Rattle.format.specs.declared.Reported.TheVariants as R
 use Rattle.filling.specs.Stores.{be4-long, sets-append}
 use Rattle.second_report.specs.Reports.{Put, verdict_at, item_left, end_answer, end_left, Ended}
+use Rattle.std.specs.Prelude.{Ok}
 
 -- ---- so many items up to a unit
 
@@ -121,11 +121,11 @@ module _ (unit start size : ℕ) (v : Verdict) (i p : ℕ) (out o₁ : List ℕ)
 -- ---- what is behind the rows
 
 module _ (n k rest offset number : ℕ) (out o₁ o₂ : List ℕ) (e₁ : o₁ ≡ sets out (4 + 9 * n) (be4 k)) where
-  pub end_none : rest ≡ 0 → o₂ ≡ sets o₁ (8 + 9 * n + 9 * k) (be4 0) → Ended n k rest offset number out (R.Written (8 + 9 * n + 9 * k + 4)) o₂
+  pub end_none : rest ≡ 0 → o₂ ≡ sets o₁ (8 + 9 * n + 9 * k) (be4 0) → Ended n k rest offset number out (Ok (8 + 9 * n + 9 * k + 4)) o₂
   unfolding end_answer end_left
-  end_none z e₂ = record { answer = rw (eq-eqb rest 0 z) (ap R.Written (omega arith)); left = e₂ ∙ rw (e₁, eq-eqb rest 0 z) }
+  end_none z e₂ = record { answer = rw (eq-eqb rest 0 z) (ap Ok (omega arith)); left = e₂ ∙ rw (e₁, eq-eqb rest 0 z) }
 
   pub end-some : (rest ≡ 0 → ⊥) → o₂ ≡ sets o₁ (8 + 9 * n + 9 * k) (be4 1 ++ (be4 offset ++ (number ∷ [])))
-      → Ended n k rest offset number out (R.Written (8 + 9 * n + 9 * k + 9)) o₂
+      → Ended n k rest offset number out (Ok (8 + 9 * n + 9 * k + 9)) o₂
   unfolding end_answer end_left
-  end-some z e₂ = record { answer = rw (ne_eqb rest 0 z) (ap R.Written (omega arith)); left = e₂ ∙ rw (e₁, ne_eqb rest 0 z) }
+  end-some z e₂ = record { answer = rw (ne_eqb rest 0 z) (ap Ok (omega arith)); left = e₂ ∙ rw (e₁, ne_eqb rest 0 z) }

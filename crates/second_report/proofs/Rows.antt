@@ -13,8 +13,6 @@ use borrow.Author.Tests.{lt-ltb, le-ltb}
 use Rattle.format.specs.declared.Form.{Form}
 use Rattle.format.specs.declared.Form.TheVariants.{Text, Binary}
 use Rattle.format.specs.declared.Framed.TheVariants.{Item, Unframed}
-use Rattle.format.specs.declared.Reported.{Reported}
-use Rattle.format.specs.declared.Reported.TheVariants as R
 use Rattle.format.specs.declared.Verdict.{Verdict}
 use Rattle.format.specs.Units.{domain, text, text_sextets}
 use Rattle.format.specs.Framing.{frame_by, frame_ruled, frame_next, scale}
@@ -35,6 +33,9 @@ use Rattle.second.specs.Items.{Next}
 use Rattle.second.proofs.Groups.{Found, item-is, unframed-is, near-wider, near-own}
 use Rattle.second_report.proofs.Counts.{behind4}
 use Rattle.second_report.specs.Reports.{form_of, Given, Answered, Row, Put, verdict_at, item_left, end_answer, end_left, Ended}
+use Rattle.std.specs.Prelude.{Ok, Result}
+use Rattle.format.specs.declared.Refusal.{Refusal}
+use Rattle.format.specs.Refusals.{refused_by}
 
 -- rows of nine bytes
 abbrev Fill : Form → List ℕ → List ℕ → ℕ → ℕ → ℕ → ℕ → List ℕ → Type 0
@@ -58,19 +59,19 @@ module _ (unit : ℕ) (s t out : List ℕ) (n : ℕ) (G : Given unit s t) (e : n
   counted : n ≡ length (rows_in (domain (form_of unit)) s)
   counted = e ∙ G.items
 
-  pub no_room : length out < 17 + 18 * n → Answered (form_of unit) s out (R.Refused 3 0) out
+  pub no_room : length out < 17 + 18 * n → Answered (form_of unit) s out (refused_by 3 0) out
   unfolding report_answer report_left
   no_room k = record { answer = rw (le-ltb (domain (form_of unit)).limit (length s) G.few, ← counted, lt-ltb (length out) (17 + 18 * n) k); left = refl }
 
 -- the whole report is written
 all-written : (f : Form) (s o : List ℕ) (n : ℕ) → length s ≤ (domain f).limit → n ≡ length (rows_in (domain f) s) → 17 + 18 * n ≤ length o → (m : ℕ) (last : List ℕ)
-    → m ≡ length (report (domain f) s) → last ≡ sets o 0 (report (domain f) s) → Answered f s o (R.Written m) last
+    → m ≡ length (report (domain f) s) → last ≡ sets o 0 (report (domain f) s) → Answered f s o (Ok m) last
 unfolding report_answer report_left
 all-written f s o n few count room m last em el =
     let z : 0 + length (report (domain f) s) ≡ length (report (domain f) s) = omega arith in
     let fits : 0 + length (report (domain f) s) ≤ length o = omega (arith, count, report-fits (domain f) (demand3 f) s) in
     record {
-      answer = rw (le-ltb (domain f).limit (length s) few, ← count, le-ltb (length o) (17 + 18 * n) room) (ap R.Written em);
+      answer = rw (le-ltb (domain f).limit (length s) few, ← count, le-ltb (length o) (17 + 18 * n) room) (ap Ok em);
       left = el ∙ sets-eq (report (domain f) s) o 0 fits ∙ rw (z, em);
     }
 
@@ -136,7 +137,7 @@ module _ {unit : ℕ} {s t : List ℕ} {n : ℕ} {out₀ out : List ℕ} {start 
   pub end-asks : (k ≤ n) × (n ≤ 4194304) × (17 + 18 * n ≤ length out)
   end-asks = (stored-few.1, omega (arith, w.few), omega (arith, w.room, w.long))
 
-  pub written-end : (o : List ℕ) → out₀ ≡ sets o 0 (be4 n) → length s ≤ unit * start → (r : Reported) (last : List ℕ) → Ended n k 0 0 0 out r last
+  pub written-end : (o : List ℕ) → out₀ ≡ sets o 0 (be4 n) → length s ≤ unit * start → (r : Result ℕ (Refusal ℕ)) (last : List ℕ) → Ended n k 0 0 0 out r last
       → Answered f s o r last
   unfolding end_answer end_left
   written-end o q l r last E =
@@ -159,7 +160,7 @@ module _ {unit : ℕ} {s t : List ℕ} {n : ℕ} {out₀ out : List ℕ} {start 
     unfolding frame_next frame_ruled
     ruled-is = rw rest-is
 
-    pub written-rest : (o : List ℕ) → out₀ ≡ sets o 0 (be4 n) → (m p : ℕ) → j ≡ J.Unframed m p → (r : Reported) (last : List ℕ) → Ended n k 1 (unit * start) m out r last
+    pub written-rest : (o : List ℕ) → out₀ ≡ sets o 0 (be4 n) → (m p : ℕ) → j ≡ J.Unframed m p → (r : Result ℕ (Refusal ℕ)) (last : List ℕ) → Ended n k 1 (unit * start) m out r last
         → Answered f s o r last
     unfolding frame_in scale end_answer end_left
     written-rest o q m p e r last E =

@@ -4,13 +4,13 @@ use Rattle.std.proofs.lemmas.List.Edits.{sets}
 use Rattle.base.specs.Pick.{pick}
 use Rattle.format.specs.declared.Form.{Form}
 use Rattle.format.specs.declared.Form.TheVariants.{Text, Binary}
-use Rattle.format.specs.declared.Reported.{Reported}
-use Rattle.format.specs.declared.Reported.TheVariants as R
 use Rattle.format.specs.Units.{domain, text, text_sextets}
 use Rattle.format.specs.declared.Verdict.{Verdict}
 use Rattle.format.specs.Judging.{shift}
 use Rattle.format.specs.Report.{rows_in, placed, be4, verdict_byte, refusal, refusal_bytes, concat, report_answer, report_left}
 use Rattle.second.specs.Items.{Near}
+use Rattle.std.specs.Prelude.{Ok, Result}
+use Rattle.format.specs.declared.Refusal.{Refusal}
 
 -- the form of a stream by the elements of its units
 unfoldable pub form_of : ℕ → Form
@@ -25,7 +25,7 @@ pub record Given (unit : ℕ) (s t : List ℕ) : Type 0 where
   pub items : length (rows_in text t) ≡ length (rows_in (domain (form_of unit)) s)
 
 -- a call's answer, and what it leaves
-pub record Answered (f : Form) (s out : List ℕ) (r : Reported) (out' : List ℕ) : Type 0 where
+pub record Answered (f : Form) (s out : List ℕ) (r : Result ℕ (Refusal ℕ)) (out' : List ℕ) : Type 0 where
   pub answer : r ≡ report_answer (domain f) s (length out)
   pub left : out' ≡ report_left r (domain f) s out
 
@@ -57,13 +57,13 @@ pub record Put (unit start size : ℕ) (v : Verdict) (i p : ℕ) (out : List ℕ
 -- ---- the end
 
 -- behind the rows of n items and k refusals: the two counts, and a remainder if there is one
-unfoldable pub end_answer : ℕ → ℕ → ℕ → Reported
-end_answer n k rest = pick (eqb rest 0) (R.Written (12 + 9 * n + 9 * k)) (R.Written (17 + 9 * n + 9 * k))
+unfoldable pub end_answer : ℕ → ℕ → ℕ → Result ℕ (Refusal ℕ)
+end_answer n k rest = pick (eqb rest 0) (Ok (12 + 9 * n + 9 * k)) (Ok (17 + 9 * n + 9 * k))
 
 unfoldable pub end_left : ℕ → ℕ → ℕ → ℕ → ℕ → List ℕ → List ℕ
 end_left n k rest offset number out =
     sets (sets out (4 + 9 * n) (be4 k)) (8 + 9 * n + 9 * k) (pick (eqb rest 0) (be4 0) (be4 1 ++ (be4 offset ++ (number ∷ []))))
 
-pub record Ended (n k rest offset number : ℕ) (out : List ℕ) (r : Reported) (out' : List ℕ) : Type 0 where
+pub record Ended (n k rest offset number : ℕ) (out : List ℕ) (r : Result ℕ (Refusal ℕ)) (out' : List ℕ) : Type 0 where
   pub answer : r ≡ end_answer n k rest
   pub left : out' ≡ end_left n k rest offset number out

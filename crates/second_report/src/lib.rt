@@ -9,7 +9,7 @@ ghost use Rattle.format.specs.Report.{report_answer, report_left, rows_in, be4};
 ghost use Rattle.second_claims.specs.Second.{second_binary, work_left};
 ghost use Rattle.second_report.specs.Reports.{form_of, Given, Answered, Row, Put, Ended};
 
-use format::{Framed, Reported, Verdict};
+use format::{Framed, Refusal, Verdict};
 use second::{Judged, next};
 use second_framing::frame;
 
@@ -65,7 +65,14 @@ fn put_at(out: &mut [u8], i: usize, p: usize, unit: usize, at: usize, n: usize, 
 }
 
 // Behind the rows of n items the count of refusals, behind their k rows the count of remainders, and the one there may be.
-fn put_end(out: &mut [u8], n: usize, k: usize, rest: usize, offset: usize, number: u8) -> Reported
+fn put_end(
+    out: &mut [u8],
+    n: usize,
+    k: usize,
+    rest: usize,
+    offset: usize,
+    number: u8,
+) -> Result<usize, Refusal<usize>>
     requires { (k ≤ n) × (n ≤ 4194304) × (17 + 18 * n ≤ length out.old) }
     ensures { Ended n k rest offset number out.old result out.new }
 {
@@ -73,20 +80,23 @@ fn put_end(out: &mut [u8], n: usize, k: usize, rest: usize, offset: usize, numbe
     put(out, 4 + 9 * n, k);
     if rest == 0 {
         put(out, p, 0);
-        return Reported::Written(p + 4);
+        return Ok(p + 4);
     }
     put_row(out, p, 1, offset, number);
-    Reported::Written(p + 9)
+    Ok(p + 9)
 }
 
 // The report of a stream, by the text it is judged by.
-fn report(unit: usize, s: &[u8], t: &[u8], out: &mut [u8]) -> Reported
+fn report(unit: usize, s: &[u8], t: &[u8], out: &mut [u8]) -> Result<usize, Refusal<usize>>
     requires { Given unit s.now t.now }
     ensures { Answered (form_of unit) s.now out.old result out.new }
 {
     let n = count(t);
     if out.len() < 17 + 18 * n {
-        return Reported::Refused(3, 0);
+        return Err(Refusal {
+            number: 3,
+            place: 0,
+        });
     }
     put(out, 0, n);
     let mut start = 0;
@@ -108,29 +118,42 @@ fn report(unit: usize, s: &[u8], t: &[u8], out: &mut [u8]) -> Reported
 // ---- the calls
 
 // The report of a text in a buffer: its length, or 1 or 3, which leave the buffer as it was.
-pub fn report_text(stream: &[u8], out: &mut [u8]) -> Reported
+pub fn report_text(stream: &[u8], out: &mut [u8]) -> Result<usize, Refusal<usize>>
     ensures value { result ≡ report_answer text stream.now (length out.old) }
     ensures out_after { out.new ≡ report_left result text stream.now out.old }
 {
     if 4194304 < stream.len() {
-        return Reported::Refused(1, 0);
+        return Err(Refusal {
+            number: 1,
+            place: 0,
+        });
     }
     report(4, stream, stream, out)
 }
 
 // The report of a binary, by the text of its whole triplets in lent working room: 1, then 3 where that is less.
-pub fn report_binary(stream: &[u8], work: &mut [u8], out: &mut [u8]) -> Reported
+pub fn report_binary(
+    stream: &[u8],
+    work: &mut [u8],
+    out: &mut [u8],
+) -> Result<usize, Refusal<usize>>
     ensures value { result ≡ second_binary stream.now (length work.old) (length out.old) }
     ensures work_after { work.new ≡ work_left stream.now work.old }
     ensures out_after { out.new ≡ report_left result binary stream.now out.old }
 {
     let triplets = stream.len() / 3;
     if 3145728 < stream.len() {
-        return Reported::Refused(1, 0);
+        return Err(Refusal {
+            number: 1,
+            place: 0,
+        });
     }
     if work.len() < 4 * triplets {
-        return Reported::Refused(3, 0);
+        return Err(Refusal {
+            number: 3,
+            place: 0,
+        });
     }
-    convert::binary_to_text(&stream[..3 * triplets], work);
+    let _ = convert::binary_to_text(&stream[..3 * triplets], work);
     report(3, stream, &work[..4 * triplets], out)
 }

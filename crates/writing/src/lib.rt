@@ -8,7 +8,7 @@ ghost use Rattle.format.specs.Writing.{named, units_of, write_text, text_item_le
 ghost use Rattle.writing_code.specs.Names.{as_named};
 ghost use Rattle.writing.specs.Plan.{planned_of, plan_of};
 
-use format::{BinaryWritten, Code, TextWritten};
+use format::{BinaryOffset, Code, Refusal, TextOffset};
 use writing_code::Named;
 
 // What is written, or a number and a place.
@@ -63,14 +63,14 @@ pub fn write_binary(
     tags: usize,
     raw: &[u8],
     out: &mut [u8],
-) -> BinaryWritten
+) -> Result<BinaryOffset, Refusal<usize>>
     ensures value { result ≡ write_binary code tag tags raw.now (length out.old) }
     ensures out_after { out.new ≡ binary_item_left result code tag tags raw.now out.old }
 {
     let plan = plan_item(code, tag, tags, raw);
     let planned = plan.planned;
     match planned {
-        Planned::Refused(number, place) => BinaryWritten::Refused(number, place),
+        Planned::Refused(number, place) => Err(Refusal { number, place }),
         Planned::Units(n) => {
             let head = plan.head;
             writing_raw::binary_item(n, head, raw, out)
@@ -83,14 +83,20 @@ pub fn write_binary(
 }
 
 // A primitive as text, from the buffer's start: the text of the binary, with no buffer between.
-pub fn write_text(code: Code, tag: [u8; 11], tags: usize, raw: &[u8], out: &mut [u8]) -> TextWritten
+pub fn write_text(
+    code: Code,
+    tag: [u8; 11],
+    tags: usize,
+    raw: &[u8],
+    out: &mut [u8],
+) -> Result<TextOffset, Refusal<usize>>
     ensures value { result ≡ write_text code tag tags raw.now (length out.old) }
     ensures out_after { out.new ≡ text_item_left result code tag tags raw.now out.old }
 {
     let plan = plan_item(code, tag, tags, raw);
     let planned = plan.planned;
     match planned {
-        Planned::Refused(number, place) => TextWritten::Refused(number, place),
+        Planned::Refused(number, place) => Err(Refusal { number, place }),
         Planned::Units(n) => {
             let head = plan.head;
             writing_raw::text_item(n, head, raw, out)

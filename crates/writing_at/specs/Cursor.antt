@@ -3,26 +3,27 @@
 -- Assumes nothing.
 use Rattle.std.specs.Prelude.{ℕ, ◌+◌, List, ◌++◌, length, take, drop}
 use Rattle.format.specs.declared.Code.{Code}
-use Rattle.format.specs.declared.TextWritten.{TextWritten}
-use Rattle.format.specs.declared.TextWritten.TheVariants as T
-use Rattle.format.specs.declared.BinaryWritten.{BinaryWritten}
-use Rattle.format.specs.declared.BinaryWritten.TheVariants as B
 use Rattle.format.specs.Offsets.{text_offset, binary_offset}
 use Rattle.format.specs.Writing.{write_text, text_item_left, write_binary, binary_item_left}
+use Rattle.std.specs.Prelude.{Ok, Err, Result}
+use Rattle.format.specs.declared.Refusal.{Refusal}
+use Rattle.format.specs.Refusals.{refused_by}
+use Rattle.format.specs.declared.TextOffset.{TextOffset}
+use Rattle.format.specs.declared.BinaryOffset.{BinaryOffset}
 
-unfoldable pub text_from : ℕ → TextWritten → TextWritten
-text_from at (T.Written n) = T.Written (text_offset (at + n.0))
-text_from at (T.Refused m p) = T.Refused m p
+unfoldable pub text_from : ℕ → Result TextOffset (Refusal ℕ) → Result TextOffset (Refusal ℕ)
+text_from at (Ok n) = Ok (text_offset (at + n.0))
+text_from at (Err e) = refused_by e.number e.place
 
-unfoldable pub binary_from : ℕ → BinaryWritten → BinaryWritten
-binary_from at (B.Written n) = B.Written (binary_offset (at + n.0))
-binary_from at (B.Refused m p) = B.Refused m p
+unfoldable pub binary_from : ℕ → Result BinaryOffset (Refusal ℕ) → Result BinaryOffset (Refusal ℕ)
+binary_from at (Ok n) = Ok (binary_offset (at + n.0))
+binary_from at (Err e) = refused_by e.number e.place
 
 -- into a buffer that held d, from at on
-unfoldable pub write_text_at : Code → List ℕ → ℕ → List ℕ → List ℕ → ℕ → TextWritten
+unfoldable pub write_text_at : Code → List ℕ → ℕ → List ℕ → List ℕ → ℕ → Result TextOffset (Refusal ℕ)
 write_text_at code tag tags raw d at = text_from at (write_text code tag tags raw (length (drop at d)))
 
-unfoldable pub write_binary_at : Code → List ℕ → ℕ → List ℕ → List ℕ → ℕ → BinaryWritten
+unfoldable pub write_binary_at : Code → List ℕ → ℕ → List ℕ → List ℕ → ℕ → Result BinaryOffset (Refusal ℕ)
 write_binary_at code tag tags raw d at = binary_from at (write_binary code tag tags raw (length (drop at d)))
 
 -- what the buffer holds afterwards: what stands before the cursor stays

@@ -5,7 +5,7 @@
 ghost use Rattle.std.specs.Prelude.{◌≡◌};
 ghost use Rattle.writing_at.specs.Cursor.{write_text_at, text_left_at, write_binary_at, binary_left_at};
 
-use format::{BinaryOffset, BinaryWritten, Code, TextOffset, TextWritten};
+use format::{BinaryOffset, Code, Refusal, TextOffset};
 
 // A primitive as binary behind what stands before the cursor; the length written is the next cursor.
 pub fn write_binary_at(
@@ -15,7 +15,7 @@ pub fn write_binary_at(
     raw: &[u8],
     out: &mut [u8],
     cursor: BinaryOffset,
-) -> BinaryWritten
+) -> Result<BinaryOffset, Refusal<usize>>
     ensures value { result ≡ write_binary_at code tag tags raw.now out.old cursor.0 }
     ensures out_after { out.new ≡ binary_left_at code tag tags raw.now out.old cursor.0 }
 {
@@ -23,8 +23,8 @@ pub fn write_binary_at(
     let at = writing_cursor::cursor_in(from, out.len());
     let written = writing::write_binary(code, tag, tags, raw, &mut out[at..]);
     match written {
-        BinaryWritten::Refused(number, place) => BinaryWritten::Refused(number, place),
-        BinaryWritten::Written(n) => BinaryWritten::Written(BinaryOffset(at + n.0)),
+        Err(Refusal { number, place }) => Err(Refusal { number, place }),
+        Ok(n) => Ok(BinaryOffset(at + n.0)),
     }
 }
 
@@ -36,7 +36,7 @@ pub fn write_text_at(
     raw: &[u8],
     out: &mut [u8],
     cursor: TextOffset,
-) -> TextWritten
+) -> Result<TextOffset, Refusal<usize>>
     ensures value { result ≡ write_text_at code tag tags raw.now out.old cursor.0 }
     ensures out_after { out.new ≡ text_left_at code tag tags raw.now out.old cursor.0 }
 {
@@ -44,7 +44,7 @@ pub fn write_text_at(
     let at = writing_cursor::cursor_in(from, out.len());
     let written = writing::write_text(code, tag, tags, raw, &mut out[at..]);
     match written {
-        TextWritten::Refused(number, place) => TextWritten::Refused(number, place),
-        TextWritten::Written(n) => TextWritten::Written(TextOffset(at + n.0)),
+        Err(why) => Err(why),
+        Ok(n) => Ok(TextOffset(at + n.0)),
     }
 }

@@ -20,12 +20,6 @@ pub enum Named {
     Textual { head: u8 },
 }
 
-pub fn wide(x: u8) -> usize
-    ensures { (result ≡ x) × (result < 256) }
-{
-    x as usize
-}
-
 // ---- 6: the code that is named
 
 fn row_of(op: Opening) -> Named

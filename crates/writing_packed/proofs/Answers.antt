@@ -5,7 +5,6 @@ use Prim.Native.Nat.{ℕ, ◌+◌, ◌*◌, ◌<◌, ◌≤◌}
 use native.Mathlib.Omega.{arith}
 use borrow.Author.Tests.{lt-ltb, le-ltb}
 use lib.ListN.{length, take, drop}
-use Rattle.format.specs.declared.BinaryWritten.TheVariants as B
 use Rattle.format.specs.Offsets.{binary_offset}
 use Rattle.format.specs.Texts.{fill_for, text_count}
 use Rattle.format.specs.Conversion.{to_binary}
@@ -14,17 +13,19 @@ use Rattle.writing_head.specs.Heads.{TextSized}
 use Rattle.writing_raw.specs.Item.{room_for, binary_in}
 use Rattle.writing_fill.specs.Filled.{filled_text, text_item}
 use Rattle.writing_fill.proofs.Filled.{filled-bytes}
+use Rattle.std.specs.Prelude.{Ok}
+use Rattle.format.specs.Refusals.{refused_by}
 
 module _ (h : ℕ) (head chars d : List ℕ) (count : ℕ) (e : count ≡ text_count (length chars)) where
   abbrev units : ℕ
   units = h + text_count (length chars)
 
   pub binary-none : length d < (h + count) * 3
-      → (B.Refused 3 0 ≡ binary_outcome (room_for 3 units (length d))) × (d ≡ binary_in (room_for 3 units (length d)) (text_item h head chars) d)
+      → (refused_by 3 0 ≡ binary_outcome (room_for 3 units (length d))) × (d ≡ binary_in (room_for 3 units (length d)) (text_item h head chars) d)
   unfolding binary_outcome
   binary-none r = rw (lt-ltb _ _ (rw e at r)) (refl, refl)
 
-  pub binary-some : (h + count) * 3 ≤ length d → B.Written (binary_offset ((h + count) * 3)) ≡ binary_outcome (room_for 3 units (length d))
+  pub binary-some : (h + count) * 3 ≤ length d → Ok (binary_offset ((h + count) * 3)) ≡ binary_outcome (room_for 3 units (length d))
   unfolding binary_outcome
   binary-some r = rw (le-ltb _ _ (rw e at r), e)
 

@@ -5,7 +5,6 @@ use Prim.Native.Nat.{ℕ, ◌+◌, ◌-◌, ◌*◌, ◌/◌, ◌%◌, ◌≤◌
 use native.Mathlib.Omega.{arith}
 use lib.ListN.{length, take, drop, replicate, length-append, length-drop, length-replicate, take-append-drop}
 use lib.Seq.{paste, take_at, drop_at, length-take-le}
-use Rattle.format.specs.declared.ToBinary.{ToBinary}
 use Rattle.format.specs.Texts.{fill_for, text_count}
 use Rattle.format.specs.Conversion.{to_binary, first_stranger, text_to_binary, binary_left}
 use Rattle.laws.specs.Conversion.{length-to-binary}
@@ -13,6 +12,10 @@ use Rattle.judging.proofs.Laws.{to_end}
 use Rattle.writing_fill.specs.Filled.{filled_text}
 use Rattle.writing_fill.proofs.Filled.{filled-known, known-take, known-drop, first_part}
 use Rattle.writing_raw.proofs.Buffers.{converted-binary, lent, behind, binary-append}
+use Rattle.std.specs.Prelude.{Result}
+use Rattle.format.specs.declared.Refusal.{Refusal}
+use Rattle.format.specs.declared.TextOffset.{TextOffset}
+use Rattle.format.specs.declared.BinaryOffset.{BinaryOffset}
 
 -- ---- the unit in which the fill ends, if there is one, and then the others
 
@@ -52,7 +55,7 @@ module _ (chars : List ℕ) where
   unfolding fill_for text_count
   sizes = omega (arith, length-drop k chars)
 
-  pub packed-put : (unit d d₁ d₂ : List ℕ) (end : ℕ) (r₁ r₂ : ToBinary) →
+  pub packed-put : (unit d d₁ d₂ : List ℕ) (end : ℕ) (r₁ r₂ : Result BinaryOffset (Refusal TextOffset)) →
       let at = end / 4 * 3 in
       let rest = take (length chars - k) (drop k chars) in
       end ≡ many → 3 * text_count (length chars) ≤ length d → unit ≡ paste (replicate 4 65) (4 - k) chars k

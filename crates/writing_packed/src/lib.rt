@@ -10,7 +10,7 @@ ghost use Rattle.writing_head.specs.Heads.{TextSized};
 ghost use Rattle.writing_raw.specs.Item.{room_for, binary_in};
 ghost use Rattle.writing_fill.specs.Filled.{filled_text, text_item};
 
-use format::{BinaryOffset, BinaryWritten};
+use format::{BinaryOffset, Refusal};
 
 // ---- the characters and their fill
 
@@ -30,8 +30,8 @@ fn put_packed(chars: &[u8], out: &mut [u8])
     let k = chars.len() % 4;
     let end = first_size(chars.len());
     let at = end / 4 * 3;
-    convert::text_to_binary(&first[..end], out);
-    convert::text_to_binary(&chars[k..], &mut out[at..]);
+    let _ = convert::text_to_binary(&first[..end], out);
+    let _ = convert::text_to_binary(&chars[k..], &mut out[at..]);
 }
 
 // ---- behind the header
@@ -47,17 +47,28 @@ fn put_binary(header: usize, head: [u8; 9], chars: &[u8], out: &mut [u8])
 
 // ---- the item, where there is room: 3. A header has two units at most; of any other nothing is said.
 
-pub fn text_in_binary(header: usize, head: [u8; 9], chars: &[u8], out: &mut [u8]) -> BinaryWritten
+pub fn text_in_binary(
+    header: usize,
+    head: [u8; 9],
+    chars: &[u8],
+    out: &mut [u8],
+) -> Result<BinaryOffset, Refusal<usize>>
     ensures value { TextSized (length chars.now) header → result ≡ binary_outcome (room_for 3 (header + text_count (length chars.now)) (length out.old)) }
     ensures out_after { TextSized (length chars.now) header → length chars.now ≤ first_stranger chars.now → out.new ≡ binary_in (room_for 3 (header + text_count (length chars.now)) (length out.old)) (text_item header head chars.now) out.old }
 {
     if 2 < header {
-        return BinaryWritten::Refused(3, 0);
+        return Err(Refusal {
+            number: 3,
+            place: 0,
+        });
     }
     let size = (header + writing_sizes::text_count(chars.len())) * 3;
     if out.len() < size {
-        return BinaryWritten::Refused(3, 0);
+        return Err(Refusal {
+            number: 3,
+            place: 0,
+        });
     }
     put_binary(header, head, chars, out);
-    BinaryWritten::Written(BinaryOffset(size))
+    Ok(BinaryOffset(size))
 }

@@ -7,13 +7,15 @@ use native.Mathlib.Omega.{arith}
 use lib.ListN.{length, take, drop, length-append, length-drop, drop_of_length-le, take-append-drop}
 use lib.Seq.{take_at, drop_at, drop-drop, take_all, paste, take-paste, length_paste_head, length-take-le}
 use Rattle.base.specs.Digits.{Below}
-use Rattle.format.specs.declared.ToText.{ToText}
-use Rattle.format.specs.declared.ToBinary.{ToBinary}
 use Rattle.format.specs.Units.{text_sextets}
 use Rattle.format.specs.Conversion.{to_text, to_binary, binary_to_text, text_to_binary, text_left, binary_left}
 use Rattle.laws.specs.Conversion.{text-joins, binary-joins, no-stranger, length-to-text}
 use Rattle.convert_order.proofs.Answers.{length_whole, text-converted}
 use Rattle.convert.proofs.Answers.{binary-converted}
+use Rattle.std.specs.Prelude.{Result}
+use Rattle.format.specs.declared.Refusal.{Refusal}
+use Rattle.format.specs.declared.TextOffset.{TextOffset}
+use Rattle.format.specs.declared.BinaryOffset.{BinaryOffset}
 
 -- a part that is lent to the end
 pub to_end : (s : List ℕ) (from : ℕ) → take (length s - from) (drop from s) ≡ drop from s
@@ -22,12 +24,12 @@ to_end s from = take_all (length s - from) (drop from s) (omega (arith, length-d
 -- ---- one part
 
 -- a conversion that has room
-pub converted-text : (b d d' : List ℕ) (r : ToText) → length b ≤ 3145728 → length b % 3 ≡ 0 → length b / 3 * 4 ≤ length d → r ≡ binary_to_text b (length d)
+pub converted-text : (b d d' : List ℕ) (r : Result TextOffset (Refusal BinaryOffset)) → length b ≤ 3145728 → length b % 3 ≡ 0 → length b / 3 * 4 ≤ length d → r ≡ binary_to_text b (length d)
     → d' ≡ text_left r b d → d' ≡ to_text b ++ drop (length b / 3 * 4) d
 unfolding text_left
 converted-text b d d' r s w h e p = p ∙ rw (e ∙ binary-converted b (length d) s (omega arith) h)
 
-pub converted-binary : (t d d' : List ℕ) (r : ToBinary) → length t ≤ 4194304 → length t % 4 ≡ 0 → Below 64 (text_sextets t)
+pub converted-binary : (t d d' : List ℕ) (r : Result BinaryOffset (Refusal TextOffset)) → length t ≤ 4194304 → length t % 4 ≡ 0 → Below 64 (text_sextets t)
     → length t / 4 * 3 ≤ length d → r ≡ text_to_binary t (length d) → d' ≡ binary_left r t d → d' ≡ to_binary t ++ drop (length t / 4 * 3) d
 unfolding binary_left
 converted-binary t d d' r s w k h e p = p ∙ rw (e ∙ text-converted t (length d) (length_whole _ s (omega arith)) _ refl (omega (arith, no-stranger t k)) h)
@@ -66,7 +68,7 @@ binary-append p q w =
 joined-text : (p raw : List ℕ) (k : ℕ) → length (p ++ take k raw) % 3 ≡ 0 → to_text (p ++ raw) ≡ to_text (p ++ take k raw) ++ to_text (drop k raw)
 joined-text p raw k w = rw (← text-append (p ++ take k raw) (drop k raw) w, append_assoc, take-append-drop k raw)
 
-pub put-text : (head first raw d d₁ d₂ : List ℕ) (start : ℕ) (r₁ r₂ : ToText) → start ≤ 9 → (start + length raw) % 3 ≡ 0
+pub put-text : (head first raw d d₁ d₂ : List ℕ) (start : ℕ) (r₁ r₂ : Result TextOffset (Refusal BinaryOffset)) → start ≤ 9 → (start + length raw) % 3 ≡ 0
     → (start + length raw) / 3 * 4 ≤ length d → length raw ≤ 3145728 → length head ≡ 9 → first ≡ paste head start raw (length raw % 3)
     → r₁ ≡ binary_to_text (take (start + length raw % 3) first) (length d) → d₁ ≡ text_left r₁ (take (start + length raw % 3) first) d
     → r₂ ≡ binary_to_text (take (length raw - length raw % 3) (drop (length raw % 3) raw)) (length (take (length d₁ - (start + length raw % 3) / 3 * 4) (drop ((start + length raw % 3) / 3 * 4) d₁)))

@@ -8,7 +8,7 @@ ghost use Rattle.format.specs.Conversion.{to_text};
 ghost use Rattle.format.specs.Writing.{text_outcome, binary_outcome};
 ghost use Rattle.writing_raw.specs.Item.{Sized, raw_item, room_for, binary_in, text_in};
 
-use format::{BinaryOffset, BinaryWritten, TextOffset, TextWritten};
+use format::{BinaryOffset, Refusal, TextOffset};
 
 // ---- the buffer: what stands before the raw value, and the raw value
 
@@ -40,8 +40,8 @@ fn put_text(head: [u8; 9], start: usize, raw: &[u8], out: &mut [u8])
     let k = raw.len() % 3;
     let end = start + k;
     let at = end / 3 * 4;
-    convert::binary_to_text(&first[..end], out);
-    convert::binary_to_text(&raw[k..], &mut out[at..]);
+    let _ = convert::binary_to_text(&first[..end], out);
+    let _ = convert::binary_to_text(&raw[k..], &mut out[at..]);
 }
 
 // ---- an item of so many units, where there is room: 3. Of lengths that do not divide nothing is said
@@ -62,32 +62,54 @@ fn is_sized(units: usize, raw: usize) -> bool
     units * 3 <= raw + 9
 }
 
-pub fn binary_item(units: usize, head: [u8; 9], raw: &[u8], out: &mut [u8]) -> BinaryWritten
+pub fn binary_item(
+    units: usize,
+    head: [u8; 9],
+    raw: &[u8],
+    out: &mut [u8],
+) -> Result<BinaryOffset, Refusal<usize>>
     ensures value { Sized (length raw.now) units → result ≡ binary_outcome (room_for 3 units (length out.old)) }
     ensures out_after { Sized (length raw.now) units → out.new ≡ binary_in (room_for 3 units (length out.old)) (raw_item units head raw.now) out.old }
 {
     if !is_sized(units, raw.len()) {
-        return BinaryWritten::Refused(3, 0);
+        return Err(Refusal {
+            number: 3,
+            place: 0,
+        });
     }
     let size = units * 3;
     if out.len() < size {
-        return BinaryWritten::Refused(3, 0);
+        return Err(Refusal {
+            number: 3,
+            place: 0,
+        });
     }
     put_binary(head, size - raw.len(), raw, out);
-    BinaryWritten::Written(BinaryOffset(size))
+    Ok(BinaryOffset(size))
 }
 
-pub fn text_item(units: usize, head: [u8; 9], raw: &[u8], out: &mut [u8]) -> TextWritten
+pub fn text_item(
+    units: usize,
+    head: [u8; 9],
+    raw: &[u8],
+    out: &mut [u8],
+) -> Result<TextOffset, Refusal<usize>>
     ensures value { Sized (length raw.now) units → result ≡ text_outcome (room_for 4 units (length out.old)) }
     ensures out_after { Sized (length raw.now) units → out.new ≡ text_in (room_for 4 units (length out.old)) (raw_item units head raw.now) out.old }
 {
     if !is_sized(units, raw.len()) {
-        return TextWritten::Refused(3, 0);
+        return Err(Refusal {
+            number: 3,
+            place: 0,
+        });
     }
     let chars = units * 4;
     if out.len() < chars {
-        return TextWritten::Refused(3, 0);
+        return Err(Refusal {
+            number: 3,
+            place: 0,
+        });
     }
     put_text(head, units * 3 - raw.len(), raw, out);
-    TextWritten::Written(TextOffset(chars))
+    Ok(TextOffset(chars))
 }

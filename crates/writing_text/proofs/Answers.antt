@@ -6,7 +6,6 @@ use native.Mathlib.Omega.{arith}
 use borrow.Author.Tests.{lt-ltb, le-ltb}
 use lib.ListN.{length, take, drop}
 use lib.Seq.{length-take-le}
-use Rattle.format.specs.declared.TextWritten.TheVariants as T
 use Rattle.format.specs.Offsets.{text_offset}
 use Rattle.format.specs.Texts.{text_count}
 use Rattle.format.specs.Values.{bytes_in}
@@ -16,17 +15,19 @@ use Rattle.writing_raw.specs.Item.{room_for, text_in}
 use Rattle.writing_fill.specs.Filled.{filled_text, text_item}
 use Rattle.writing_fill.proofs.Filled.{filled-text}
 use Rattle.writing_raw.proofs.Buffers.{text-append}
+use Rattle.std.specs.Prelude.{Ok}
+use Rattle.format.specs.Refusals.{refused_by}
 
 module _ (h : ℕ) (head chars d : List ℕ) (count : ℕ) (e : count ≡ text_count (length chars)) where
   abbrev units : ℕ
   units = h + text_count (length chars)
 
   pub text-none : length d < (h + count) * 4
-      → (T.Refused 3 0 ≡ text_outcome (room_for 4 units (length d))) × (d ≡ text_in (room_for 4 units (length d)) (text_item h head chars) d)
+      → (refused_by 3 0 ≡ text_outcome (room_for 4 units (length d))) × (d ≡ text_in (room_for 4 units (length d)) (text_item h head chars) d)
   unfolding text_outcome
   text-none r = rw (lt-ltb _ _ (rw e at r)) (refl, refl)
 
-  pub text-some : (h + count) * 4 ≤ length d → T.Written (text_offset ((h + count) * 4)) ≡ text_outcome (room_for 4 units (length d))
+  pub text-some : (h + count) * 4 ≤ length d → Ok (text_offset ((h + count) * 4)) ≡ text_outcome (room_for 4 units (length d))
   unfolding text_outcome
   text-some r = rw (le-ltb _ _ (rw e at r), e)
 

@@ -5,18 +5,21 @@ use Prim.Native.Nat.{ℕ, ◌+◌, ◌-◌, ◌*◌, ◌/◌, ◌≤◌}
 use native.Mathlib.Omega.{arith}
 use lib.ListN.{length, take, drop}
 use lib.Seq.{length-take-le}
-use Rattle.format.specs.declared.ToText.{ToText}
 use Rattle.format.specs.Texts.{text_count}
 use Rattle.format.specs.Conversion.{to_text, binary_to_text, text_left}
 use Rattle.laws.specs.Conversion.{length-to-text}
 use Rattle.writing_fill.specs.Filled.{filled_text}
 use Rattle.writing_raw.proofs.Buffers.{converted-text, lent, behind}
+use Rattle.std.specs.Prelude.{Result}
+use Rattle.format.specs.declared.Refusal.{Refusal}
+use Rattle.format.specs.declared.TextOffset.{TextOffset}
+use Rattle.format.specs.declared.BinaryOffset.{BinaryOffset}
 
 module _ (header : ℕ) (head chars d d₁ d₂ : List ℕ) (two : header ≤ 2) (nine : length head ≡ 9) where
   front_length : length (take (header * 3) head) ≡ header * 3
   front_length = length-take-le (header * 3) head (omega arith)
 
-  pub text-put : (r : ToText) → let front = take (header * 3) head in
+  pub text-put : (r : Result TextOffset (Refusal BinaryOffset)) → let front = take (header * 3) head in
       let part = take (length d₁ - header * 4) (drop (header * 4) d₁) in
       (header + text_count (length chars)) * 4 ≤ length d → r ≡ binary_to_text front (length d) → d₁ ≡ text_left r front d
       → d₂ ≡ filled_text chars ++ drop (4 * text_count (length chars)) part

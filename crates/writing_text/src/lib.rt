@@ -9,7 +9,7 @@ ghost use Rattle.writing_head.specs.Heads.{TextSized};
 ghost use Rattle.writing_raw.specs.Item.{room_for, text_in};
 ghost use Rattle.writing_fill.specs.Filled.{filled_text, text_item};
 
-use format::{TextOffset, TextWritten};
+use format::{Refusal, TextOffset};
 
 // ---- the characters and their fill
 
@@ -30,23 +30,34 @@ fn put_text(header: usize, head: [u8; 9], chars: &[u8], out: &mut [u8])
 {
     let start = header * 3;
     let at = header * 4;
-    convert::binary_to_text(&head[..start], out);
+    let _ = convert::binary_to_text(&head[..start], out);
     put_chars(chars, &mut out[at..]);
 }
 
 // ---- the item, where there is room: 3. A header has two units at most; of any other nothing is said.
 
-pub fn text_in_text(header: usize, head: [u8; 9], chars: &[u8], out: &mut [u8]) -> TextWritten
+pub fn text_in_text(
+    header: usize,
+    head: [u8; 9],
+    chars: &[u8],
+    out: &mut [u8],
+) -> Result<TextOffset, Refusal<usize>>
     ensures value { TextSized (length chars.now) header → result ≡ text_outcome (room_for 4 (header + text_count (length chars.now)) (length out.old)) }
     ensures out_after { TextSized (length chars.now) header → length chars.now ≤ first_stranger chars.now → out.new ≡ text_in (room_for 4 (header + text_count (length chars.now)) (length out.old)) (text_item header head chars.now) out.old }
 {
     if 2 < header {
-        return TextWritten::Refused(3, 0);
+        return Err(Refusal {
+            number: 3,
+            place: 0,
+        });
     }
     let size = (header + writing_sizes::text_count(chars.len())) * 4;
     if out.len() < size {
-        return TextWritten::Refused(3, 0);
+        return Err(Refusal {
+            number: 3,
+            place: 0,
+        });
     }
     put_text(header, head, chars, out);
-    TextWritten::Written(TextOffset(size))
+    Ok(TextOffset(size))
 }

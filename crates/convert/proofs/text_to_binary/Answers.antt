@@ -2,18 +2,18 @@
 use mathlib.Core.Path.{◌≡◌, refl, ap, sym, ◌∙◌}
 use Prim.Native.Nat.{ℕ}
 use native.Mathlib.Omega.{arith}
-use Rattle.format.specs.declared.ToBinary.TheVariants as B
 use Rattle.format.specs.Offsets.{text_offset}
 use Rattle.format.specs.Conversion.{binary_left}
 use Rattle.convert_order.proofs.Answers.{text-length}
 use Rattle.convert.proofs.Answers.{text-left}
 use Rattle.convert.proofs.text_to_binary.Goals as goal
+use Rattle.format.specs.Refusals.{refused_by}
 
 pub returns-then-refused-gt0 : goal.returns-then-refused-gt0
 unfolding binary_left
 returns-then-refused-gt0 c =
     let l = c.length_refusal-refused.ensures in
-    record { value = ap (λ (m : ℕ). B.Refused m (text_offset 0)) l ∙ sym (text-length _ _ (omega (arith, l))); dst_after = refl }
+    record { value = ap (λ (m : ℕ). refused_by m (text_offset 0)) l ∙ sym (text-length _ _ (omega (arith, l))); dst_after = refl }
 
 pub returns : goal.returns
 returns c =

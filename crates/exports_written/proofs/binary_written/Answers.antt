@@ -2,14 +2,14 @@
 use Rattle.exports_values.specs.Answers.{binary_written_number, binary_written_value}
 use Rattle.exports_written.proofs.binary_written.Goals as goal
 
-pub returns-in-Written : goal.returns-in-Written
+pub returns-in-Ok : goal.returns-in-Ok
 unfolding binary_written_number binary_written_value
-returns-in-Written c =
-    let g = c.in-Written.is in
+returns-in-Ok c =
+    let g = c.in-Ok.is in
     record { value = rw g; answer_after = rw g }
 
-pub returns-in-Refused : goal.returns-in-Refused
+pub returns-in-Err : goal.returns-in-Err
 unfolding binary_written_number binary_written_value
-returns-in-Refused c =
-    let g = c.in-Refused.is in
+returns-in-Err c =
+    let g = c.in-Err.is in
     record { value = rw g; answer_after = rw g }

@@ -11,29 +11,29 @@ use Rattle.indexed_raw.proofs.raw_indexed_binary.Goals as goal
 pub overflow_add-start : goal.overflow_add-start
 overflow_add-start c =
     let a = c.args in
-    omega (arith, found_inside a.s.now a.at.0 _ (sym c.read_indexed_binary-read.ensures ∙ c.in-Found.is))
+    omega (arith, found_inside a.s.now a.at.0 _ (sym c.read_indexed_binary-read.ensures ∙ c.in-Ok.is))
 
 pub overflow_add-end : goal.overflow_add-end
 overflow_add-end c =
     let a = c.args in
-    omega (arith, found_inside a.s.now a.at.0 _ (sym c.read_indexed_binary-read.ensures ∙ c.in-Found.is))
+    omega (arith, found_inside a.s.now a.at.0 _ (sym c.read_indexed_binary-read.ensures ∙ c.in-Ok.is))
 
-pub slice_bounds-result-end-in-Found : goal.slice_bounds-result-end-in-Found
-slice_bounds-result-end-in-Found c =
+pub slice_bounds-result-end-in-Ok : goal.slice_bounds-result-end-in-Ok
+slice_bounds-result-end-in-Ok c =
     let a = c.args in
-    omega (arith, found_inside a.s.now a.at.0 _ (sym c.read_indexed_binary-read.ensures ∙ c.in-Found.is))
+    omega (arith, found_inside a.s.now a.at.0 _ (sym c.read_indexed_binary-read.ensures ∙ c.in-Ok.is))
 
-pub returns-in-Refused : goal.returns-in-Refused
+pub returns-in-Err : goal.returns-in-Err
 unfolding indexed_part part_start
-returns-in-Refused c =
-    let e = sym c.read_indexed_binary-read.ensures ∙ c.in-Refused.is in
+returns-in-Err c =
+    let e = sym c.read_indexed_binary-read.ensures ∙ c.in-Err.is in
     record { result_value = rw e; ref_ptr_value = rw e (ap (λ (n : ℕ). (c.args.s.ref_ptr.0, n)) (sym (zero-add _))) }
 
-pub returns-in-Found : goal.returns-in-Found
+pub returns-in-Ok : goal.returns-in-Ok
 unfolding indexed_part part_start
-returns-in-Found c =
+returns-in-Ok c =
     let a = c.args in
-    let p = c.in-Found.p in
+    let p = c.in-Ok.p in
     let z : a.at.0 + p.start.0 + p.raw - (a.at.0 + p.start.0) ≡ p.raw = omega arith in
-    let e = sym c.read_indexed_binary-read.ensures ∙ c.in-Found.is in
+    let e = sym c.read_indexed_binary-read.ensures ∙ c.in-Ok.is in
     record { result_value = rw (z, e); ref_ptr_value = rw e }

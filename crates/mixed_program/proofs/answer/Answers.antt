@@ -8,8 +8,8 @@ returns-then-out-lt-ROOM c = search prints-none
 pub returns-then-s-gt-LONGEST : goal.returns-then-s-gt-LONGEST
 returns-then-s-gt-LONGEST c = search prints-one
 
-pub returns-in-Written : goal.returns-in-Written
-returns-in-Written c = search prints
+pub returns-in-Ok : goal.returns-in-Ok
+returns-in-Ok c = search prints
 
-pub returns-in-Refused : goal.returns-in-Refused
-returns-in-Refused c = search never
+pub returns-in-Err : goal.returns-in-Err
+returns-in-Err c = search never

@@ -16,12 +16,12 @@ returns-then-s-gt-LONGEST c =
     let told = prints-one text text-reader c.args.s.now c.args.out.now (search rules) (search rules) in
     record { value = told.0; out_after = told.1.0; prefix_len = told.1.1 }
 
-pub returns-in-Written : goal.returns-in-Written
-returns-in-Written c =
-    let told = prints text text-reader text-demand3 (omega arith) (omega arith) c.args.s.now c.args.out.now (search rules) (search rules) _ c.report_text.ensures.value _ c.report_text.ensures.out_after _ c.in-Written.is in
+pub returns-in-Ok : goal.returns-in-Ok
+returns-in-Ok c =
+    let told = prints text text-reader text-demand3 (omega arith) (omega arith) c.args.s.now c.args.out.now (search rules) (search rules) _ c.report_text.ensures.value _ c.report_text.ensures.out_after _ c.in-Ok.is in
     record { value = told.0; out_after = told.1.0; prefix_len = told.1.1 }
 
-pub returns-in-Refused : goal.returns-in-Refused
-returns-in-Refused c =
-    let z = never text text-reader text-demand3 (omega arith) (omega arith) c.args.s.now c.args.out.now (search rules) (search rules) _ c.report_text.ensures.value _ _ c.in-Refused.is in
+pub returns-in-Err : goal.returns-in-Err
+returns-in-Err c =
+    let z = never text text-reader text-demand3 (omega arith) (omega arith) c.args.s.now c.args.out.now (search rules) (search rules) _ c.report_text.ensures.value _ _ c.in-Err.is in
     absurd (omega arith)

@@ -14,13 +14,13 @@ returns-then-out-size c = λ f i room. absurd (omega (arith, in-binary-is _ c.in
 pub copy_from-requires : goal.copy_from-requires
 copy_from-requires c =
     let size = in-binary-is _ c.in_binary-size.ensures in
-    let at = in-text-at _ c.in_text.ensures c.in-At.is in
+    let at = in-text-at _ c.in_text.ensures c.in-Some.is in
     (ap (λ (t : TextOffset). t.0) at.1, omega (arith, size), omega (arith, size))
 
-pub returns-in-At : goal.returns-in-At
-returns-in-At c = λ f i room. c.copy_from.ensures f
+pub returns-in-Some : goal.returns-in-Some
+returns-in-Some c = λ f i room. c.copy_from.ensures f
 
-pub returns-in-Past : goal.returns-in-Past
-returns-in-Past c = λ f i room.
+pub returns-in-None : goal.returns-in-None
+returns-in-None c = λ f i room.
     let size = in-binary-is _ c.in_binary-size.ensures in
-    absurd (omega (arith, size, f.short, in-text-past _ c.in_text.ensures c.in-Past.is))
+    absurd (omega (arith, size, f.short, in-text-past _ c.in_text.ensures c.in-None.is))
