@@ -75,7 +75,7 @@ zeros = refl
 
 -- ---- text
 
-text-left : (f : Found) (w next : Walk) (state : List ℕ) → walk_of state ≡ w → (Stops f → next ≡ w) → length next.ends ≡ max_depth
+text-left : (f : Found ℕ) (w next : Walk) (state : List ℕ) → walk_of state ≡ w → (Stops f → next ≡ w) → length next.ends ≡ max_depth
     → walk_of (text_state_left (text_item f) next state) ≡ next
 unfolding text_item text_state_left
 text-left (F.Item o n d k h) w next state e s full = back next full
@@ -92,7 +92,7 @@ text-walk xs (suc k) =
 
 -- ---- binary
 
-binary-left : (f : Found) (w next : Walk) (state : List ℕ) → walk_of state ≡ w → (Stops f → next ≡ w) → length next.ends ≡ max_depth
+binary-left : (f : Found ℕ) (w next : Walk) (state : List ℕ) → walk_of state ≡ w → (Stops f → next ≡ w) → length next.ends ≡ max_depth
     → walk_of (binary_state_left (binary_item f) next state) ≡ next
 unfolding binary_item binary_state_left
 binary-left (F.Item o n d k h) w next state e s full = back next full

@@ -21,10 +21,6 @@ use Rattle.claims_indexed.proofs.IndexedCalls.{indexed-calls}
 use Rattle.walk_state.specs.declared.Walk.{Walk}
 use Rattle.walk_state.specs.declared.Found.{Found}
 use Rattle.walk_state.specs.declared.Found.TheVariants as F
-use Rattle.walk_state.specs.declared.TextItem.{TextItem}
-use Rattle.walk_state.specs.declared.TextItem.TheVariants as TI
-use Rattle.walk_state.specs.declared.BinaryItem.{BinaryItem}
-use Rattle.walk_state.specs.declared.BinaryItem.TheVariants as Bi
 use Rattle.walk_state.specs.Walking.{step_in, text_item, text_step, binary_item, binary_step}
 use Rattle.walk_claims.proofs.Proved as W
 use Rattle.exports_values.specs.Answers.{text_found_number, text_tag_left, text_info_left, binary_found_number, binary_tag_left, binary_info_left}
@@ -151,54 +147,54 @@ binary-indexed-written-keeps (Err r) code index ondex raw d h = refl
 
 -- ---- a step: no refusal has the number 0 or 255
 
-abbrev Numbered : Found → Type 0
+abbrev Numbered : Found ℕ → Type 0
 Numbered f = (m p : ℕ) → f ≡ F.Refused m p → (0 < m) × (m < 255)
 
 text-numbered : (s : List ℕ) (w : Walk) → Numbered (step_in text s w).found
 text-numbered s w m p e = let q = ((W.proved).of-text s).refuses w m p e in (q.0.not-accepted, q.1)
 
-text-yields : (f : Found) → Numbered f → (text_step_number (text_item f) ≡ 0) ↔ YieldsText (text_item f)
+text-yields : (f : Found ℕ) → Numbered f → (text_step_number (text_item f) ≡ 0) ↔ YieldsText (text_item f)
 unfolding text_step_number text_item
 text-yields (F.Item o n d k h) b = (λ _. tt, λ _. refl)
 text-yields (F.Refused m p) b = (λ e. absurd (omega (arith, e, (b m p refl).0)), λ x. absurd x)
 text-yields F.End b = (λ e. absurd (omega arith), λ x. absurd x)
 
-text-ends : (f : Found) → Numbered f → (text_step_number (text_item f) ≡ 255) ↔ (text_item f ≡ TI.End)
+text-ends : (f : Found ℕ) → Numbered f → (text_step_number (text_item f) ≡ 255) ↔ (text_item f ≡ F.End)
 unfolding text_step_number text_item
 text-ends (F.Item o n d k h) b = (λ e. absurd (omega arith), λ e. let z : ◌≡◌ {A = ℕ} 0 1 = cc in absurd (omega arith))
 text-ends (F.Refused m p) b =
     (λ e. absurd (omega (arith, e, (b m p refl).1)), λ e. let z : ◌≡◌ {A = ℕ} 0 1 = cc in absurd (omega arith))
 text-ends F.End b = (λ _. refl, λ _. refl)
 
-text-step-keeps : (f : TextItem) (w : Walk) (state item : List ℕ) → (text_step_number f ≡ 0 → ⊥)
+text-step-keeps : (f : Found TextOffset) (w : Walk) (state item : List ℕ) → (text_step_number f ≡ 0 → ⊥)
     → (text_yield_left f item ≡ item) × (text_state_left f w state ≡ state)
 unfolding text_step_number text_yield_left text_state_left
-text-step-keeps (TI.Item o n d k h) w state item h' = absurd (h' refl)
-text-step-keeps (TI.Refused m p) w state item h' = (refl, refl)
-text-step-keeps TI.End w state item h' = (refl, refl)
+text-step-keeps (F.Item o n d k h) w state item h' = absurd (h' refl)
+text-step-keeps (F.Refused m p) w state item h' = (refl, refl)
+text-step-keeps F.End w state item h' = (refl, refl)
 
 binary-numbered : (s : List ℕ) (w : Walk) → Numbered (step_in binary s w).found
 binary-numbered s w m p e = let q = ((W.proved).of-binary s).refuses w m p e in (q.0.not-accepted, q.1)
 
-binary-yields : (f : Found) → Numbered f → (binary_step_number (binary_item f) ≡ 0) ↔ YieldsBinary (binary_item f)
+binary-yields : (f : Found ℕ) → Numbered f → (binary_step_number (binary_item f) ≡ 0) ↔ YieldsBinary (binary_item f)
 unfolding binary_step_number binary_item
 binary-yields (F.Item o n d k h) b = (λ _. tt, λ _. refl)
 binary-yields (F.Refused m p) b = (λ e. absurd (omega (arith, e, (b m p refl).0)), λ x. absurd x)
 binary-yields F.End b = (λ e. absurd (omega arith), λ x. absurd x)
 
-binary-ends : (f : Found) → Numbered f → (binary_step_number (binary_item f) ≡ 255) ↔ (binary_item f ≡ Bi.End)
+binary-ends : (f : Found ℕ) → Numbered f → (binary_step_number (binary_item f) ≡ 255) ↔ (binary_item f ≡ F.End)
 unfolding binary_step_number binary_item
 binary-ends (F.Item o n d k h) b = (λ e. absurd (omega arith), λ e. let z : ◌≡◌ {A = ℕ} 0 1 = cc in absurd (omega arith))
 binary-ends (F.Refused m p) b =
     (λ e. absurd (omega (arith, e, (b m p refl).1)), λ e. let z : ◌≡◌ {A = ℕ} 0 1 = cc in absurd (omega arith))
 binary-ends F.End b = (λ _. refl, λ _. refl)
 
-binary-step-keeps : (f : BinaryItem) (w : Walk) (state item : List ℕ) → (binary_step_number f ≡ 0 → ⊥)
+binary-step-keeps : (f : Found BinaryOffset) (w : Walk) (state item : List ℕ) → (binary_step_number f ≡ 0 → ⊥)
     → (binary_yield_left f item ≡ item) × (binary_state_left f w state ≡ state)
 unfolding binary_step_number binary_yield_left binary_state_left
-binary-step-keeps (Bi.Item o n d k h) w state item h' = absurd (h' refl)
-binary-step-keeps (Bi.Refused m p) w state item h' = (refl, refl)
-binary-step-keeps Bi.End w state item h' = (refl, refl)
+binary-step-keeps (F.Item o n d k h) w state item h' = absurd (h' refl)
+binary-step-keeps (F.Refused m p) w state item h' = (refl, refl)
+binary-step-keeps F.End w state item h' = (refl, refl)
 
 -- ---- the calls
 

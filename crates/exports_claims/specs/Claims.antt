@@ -14,8 +14,7 @@ use Rattle.format.specs.Writing.{write_text, text_item_left, write_binary, binar
 use Rattle.format.specs.Indexed.{read_indexed_text, indexed_left, read_indexed_binary}
 use Rattle.format.specs.Indexed.{write_indexed_text, text_indexed_left, write_indexed_binary, binary_indexed_left}
 use Rattle.walk_state.specs.declared.Walk.{Walk}
-use Rattle.walk_state.specs.declared.TextItem.TheVariants as TI
-use Rattle.walk_state.specs.declared.BinaryItem.TheVariants as Bi
+use Rattle.walk_state.specs.declared.Found.TheVariants as TI
 use Rattle.walk_state.specs.Walking.{start, is_fit, text_step, binary_step}
 use Rattle.walk_claims.specs.Words.{after}
 use Rattle.exports_values.specs.Answers.{text_found_number, text_tag_left, text_info_left, binary_found_number, binary_tag_left, binary_info_left}
@@ -56,7 +55,7 @@ pub record ZeroClaims : Type 0 where
   pub walk-text : (s : List ℕ) (w : Walk) → (text_step_number (text_step s w).found ≡ 0) ↔ YieldsText (text_step s w).found
   pub walk-binary : (s : List ℕ) (w : Walk) → (binary_step_number (binary_step s w).found ≡ 0) ↔ YieldsBinary (binary_step s w).found
   pub end-text : (s : List ℕ) (w : Walk) → (text_step_number (text_step s w).found ≡ 255) ↔ ((text_step s w).found ≡ TI.End)
-  pub end-binary : (s : List ℕ) (w : Walk) → (binary_step_number (binary_step s w).found ≡ 255) ↔ ((binary_step s w).found ≡ Bi.End)
+  pub end-binary : (s : List ℕ) (w : Walk) → (binary_step_number (binary_step s w).found ≡ 255) ↔ ((binary_step s w).found ≡ TI.End)
 
 -- ---- "Where a call itself is refused, every output buffer holds what it held before": where the number is not 0, each place that is lent
 -- but the one for `answer`

@@ -4,12 +4,9 @@ use Rattle.std.specs.Prelude.{ℕ, zero, suc, List, replicate}
 use Rattle.format.specs.declared.IndexRow.{IndexRow}
 use Rattle.format.specs.declared.IndexedItem.{IndexedItem}
 use Rattle.format.specs.Offsets.{binary_offset}
-use Rattle.walk_state.specs.declared.TextItem.{TextItem}
-use Rattle.walk_state.specs.declared.TextItem.TheVariants as TI
-use Rattle.walk_state.specs.declared.BinaryItem.{BinaryItem}
-use Rattle.walk_state.specs.declared.BinaryItem.TheVariants as Bi
-use Rattle.walk_state.specs.declared.TextStep.{TextStep}
-use Rattle.walk_state.specs.declared.BinaryStep.{BinaryStep}
+use Rattle.walk_state.specs.declared.Found.{Found}
+use Rattle.walk_state.specs.declared.Found.TheVariants as TI
+use Rattle.walk_state.specs.declared.Stepped.{Stepped}
 use Rattle.walk_state.specs.Walking.{text_step, binary_step}
 use Rattle.exports_values.specs.Lent.{state_size, walk_of, text_state_left, binary_state_left}
 use Rattle.std.specs.Prelude.{Ok, Err, Result}
@@ -58,28 +55,28 @@ ReadIndexedBinary (Err e) = ⊥
 
 -- ---- a step that yields, and one that tells the end
 
-abbrev pub YieldsText : TextItem → Type 0
+abbrev pub YieldsText : Found TextOffset → Type 0
 YieldsText (TI.Item o n d k h) = Unit {0}
 YieldsText (TI.Refused m p) = ⊥
 YieldsText TI.End = ⊥
 
-abbrev pub YieldsBinary : BinaryItem → Type 0
-YieldsBinary (Bi.Item o n d k h) = Unit {0}
-YieldsBinary (Bi.Refused m p) = ⊥
-YieldsBinary Bi.End = ⊥
+abbrev pub YieldsBinary : Found BinaryOffset → Type 0
+YieldsBinary (TI.Item o n d k h) = Unit {0}
+YieldsBinary (TI.Refused m p) = ⊥
+YieldsBinary TI.End = ⊥
 
 -- ---- the state lent, behind k calls of cesr_walk_text or cesr_walk_binary: zeros at first
 
 unfoldable pub text_lent : List ℕ → ℕ → List ℕ
 text_lent xs zero = replicate state_size 0
 text_lent xs (suc k) =
-    let a : TextStep = text_step xs (walk_of (text_lent xs k)) in
+    let a : Stepped TextOffset = text_step xs (walk_of (text_lent xs k)) in
     text_state_left a.found a.next (text_lent xs k)
 
 unfoldable pub binary_lent : List ℕ → ℕ → List ℕ
 binary_lent xs zero = replicate state_size 0
 binary_lent xs (suc k) =
-    let a : BinaryStep = binary_step xs (walk_of (binary_lent xs k)) in
+    let a : Stepped BinaryOffset = binary_step xs (walk_of (binary_lent xs k)) in
     binary_state_left a.found a.next (binary_lent xs k)
 
 -- ---- two indexed codes, and an item

@@ -24,16 +24,16 @@ use Rattle.exports_claims.proofs.Proved as E
 use Rattle.exports_lent.specs.Answers.{state_behind}
 use Rattle.exports_lent.specs.Claims.{LentClaims, LentInstalments}
 
-abbrev Numbered : Pause → Type 0
+abbrev Numbered : Pause ℕ → Type 0
 Numbered a = (m p : ℕ) → a ≡ P.Refused m p → (0 < m) × (m < 255)
 
-zero-spent : (a : Pause) → Numbered a → (pause_number a ≡ 0) ↔ (a ≡ P.Spent)
+zero-spent : (a : Pause ℕ) → Numbered a → (pause_number a ≡ 0) ↔ (a ≡ P.Spent)
 unfolding pause_number
 zero-spent P.Spent b = (λ _. refl, λ _. refl)
 zero-spent P.End b = (λ e. absurd (omega arith), λ e. let z : ◌≡◌ {A = ℕ} 0 1 = cc in absurd (omega arith))
 zero-spent (P.Refused m p) b = (λ e. absurd (omega (arith, e, (b m p refl).0)), λ e. let z : ◌≡◌ {A = ℕ} 0 1 = cc in absurd (omega arith))
 
-end-told : (a : Pause) → Numbered a → (pause_number a ≡ 255) ↔ (a ≡ P.End)
+end-told : (a : Pause ℕ) → Numbered a → (pause_number a ≡ 255) ↔ (a ≡ P.End)
 unfolding pause_number
 end-told P.Spent b = (λ e. absurd (omega arith), λ e. let z : ◌≡◌ {A = ℕ} 0 1 = cc in absurd (omega arith))
 end-told P.End b = (λ _. refl, λ _. refl)

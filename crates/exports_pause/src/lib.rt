@@ -13,7 +13,7 @@ use instalments::Pause;
 use walk_state::Place;
 
 #[tactic(auto, unfolding(instalments::specs::Numbers::pause_number))]
-pub fn number_of(pause: Pause) -> u8
+pub fn number_of(pause: Pause<usize>) -> u8
     ensures { result ≡ pause_number pause }
 {
     match pause {
@@ -24,7 +24,7 @@ pub fn number_of(pause: Pause) -> u8
 }
 
 #[tactic(auto, unfolding(instalments::specs::Numbers::pause_place))]
-pub fn place_of(pause: Pause) -> usize
+pub fn place_of(pause: Pause<usize>) -> usize
     ensures { result ≡ pause_place pause }
 {
     match pause {

@@ -5,30 +5,29 @@ use mathlib.Core.List.{List}
 use lib.ListN.{length}
 use Rattle.format.specs.Units.{Domain}
 use Rattle.pieces.specs.declared.Pieces.{Pieces}
-use Rattle.pieces.specs.declared.Given.{Given}
-use Rattle.pieces.specs.declared.Given.TheVariants as G
 use Rattle.pieces.specs.declared.Fed.{Fed}
-use Rattle.pieces.specs.declared.Closing.{Closing}
-use Rattle.pieces.specs.declared.Closing.TheVariants as C
 use Rattle.pieces.specs.declared.Closed.{Closed}
 use Rattle.pieces.specs.Calls.{feed_answer, feed_state, feed, items_left, refusals_left, end_answer, end_state, finish, remainder_left}
 use Rattle.exports_pieces.specs.Answers.{given_number, given_lengths, fed_numbers, closing_number, closing_length, ended_numbers, Kept, Stayed}
 use Rattle.exports_pieces_state.specs.Numbers.{pieces_in}
+use Rattle.std.specs.Prelude.{Ok, Err, Result}
+use Rattle.format.specs.declared.Refusal.{Refusal}
+use Rattle.pieces.specs.declared.Rows.{Rows}
 
-fed-kept : (g : Given) (d : Domain) (st : Pieces) (piece : List ℕ) → Kept g (feed_state g d st piece) st
+fed-kept : (g : Result Rows (Refusal ℕ)) (d : Domain) (st : Pieces) (piece : List ℕ) → Kept g (feed_state g d st piece) st
 unfolding feed_state
-fed-kept (G.Taken n m) d st piece = tt
-fed-kept (G.Refused number place) d st piece = refl
+fed-kept (Ok rows) d st piece = tt
+fed-kept (Err e) d st piece = refl
 
 -- a refused piece leaves the state
 pub feed-kept : (d : Domain) (st : Pieces) (piece : List ℕ) (n m : ℕ) → Kept (feed d st piece n m).given (feed d st piece n m).next st
 unfolding feed
 feed-kept d st piece n m = fed-kept (feed_answer d st piece n m) d st piece
 
-ended-stayed : (g : Closing) (st : Pieces) → Stayed g (end_state g st) st
+ended-stayed : (g : Result ℕ (Refusal ℕ)) (st : Pieces) → Stayed g (end_state g st) st
 unfolding end_state
-ended-stayed (C.Written n) st = tt
-ended-stayed (C.Refused number place) st = refl
+ended-stayed (Ok n) st = tt
+ended-stayed (Err why) st = refl
 
 -- and so does an end that is refused
 pub finish-stayed : (d : Domain) (st : Pieces) (n : ℕ) → Stayed (finish d st n).closing (finish d st n).next st

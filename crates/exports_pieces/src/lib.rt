@@ -9,7 +9,7 @@ ghost use Rattle.exports_pieces.specs.Answers.{given_number, given_lengths, fed_
 
 use exports_pieces_state::PIECES;
 use format::Form;
-use pieces::{Closed, Closing, Fed, Given};
+use pieces::{Closed, Fed};
 
 // ---- what a call answered
 
@@ -23,14 +23,14 @@ fn fed(r: Fed, state: &mut [usize; PIECES], given: &mut [usize; 2]) -> u8
     let next = r.next;
     let g = r.given;
     match g {
-        Given::Taken { items, refusals } => {
+        Ok(rows) => {
             *state = exports_pieces_state::numbers_of(next);
-            *given = [items, refusals];
+            *given = [rows.items, rows.refusals];
             0
         }
-        Given::Refused { number, place: _ } => {
+        Err(refusal) => {
             *given = [0, 0];
-            number
+            refusal.number
         }
     }
 }
@@ -44,14 +44,14 @@ fn ended(r: Closed, state: &mut [usize; PIECES], answer: &mut usize) -> u8
     let next = r.next;
     let g = r.closing;
     match g {
-        Closing::Written(n) => {
+        Ok(n) => {
             *state = exports_pieces_state::numbers_of(next);
             *answer = n;
             0
         }
-        Closing::Refused { number, place: _ } => {
+        Err(refusal) => {
             *answer = 0;
-            number
+            refusal.number
         }
     }
 }

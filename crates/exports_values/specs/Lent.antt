@@ -9,11 +9,11 @@ use Rattle.format.specs.declared.Kind.{Kind}
 use Rattle.format.specs.declared.Kind.TheVariants.{Fixed, Variable, Group, Genus, Indexed}
 use Rattle.walk_state.specs.declared.Walk.{Walk}
 use Rattle.walk_state.specs.declared.Place.{Place}
-use Rattle.walk_state.specs.declared.TextItem.{TextItem}
-use Rattle.walk_state.specs.declared.TextItem.TheVariants as T
-use Rattle.walk_state.specs.declared.BinaryItem.{BinaryItem}
-use Rattle.walk_state.specs.declared.BinaryItem.TheVariants as B
+use Rattle.walk_state.specs.declared.Found.{Found}
+use Rattle.walk_state.specs.declared.Found.TheVariants as T
 use Rattle.walk_state.specs.Lent.{slots_in, walk_at}
+use Rattle.format.specs.declared.TextOffset.{TextOffset}
+use Rattle.format.specs.declared.BinaryOffset.{BinaryOffset}
 
 -- ---- the state as numbers
 
@@ -78,43 +78,43 @@ lead_of (Indexed c) = (code_of_row c).selector
 unfoldable pub item_of : ℕ → ℕ → ℕ → Kind → ℕ → List ℕ
 item_of offset size depth k h = offset ∷ size ∷ depth ∷ sort_of k h ∷ sign_of k ∷ lead_of k ∷ []
 
-unfoldable pub text_step_number : TextItem → ℕ
+unfoldable pub text_step_number : Found TextOffset → ℕ
 text_step_number (T.Item o n d k h) = 0
 text_step_number (T.Refused number place) = number
 text_step_number T.End = 255
 
-unfoldable pub text_step_value : TextItem → ℕ
+unfoldable pub text_step_value : Found TextOffset → ℕ
 text_step_value (T.Item o n d k h) = 0
 text_step_value (T.Refused number place) = place.0
 text_step_value T.End = 0
 
 -- what a place that held before holds afterwards: a refusal and the end leave it
-unfoldable pub text_yield_left : TextItem → List ℕ → List ℕ
+unfoldable pub text_yield_left : Found TextOffset → List ℕ → List ℕ
 text_yield_left (T.Item o n d k h) before = item_of o.0 n.0 d k h
 text_yield_left (T.Refused number place) before = before
 text_yield_left T.End before = before
 
-unfoldable pub text_state_left : TextItem → Walk → List ℕ → List ℕ
+unfoldable pub text_state_left : Found TextOffset → Walk → List ℕ → List ℕ
 text_state_left (T.Item o n d k h) w before = state_of w
 text_state_left (T.Refused number place) w before = before
 text_state_left T.End w before = before
 
-unfoldable pub binary_step_number : BinaryItem → ℕ
-binary_step_number (B.Item o n d k h) = 0
-binary_step_number (B.Refused number place) = number
-binary_step_number B.End = 255
+unfoldable pub binary_step_number : Found BinaryOffset → ℕ
+binary_step_number (T.Item o n d k h) = 0
+binary_step_number (T.Refused number place) = number
+binary_step_number T.End = 255
 
-unfoldable pub binary_step_value : BinaryItem → ℕ
-binary_step_value (B.Item o n d k h) = 0
-binary_step_value (B.Refused number place) = place.0
-binary_step_value B.End = 0
+unfoldable pub binary_step_value : Found BinaryOffset → ℕ
+binary_step_value (T.Item o n d k h) = 0
+binary_step_value (T.Refused number place) = place.0
+binary_step_value T.End = 0
 
-unfoldable pub binary_yield_left : BinaryItem → List ℕ → List ℕ
-binary_yield_left (B.Item o n d k h) before = item_of o.0 n.0 d k h
-binary_yield_left (B.Refused number place) before = before
-binary_yield_left B.End before = before
+unfoldable pub binary_yield_left : Found BinaryOffset → List ℕ → List ℕ
+binary_yield_left (T.Item o n d k h) before = item_of o.0 n.0 d k h
+binary_yield_left (T.Refused number place) before = before
+binary_yield_left T.End before = before
 
-unfoldable pub binary_state_left : BinaryItem → Walk → List ℕ → List ℕ
-binary_state_left (B.Item o n d k h) w before = state_of w
-binary_state_left (B.Refused number place) w before = before
-binary_state_left B.End w before = before
+unfoldable pub binary_state_left : Found BinaryOffset → Walk → List ℕ → List ℕ
+binary_state_left (T.Item o n d k h) w before = state_of w
+binary_state_left (T.Refused number place) w before = before
+binary_state_left T.End w before = before

@@ -53,7 +53,7 @@ unfoldable pub within : ℕ → ℕ → Walk
 within l n = next_of start (Group l) 0 n
 
 -- where it stops: each item takes a unit at least, so that this budget is never used up
-unfoldable pub body_walk : Domain → ℕ → List ℕ → Pause
+unfoldable pub body_walk : Domain → ℕ → List ℕ → Pause ℕ
 body_walk d l body = (walk_on d body (length body / d.unit + 1) (within l (length body / d.unit))).pause
 
 -- ---- the call: "3 first if its stated length passes the buffer's, 1 when header and body together pass the limit, 6, 2 for a body that
@@ -61,7 +61,7 @@ body_walk d l body = (walk_on d body (length body / d.unit + 1) (within l (lengt
 -- own 1, 6, 2 and 3 are 0"
 
 -- behind the walk: room for so many elements
-unfoldable pub room_for : Pause → ℕ → ℕ → Result ℕ (Refusal ℕ)
+unfoldable pub room_for : Pause ℕ → ℕ → ℕ → Result ℕ (Refusal ℕ)
 room_for P.End size room = pick (ltb room size) (refused_by 3 0) (Ok size)
 room_for (P.Refused m p) size room = refused_by m p
 room_for P.Spent size room = refused_by 13 0  -- never

@@ -41,16 +41,16 @@ group-length f l body =
 never {ℓ} : {A : Type ℓ} {m p n : ℕ} → refused_by m p ≡ Ok n → A
 never e = let z : ◌≡◌ {A = ℕ} 0 1 = cc in absurd (omega arith)
 
-room-written : (c : Pause) (size room n : ℕ) → room_for c size room ≡ Ok n → (c ≡ P.End) × (n ≡ size) × (n ≤ room)
+room-written : (c : Pause ℕ) (size room n : ℕ) → room_for c size room ≡ Ok n → (c ≡ P.End) × (n ≡ size) × (n ≤ room)
 unfolding room_for
 room-written P.End size room n e =
-    pick-by (λ r. r ≡ Ok n → (P.End ≡ P.End) × (n ≡ size) × (n ≤ room)) (ltb room size) _ _ (λ _ q. never q)
+    pick-by (λ r. r ≡ Ok n → (◌≡◌ {A = Pause ℕ} P.End P.End) × (n ≡ size) × (n ≤ room)) (ltb room size) _ _ (λ _ q. never q)
     (λ g q. let z : size ≡ n = cc in (refl, sym z, omega (arith, ltb-false room size g))) e
 room-written (P.Refused m p) size room n e = never e
 room-written P.Spent size room n e = never e
 
 module _ (f : Form) (letter len : ℕ) (buf : List ℕ) where
-  abbrev walk : Pause
+  abbrev walk : Pause ℕ
   walk = body_walk (domain f) (sextet_of letter) (take len buf)
 
   asked-then : Asked f letter len buf → grouped f letter len buf ≡ room_for walk (group_size (domain f) len) (length buf)

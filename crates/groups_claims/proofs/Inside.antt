@@ -119,7 +119,7 @@ module _ (p m n : ℕ) (room : p + m ≤ n) (w : Walk) (f : Fits w m) (h : 0 < w
 
 -- ---- text and binary
 
-found-on : (u p : ℕ) (f : Found) → found_in u (counted_on p f) ≡ found_on (p * u) (found_in u f)
+found-on : (u p : ℕ) (f : Found ℕ) → found_in u (counted_on p f) ≡ found_on (p * u) (found_in u f)
 unfolding found_in counted_on found_on
 found-on u p (F.Item a n d k h) = rw (add-mul p a u)
 found-on u p (F.Refused m q) =

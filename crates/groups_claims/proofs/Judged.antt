@@ -61,7 +61,7 @@ module _ (f : Form) (body : List ℕ) where
       let n : ℕ = units_in (domain f) body in
       let w : Walk = within l n in
       let fits : Fits w n = (in_group l n).fits in
-      let r : Walked = walk_on (domain f) body (n + 1) w in
+      let r : Walked ℕ = walk_on (domain f) body (n + 1) w in
       let spent : r.items ≡ n + 1 = subst (Told (domain f) body (n + 1) r.items r.next) e ((budgets f body).told (n + 1) w) in
       let b = bounded w r.next r.items ((budgets f body).steps (n + 1) w) fits.nest.full (fit-made w n (plain w n fits)) in
       omega arith
@@ -94,7 +94,7 @@ is-refused (Refused x y) a b e = cc
 
 -- ---- the walk of header and body stops where the body's does
 
-unfoldable pause_on : ℕ → Pause → Pause
+unfoldable pause_on : ℕ → Pause ℕ → Pause ℕ
 pause_on o P.Spent = P.Spent
 pause_on o P.End = P.End
 pause_on o (P.Refused a b) = P.Refused a (o + b)
@@ -111,13 +111,13 @@ module _ (f : Form) (l : ℕ) (body : List ℕ) (g : is_group l ≡ true) (low :
   abbrev ys : List ℕ
   ys = xs f l body g low m whole fits
 
-  on-item : (w v : Walk) (x : Found) (r q : Walked) → r.pause ≡ pause_on o q.pause → (on_item v (found_on o x) r).pause ≡ pause_on o (on_item w x q).pause
+  on-item : (w v : Walk) (x : Found ℕ) (r q : Walked ℕ) → r.pause ≡ pause_on o q.pause → (on_item v (found_on o x) r).pause ≡ pause_on o (on_item w x q).pause
   unfolding found_on pause_on
   on-item w v (F.Item a n e k b) r q e' = e'
   on-item w v (F.Refused a b) r q e' = refl
   on-item w v F.End r q e' = refl
 
-  end-item : (v : Walk) (x : Found) (r : Walked) → x ≡ F.End → (on_item v x r).pause ≡ P.End
+  end-item : (v : Walk) (x : Found ℕ) (r : Walked ℕ) → x ≡ F.End → (on_item v x r).pause ≡ P.End
   end-item v x r e = rw e
 
   both-spent : (w : Walk) → Inside w m → unspent d ys (moved_on (head_units m) w) ≡ pause_on o (unspent d body w)
@@ -152,12 +152,12 @@ module _ (f : Form) (l : ℕ) (body : List ℕ) (g : is_group l ≡ true) (low :
   all-steps : (walk_on d ys (suc (suc m)) start).pause ≡ pause_on o (walk_on d body (suc m) (within l m)).pause
   unfolding walk_on
   all-steps =
-      ap (λ (r : Stepped). (on_item start r.found (walk_on d ys (suc m) r.next)).pause) (first f l body g low m whole fits)
+      ap (λ (r : Stepped ℕ). (on_item start r.found (walk_on d ys (suc m) r.next)).pause) (first f l body g low m whole fits)
       ∙ pauses (suc m) (within l m) (in_group l m)
 
-  stopped : (x : Found) → Stops x → ((step_in d ys (walk_on d ys (suc (suc m)) start).next).found ≡ x) → found_of (judge_in d ys) ≡ x
+  stopped : (x : Found ℕ) → Stops x → ((step_in d ys (walk_on d ys (suc (suc m)) start).next).found ≡ x) → found_of (judge_in d ys) ≡ x
   stopped x st e =
-      let r : Walked = walk_on d ys (suc (suc m)) start in
+      let r : Walked ℕ = walk_on d ys (suc (suc m)) start in
       let z : 0 + r.items ≡ r.items = omega arith in
       let v : after d ys r.items ≡ r.next = rw z at (to-after d ys 0 r.items r.next (from_start ((budgets f ys).steps (suc (suc m)) start))) in
       let e' : found_at d ys r.items ≡ x = ap (λ (w : Walk). (step_in d ys w).found) v ∙ e in

@@ -196,7 +196,7 @@ module _ (f : Form) (letter len : ℕ) (buf : List ℕ) where
   fixed k a m p e = let z : k ≡ m = ap refusal_number e in subst (Among own-numbers) z a
 
   -- behind the walk: its number, or 3
-  by-walk : (c : Pause) → (c ≡ P.Spent → ⊥) → ((m p : ℕ) → c ≡ P.Refused m p → Among own-numbers m) → (size room : ℕ)
+  by-walk : (c : Pause ℕ) → (c ≡ P.Spent → ⊥) → ((m p : ℕ) → c ≡ P.Refused m p → Among own-numbers m) → (size room : ℕ)
       → Listed (room_for c size room)
   unfolding room_for
   by-walk P.End s w size room =

@@ -274,7 +274,7 @@ module _ (f : Form) (l : ℕ) (body : List ℕ) (g : is_group l ≡ true) (low :
     behind =
         let fit : is_fit (moved_on h w) (units_in d xs) ≡ true = rw units (fit-made (moved_on h w) (h + m) (plain (moved_on h w) (h + m) behind-fits)) in
         let e : h + w.at ≡ h + m = ap (λ (a : ℕ). h + a) (i.over z) in
-        ap (λ (r : Stepped). r.found) (fit-step d xs (moved_on h w) short fit) ∙ rw (units, no-tail, eq-eqb (h + w.at) (h + m) e)
+        ap (λ (r : Stepped ℕ). r.found) (fit-step d xs (moved_on h w) short fit) ∙ rw (units, no-tail, eq-eqb (h + w.at) (h + m) e)
 
   -- ---- a step, of a state in the group
 
@@ -291,7 +291,7 @@ module _ (f : Form) (l : ℕ) (body : List ℕ) (g : is_group l ≡ true) (low :
   over w i q =
       let z : w.depth ≡ 0 = omega arith in
       let e : step_in d body w ≡ record { next = w; found = F.End } = rw body_is at (ends d (reader f) xs h m room short w i z) in
-      (behind w i z, ap (λ (r : Stepped). r.found) e)
+      (behind w i z, ap (λ (r : Stepped ℕ). r.found) e)
 
   pub moved-fits-any : (w : Walk) → Inside w m → Fits (moved_on h w) (h + m)
   moved-fits-any w i =
@@ -299,13 +299,13 @@ module _ (f : Form) (l : ℕ) (body : List ℕ) (g : is_group l ≡ true) (low :
 
   -- ---- all items
 
-  ahead-on : (x : Found) (o : ℕ) (us vs : List Found) → us ≡ map (found_on o) vs → ahead (found_on o x) us ≡ map (found_on o) (ahead x vs)
+  ahead-on : (x : Found ℕ) (o : ℕ) (us vs : List (Found ℕ)) → us ≡ map (found_on o) vs → ahead (found_on o x) us ≡ map (found_on o) (ahead x vs)
   unfolding ahead found_on
-  ahead-on (F.Item a n e k b) o us vs q = ap (λ (t : List Found). F.Item (o + a) n e k b ∷ t) q
+  ahead-on (F.Item a n e k b) o us vs q = ap (λ (t : List (Found ℕ)). F.Item (o + a) n e k b ∷ t) q
   ahead-on (F.Refused a b) o us vs q = refl
   ahead-on F.End o us vs q = refl
 
-  ahead-end : (x : Found) (fs : List Found) → x ≡ F.End → ahead x fs ≡ []
+  ahead-end : (x : Found ℕ) (fs : List (Found ℕ)) → x ≡ F.End → ahead x fs ≡ []
   unfolding ahead
   ahead-end x fs e = rw e
 
@@ -327,13 +327,13 @@ module _ (f : Form) (l : ℕ) (body : List ℕ) (g : is_group l ≡ true) (low :
 
   -- ---- every item of the body's walk stands within the group
 
-  inner-item : (x : Found) (e : ℕ) (fs : List Found) → 0 < e → ((a n e' b : ℕ) (k : Kind) → x ≡ F.Item a n e' k b → e' ≡ e) → Inner fs → Inner (ahead x fs)
+  inner-item : (x : Found ℕ) (e : ℕ) (fs : List (Found ℕ)) → 0 < e → ((a n e' b : ℕ) (k : Kind) → x ≡ F.Item a n e' k b → e' ≡ e) → Inner fs → Inner (ahead x fs)
   unfolding ahead
   inner-item (F.Item a n e' k b) e fs some depth i = (omega (arith, depth a n e' b k refl), i)
   inner-item (F.Refused a b) e fs some depth i = tt
   inner-item F.End e fs some depth i = tt
 
-  none_ahead : (x : Found) (fs : List Found) → x ≡ F.End → Inner (ahead x fs)
+  none_ahead : (x : Found ℕ) (fs : List (Found ℕ)) → x ≡ F.End → Inner (ahead x fs)
   unfolding ahead
   none_ahead x fs e = rw e tt
 

@@ -44,12 +44,12 @@ abbrev pub moved_on : ℕ → Walk → Walk
 moved_on p w = state (ends_on p w.depth w.ends) w.depth (p + w.at) w.first w.indexed
 
 -- offsets in units, places in sextets
-unfoldable pub counted_on : ℕ → Found → Found
+unfoldable pub counted_on : ℕ → Found ℕ → Found ℕ
 counted_on p (F.Item o n d k h) = F.Item (p + o) n d k h
 counted_on p (F.Refused m q) = F.Refused m (4 * p + q)
 counted_on p F.End = F.End
 
-abbrev pub stepped_on : ℕ → Stepped → Stepped
+abbrev pub stepped_on : ℕ → Stepped ℕ → Stepped ℕ
 stepped_on p r = record { next = moved_on p r.next; found = counted_on p r.found }
 
 module _ (p : ℕ) where

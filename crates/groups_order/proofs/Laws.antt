@@ -112,7 +112,7 @@ into l n w first indexed r e f g q = let z : 0 + n ≡ n = omega arith in q ∙ 
 
 -- ---- room
 
-module _ (p : Pause) (size room : ℕ) where
+module _ (p : Pause ℕ) (size room : ℕ) where
   pub no_room : p ≡ P.End → room < size → refused_by 3 0 ≡ room_for p size room
   unfolding room_for
   no_room e h = rw (e, lt-ltb room size h)

@@ -71,7 +71,7 @@ pub fn within(letter: u8, n: usize) -> Walk
 }
 
 // Behind it: a group of this size in so much room.
-pub fn room_for(pause: Pause, size: usize, room: usize) -> Result<usize, Refusal<usize>>
+pub fn room_for(pause: Pause<usize>, size: usize, room: usize) -> Result<usize, Refusal<usize>>
     ensures { result ≡ room_for pause size room }
 {
     match pause {

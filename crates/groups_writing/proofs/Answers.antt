@@ -27,10 +27,10 @@ pub budget-fits : (f : Form) (n len : ℕ) → n ≡ len / (domain f).unit → l
 budget-fits Text n len e h = omega arith
 budget-fits Binary n len e h = omega arith
 
-pub walked : (f : Form) (l : ℕ) (body : List ℕ) (n : ℕ) (w : Walk) (r : Walked) → n ≡ length body / (domain f).unit → w ≡ within l n
+pub walked : (f : Form) (l : ℕ) (body : List ℕ) (n : ℕ) (w : Walk) (r : Walked ℕ) → n ≡ length body / (domain f).unit → w ≡ within l n
     → r ≡ walk_on (domain f) body (n + 1) w → r.pause ≡ body_walk (domain f) l body
 unfolding body_walk
-walked f l body n w r e q p = ap (λ (x : Walked). x.pause) p ∙ rw (q, e)
+walked f l body n w r e q p = ap (λ (x : Walked ℕ). x.pause) p ∙ rw (q, e)
 
 -- ---- the answer, by what is asked before the walk
 
@@ -46,7 +46,7 @@ module _ (f : Form) (letter len : ℕ) (buf : List ℕ) (b : Before) (e : b ≡ 
     pub there : len ≤ length buf
     there = body-there f letter len (length buf) l size (sym e ∙ q)
 
-    pub by-walk : (p : Pause) (r : Result ℕ (Refusal ℕ)) → p ≡ body_walk (domain f) l (take len buf) → r ≡ room_for p size (length buf)
+    pub by-walk : (p : Pause ℕ) (r : Result ℕ (Refusal ℕ)) → p ≡ body_walk (domain f) l (take len buf) → r ≡ room_for p size (length buf)
         → r ≡ grouped f letter len buf
     unfolding answered
     by-walk p r ep er = er ∙ rw ep (ap (λ (x : Before). answered x f len buf) (sym q) ∙ told)

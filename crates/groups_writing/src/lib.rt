@@ -14,7 +14,7 @@ use instalments::Pause;
 // ---- the answer: the buffer is only looked at
 
 // No walk yields more items than there are units, so that the budget is never used up.
-fn walk_body(form: Form, letter: u8, body: &[u8]) -> Pause
+fn walk_body(form: Form, letter: u8, body: &[u8]) -> Pause<usize>
     ensures { result ≡ body_walk (domain form) letter body.now }
 {
     let n = report_units::units(form, body.len());

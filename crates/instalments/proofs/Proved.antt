@@ -30,21 +30,21 @@ use Rattle.instalments.specs.Instalments.{halted, counted, unspent, on_item, wal
 use Rattle.instalments.specs.Claims.{Between, here, on, Told, Alike, InstalmentClaims, SameInstalment, Instalments}
 
 -- what a step that yields nothing is to an instalment
-abbrev pub pause_of : Found → Pause
+abbrev pub pause_of : Found ℕ → Pause ℕ
 pause_of (F.Item o n d k h) = P.Spent
 pause_of (F.Refused m p) = P.Refused m p
 pause_of F.End = P.End
 
 -- so many items in front of what the rest of the budget takes
-abbrev pub plus : ℕ → Walked → Walked
+abbrev pub plus : ℕ → Walked ℕ → Walked ℕ
 plus n r = record { next = r.next; items = n + r.items; pause = r.pause }
 
-on-yield : (w : Walk) (f : Found) (r : Walked) → Yields f → on_item w f r ≡ counted r
+on-yield : (w : Walk) (f : Found ℕ) (r : Walked ℕ) → Yields f → on_item w f r ≡ counted r
 on-yield w (F.Item o n d k h) r y = refl
 on-yield w (F.Refused m p) r y = absurd y
 on-yield w F.End r y = absurd y
 
-on-stop : (w : Walk) (f : Found) (r : Walked) → Stops f → on_item w f r ≡ halted w (pause_of f)
+on-stop : (w : Walk) (f : Found ℕ) (r : Walked ℕ) → Stops f → on_item w f r ≡ halted w (pause_of f)
 on-stop w (F.Item o n d k h) r s = absurd s
 on-stop w (F.Refused m p) r s = refl
 on-stop w F.End r s = refl
@@ -59,7 +59,7 @@ module _ (d : Domain) (xs : List ℕ) (C : StreamClaims d xs) where
   stops n w s = on-stop w (step_in d xs w).found (walk_on d xs n (step_in d xs w).next) s
 
   -- by turns: nothing to spend, a step that yields, a step that does not
-  by-turns {ℓ} : (Q : ℕ → Walk → Walked → Type ℓ) → ((w : Walk) → Q 0 w (halted w (unspent d xs w)))
+  by-turns {ℓ} : (Q : ℕ → Walk → Walked ℕ → Type ℓ) → ((w : Walk) → Q 0 w (halted w (unspent d xs w)))
       → ((n : ℕ) (w : Walk) → Yields (step_in d xs w).found → Q n (step_in d xs w).next (walk_on d xs n (step_in d xs w).next)
       → Q (suc n) w (counted (walk_on d xs n (step_in d xs w).next)))
       → ((n : ℕ) (w : Walk) → Stops (step_in d xs w).found → Q (suc n) w (halted w (pause_of (step_in d xs w).found)))
@@ -97,16 +97,16 @@ module _ (d : Domain) (xs : List ℕ) (C : StreamClaims d xs) where
   unfolding unspent
   barred w =
       pick-by (Told d xs 0 0 w) (ltb d.limit (length xs)) _ _
-      (λ over. ap (λ (r : Stepped). r.found) (C.one w (ltb-true d.limit (length xs) over)))
+      (λ over. ap (λ (r : Stepped ℕ). r.found) (C.one w (ltb-true d.limit (length xs) over)))
       (λ short. pick-by (Told d xs 0 0 w) (is_fit w (units_in d xs)) _ _ (λ _. refl)
-      (λ f. ap (λ (r : Stepped). r.found) (C.thirteen w (ltb-false d.limit (length xs) short) f)))
+      (λ f. ap (λ (r : Stepped ℕ). r.found) (C.thirteen w (ltb-false d.limit (length xs) short) f)))
 
-  more-told : (n i : ℕ) (v : Walk) (p : Pause) → Told d xs n i v p → Told d xs (suc n) (suc i) v p
+  more-told : (n i : ℕ) (v : Walk) (p : Pause ℕ) → Told d xs n i v p → Told d xs (suc n) (suc i) v p
   more-told n i v P.Spent t = omega arith
   more-told n i v P.End t = (omega arith, t.1)
   more-told n i v (P.Refused m p) t = t
 
-  stop-told : (n : ℕ) (w : Walk) (f : Found) → (step_in d xs w).found ≡ f → Stops f → Told d xs (suc n) 0 w (pause_of f)
+  stop-told : (n : ℕ) (w : Walk) (f : Found ℕ) → (step_in d xs w).found ≡ f → Stops f → Told d xs (suc n) 0 w (pause_of f)
   stop-told n w (F.Item o m e k h) eq s = absurd s
   stop-told n w (F.Refused m p) eq s = eq
   stop-told n w F.End eq s = (omega arith, eq)
@@ -116,7 +116,7 @@ module _ (d : Domain) (xs : List ℕ) (C : StreamClaims d xs) where
       (walk_on d xs n (step_in d xs w).next).pause t)
       (λ n w q. stop-told n w (step_in d xs w).found refl q)
 
-  abbrev Before : ℕ → Walk → Walked → Type 0
+  abbrev Before : ℕ → Walk → Walked ℕ → Type 0
   Before n w r = length w.ends ≡ max_depth → (m p : ℕ) → r.pause ≡ P.Refused m p → (r.items < n) ⊎ ((n ≡ 0) × ((m ≡ 1) ⊎ (m ≡ 13)))
 
   barred-number : (w : Walk) (m p : ℕ) → unspent d xs w ≡ P.Refused m p → (m ≡ 1) ⊎ (m ≡ 13)
@@ -210,7 +210,7 @@ module _ (d : Domain) (xs : List ℕ) (C : StreamClaims d xs) where
       (λ _. pick-by (λ q. q ≡ P.Refused 1 p → d.limit < length xs) (is_fit w (units_in d xs)) _ _
       (λ _ e. let z : ◌≡◌ {A = ℕ} 0 1 = cc in absurd (omega arith)) (λ _ e. let z : ◌≡◌ {A = ℕ} 13 1 = cc in absurd (omega arith)))
 
-  found-refused : (f : Found) (m p : ℕ) → Stops f → pause_of f ≡ P.Refused m p → f ≡ F.Refused m p
+  found-refused : (f : Found ℕ) (m p : ℕ) → Stops f → pause_of f ≡ P.Refused m p → f ≡ F.Refused m p
   found-refused (F.Item o n e k h) m p s q = absurd s
   found-refused (F.Refused m' p') m p s q = cc
   found-refused F.End m p s q = let z : ◌≡◌ {A = ℕ} 0 1 = cc in absurd (omega arith)
@@ -247,7 +247,7 @@ module _ (d : Domain) (xs : List ℕ) (C : StreamClaims d xs) where
   unbarred : (w : Walk) → length w.ends ≡ max_depth → Yields (step_in d xs w).found → unspent d xs (step_in d xs w).next ≡ P.Spent
   unfolding unspent
   unbarred w full y =
-      ⊎_elim (λ over. absurd (subst (λ (r : Stepped). Yields r.found) (C.one w over) y))
+      ⊎_elim (λ over. absurd (subst (λ (r : Stepped ℕ). Yields r.found) (C.one w over) y))
       (λ short. rw (le-ltb d.limit (length xs) short, (C.keeps-fit w full (yields-fit d xs C w y)).0)) (lt-or-ge d.limit (length xs))
 
   later : (n : ℕ) (w : Walk) → length w.ends ≡ max_depth → Yields (step_in d xs w).found → (m p : ℕ)
@@ -285,7 +285,7 @@ module _ (d : Domain) (xs : List ℕ) (C : StreamClaims d xs) where
 
 -- ---- text and binary
 
-on_same : (w : Walk) (f g : Found) (r q : Walked) → FoundRatio f g → SameInstalment r q → SameInstalment (on_item w f r) (on_item w g q)
+on_same : (w : Walk) (f g : Found ℕ) (r q : Walked ℕ) → FoundRatio f g → SameInstalment r q → SameInstalment (on_item w f r) (on_item w g q)
 on_same w (F.Item o n d k h) (F.Item o' n' d' k' h') r q e s = record { next = s.next; items = ap suc s.items }
 on_same w (F.Refused m p) (F.Refused m' p') r q e s = record { next = refl; items = refl }
 on_same w F.End F.End r q e s = record { next = refl; items = refl }

@@ -20,13 +20,13 @@ pub data Between (d : Domain) (xs : List ℕ) : Walk → ℕ → Walk → Type 0
   on : {w v : Walk} {n : ℕ} → Yields (step_in d xs w).found → Between d xs (step_in d xs w).next n v → Between d xs w (suc n) v
 
 -- what a pause says of where the walk stands: the budget is used up, or the step there finds the end or the refusal
-abbrev pub Told : Domain → List ℕ → ℕ → ℕ → Walk → Pause → Type 0
+abbrev pub Told : Domain → List ℕ → ℕ → ℕ → Walk → Pause ℕ → Type 0
 Told d xs budget items next P.Spent = items ≡ budget
 Told d xs budget items next P.End = (items < budget) × ((step_in d xs next).found ≡ F.End)
 Told d xs budget items next (P.Refused m p) = (step_in d xs next).found ≡ F.Refused m p
 
 -- two in turn and one: the same last state, and the same items in all
-pub record Alike (a b c : Walked) : Type 0 where
+pub record Alike (a b c : Walked ℕ) : Type 0 where
   pub next : b.next ≡ c.next
   pub items : a.items + b.items ≡ c.items
 
@@ -70,7 +70,7 @@ pub record InstalmentClaims (d : Domain) (xs : List ℕ) : Type 0 where
   pub on-the-way : (k n : ℕ) → (walk_on d xs n (after d xs k)).next ≡ after d xs (k + n)
 
 -- an instalment of a text and of a binary: the same next state after the same number of items
-pub record SameInstalment (t b : Walked) : Type 0 where
+pub record SameInstalment (t b : Walked ℕ) : Type 0 where
   pub next : t.next ≡ b.next
   pub items : t.items ≡ b.items
 

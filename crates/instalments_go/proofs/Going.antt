@@ -57,7 +57,7 @@ module _ (form : Form) (xs : List ℕ) (budget : ℕ) (before : List ℕ) (p : P
   w = walk_at now q
 
   -- the walk stands where it stood, and n items were taken
-  stands : {after : List ℕ} {why : Pause} → walk_on d xs budget (walk_at before p) ≡ record { next = w; items = n; pause = why } → after ≡ now
+  stands : {after : List ℕ} {why : Pause ℕ} → walk_on d xs budget (walk_at before p) ≡ record { next = w; items = n; pause = why } → after ≡ now
       → Goes before after (record { place = q; items = n; pause = why }) (walk_on d xs budget (walk_at before p))
   stands e k = rw (e, k) (record { moves = record { state = refl; behind = g.behind }; items = refl; pause = refl; kept = g.kept })
 
@@ -76,7 +76,7 @@ module _ (form : Form) (xs : List ℕ) (budget : ℕ) (before : List ℕ) (p : P
     left_is : budget - n ≡ suc (budget - (n + 1))
     left_is = omega arith
 
-    stopped : {why : Pause} → Stops m.found → is_item m.found ≡ false → pause_of m.found ≡ why
+    stopped : {why : Pause ℕ} → Stops m.found → is_item m.found ≡ false → pause_of m.found ≡ why
         → Goes before after (record { place = q; items = n; pause = why }) (walk_on d xs budget (walk_at before p))
     stopped s i e =
         let z : Stops (step_in d xs w).found = subst Stops t.found s in
@@ -91,7 +91,7 @@ module _ (form : Form) (xs : List ℕ) (budget : ℕ) (before : List ℕ) (p : P
     pub ended : m.found ≡ F.End → Goes before after (record { place = q; items = n; pause = P.End }) (walk_on d xs budget (walk_at before p))
     ended e = stopped (rw e tt) (ap is_item e) (ap pause_of e)
 
-    more : (r : Walked) → plus n (counted r) ≡ plus (n + 1) r
+    more : (r : Walked ℕ) → plus n (counted r) ≡ plus (n + 1) r
     more r = ap (λ (k : ℕ). record { next = r.next; items = k; pause = r.pause }) (omega arith)
 
     pub again : Yields m.found → length after ≡ length now → Going form xs budget before p after m.place (n + 1)

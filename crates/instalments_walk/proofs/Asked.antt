@@ -22,7 +22,7 @@ use Rattle.instalments.specs.Lent.{none, Goes}
 use Rattle.instalments.proofs.Proved.{one, thirteen}
 
 module _ (form : Form) (xs : List ℕ) (e : Extent) (m : Measured form xs e) (budget : ℕ) (s : List ℕ) (p : Place) where
-  no_item : {why : Pause} → walk_on (domain form) xs budget (walk_at s p) ≡ halted (walk_at s p) why → {r : Went} → r ≡ none p why
+  no_item : {why : Pause ℕ} → walk_on (domain form) xs budget (walk_at s p) ≡ halted (walk_at s p) why → {r : Went} → r ≡ none p why
       → Goes s s r (walk_on (domain form) xs budget (walk_at s p))
   no_item q er = rw (er, q) (record { moves = record { state = refl; behind = refl }; items = refl; pause = refl; kept = λ _. refl })
 

@@ -12,7 +12,7 @@ ghost use Rattle.instalments.specs.Lent.{Goes, none};
 ghost use Rattle.instalments.specs.declared.Pause.TheVariants as Pause;
 
 use format::{BinaryOffset, Form, TextOffset};
-use instalments::{BinaryPause, BinaryWalked, Pause, TextPause, TextWalked, Walked, Went};
+use instalments::{Pause, Walked, Went};
 use judging::MAX_DEPTH;
 use walk_state::{Place, Walk};
 
@@ -49,7 +49,7 @@ pub fn go_on(slots: &mut [usize], p: Place, form: Form, s: &[u8], budget: usize)
 // ---- the state by value
 
 // At most so many items from a state on.
-pub fn walk_on(w: Walk, form: Form, s: &[u8], budget: usize) -> Walked
+pub fn walk_on(w: Walk, form: Form, s: &[u8], budget: usize) -> Walked<usize>
     ensures { result ≡ walk_on (domain form) s.now budget w }
 {
     let mut ends = w.ends;
@@ -71,54 +71,54 @@ pub fn walk_on(w: Walk, form: Form, s: &[u8], budget: usize) -> Walked
 
 // ---- in a form's own offsets
 
-fn text_pause(pause: Pause) -> TextPause
+fn text_pause(pause: Pause<usize>) -> Pause<TextOffset>
     ensures { result ≡ text_pause pause }
 {
     match pause {
-        Pause::Spent => TextPause::Spent,
-        Pause::End => TextPause::End,
+        Pause::Spent => Pause::Spent,
+        Pause::End => Pause::End,
         Pause::Refused { number, place } => {
             let at = TextOffset(place);
-            TextPause::Refused { number, place: at }
+            Pause::Refused { number, place: at }
         }
     }
 }
 
 // At most so many items of a text.
-pub fn walk_on_text(w: Walk, s: &[u8], budget: usize) -> TextWalked
+pub fn walk_on_text(w: Walk, s: &[u8], budget: usize) -> Walked<TextOffset>
     ensures { result ≡ text_walked (walk_on text s.now budget w) }
 {
     let r = walk_on(w, Form::Text, s, budget);
     let next = r.next;
     let pause = r.pause;
-    TextWalked {
+    Walked {
         next,
         items: r.items,
         pause: text_pause(pause),
     }
 }
 
-fn binary_pause(pause: Pause) -> BinaryPause
+fn binary_pause(pause: Pause<usize>) -> Pause<BinaryOffset>
     ensures { result ≡ binary_pause pause }
 {
     match pause {
-        Pause::Spent => BinaryPause::Spent,
-        Pause::End => BinaryPause::End,
+        Pause::Spent => Pause::Spent,
+        Pause::End => Pause::End,
         Pause::Refused { number, place } => {
             let at = BinaryOffset(place);
-            BinaryPause::Refused { number, place: at }
+            Pause::Refused { number, place: at }
         }
     }
 }
 
 // The same of a binary.
-pub fn walk_on_binary(w: Walk, s: &[u8], budget: usize) -> BinaryWalked
+pub fn walk_on_binary(w: Walk, s: &[u8], budget: usize) -> Walked<BinaryOffset>
     ensures { result ≡ binary_walked (walk_on binary s.now budget w) }
 {
     let r = walk_on(w, Form::Binary, s, budget);
     let next = r.next;
     let pause = r.pause;
-    BinaryWalked {
+    Walked {
         next,
         items: r.items,
         pause: binary_pause(pause),

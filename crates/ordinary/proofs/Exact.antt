@@ -282,7 +282,7 @@ module _ (code : Code) (tag : List ℕ) (tags : ℕ) (raw : List ℕ) (room : �
 -- ---- a step of the walk
 
 module _ (s : List ℕ) (w : Walk) where
-  abbrev StepOn : Found → Type 0
+  abbrev StepOn : Found ℕ → Type 0
   StepOn (F.Item o n d k h) = Unit {0}
   StepOn (F.Refused m p) = Numbered s m p
   StepOn F.End = Unit {0}
@@ -307,7 +307,7 @@ module _ (s : List ℕ) (w : Walk) where
       (subst (On (λ x. x) (part (text_sextets s) w.at (w.at + m))) e (kind-on k h _ (own_check (max_depth - w.depth)) (check-on (max_depth - w.depth)))))
       (λ k h m _ _ _. tt))
 
-  step-seen : (r : Found) → ((n : ℕ) × (p : ℕ) × (r ≡ F.Refused n p)) ⊎ ((m q : ℕ) → found_five r ≡ F.Refused m q → ⊥)
+  step-seen : (r : Found ℕ) → ((n : ℕ) × (p : ℕ) × (r ≡ F.Refused n p)) ⊎ ((m q : ℕ) → found_five r ≡ F.Refused m q → ⊥)
   unfolding found_five
   step-seen (F.Refused n p) = inl (n, p, refl)
   step-seen (F.Item o n d k h) = inr (λ m q e. let z : ◌≡◌ {A = ℕ} 0 1 = cc in omega arith)
@@ -317,4 +317,4 @@ module _ (s : List ℕ) (w : Walk) where
   unfolding stepped_five found_five
   stepped p =
       exactly F.Refused found_five (λ q. q) (λ n q. refl) (λ m n q r e. (cc, cc)) s (step_in text s w).found (step_in text (masked s) w).found
-      (ap (λ (r : Stepped). r.found) (steps s w)) (step-seen (step_in text s w).found) (λ n q e. subst StepOn e step-on) p
+      (ap (λ (r : Stepped ℕ). r.found) (steps s w)) (step-seen (step_in text s w).found) (λ n q e. subst StepOn e step-on) p

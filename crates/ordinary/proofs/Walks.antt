@@ -76,7 +76,7 @@ step-five s n tail w =
     ending true = refl
     ending false = refl
 
-found-five : (u : ℕ) (f : Found) → found_in u (found_five f) ≡ found_five (found_in u f)
+found-five : (u : ℕ) (f : Found ℕ) → found_in u (found_five f) ≡ found_five (found_in u f)
 unfolding found_in found_five
 found-five u (F.Item o n d k h) = refl
 found-five u (F.Refused m p) = refl
@@ -85,14 +85,14 @@ found-five u F.End = refl
 pub steps : (s : List ℕ) (w : Walk) → step_in text (masked s) w ≡ stepped_five (step_in text s w)
 unfolding step_in stepped_five found_five as_five
 steps s w =
-    let r : Stepped = step (text.sextets s) (length s / 4) (ltb 0 (length s % 4)) w in
-    let one : Stepped = record { next = w; found = F.Refused 1 0 } in
+    let r : Stepped ℕ = step (text.sextets s) (length s / 4) (ltb 0 (length s % 4)) w in
+    let one : Stepped ℕ = record { next = w; found = F.Refused 1 0 } in
     rw (length-map s mask, sextets-masked s, step-five (text.sextets s) (length s / 4) (ltb 0 (length s % 4)) w)
     (pick_to stepped_five (ltb 4194304 (length s)) one (in_elements 4 r) one (in_elements 4 (stepped_five r)) (λ _. refl)
-    (λ _. ap (λ (f : Found). record { next = r.next; found = f }) (found-five 4 r.found)))
+    (λ _. ap (λ (f : Found ℕ). record { next = r.next; found = f }) (found-five 4 r.found)))
 
 pub walks : (s : List ℕ) (k : ℕ) → after text (masked s) k ≡ after text s k
 unfolding after stepped_five
 walks s zero = refl
 walks s (suc k) =
-    ap (λ (w : Walk). (step_in text (masked s) w).next) (walks s k) ∙ ap (λ (r : Stepped). r.next) (steps s (after text s k))
+    ap (λ (w : Walk). (step_in text (masked s) w).next) (walks s k) ∙ ap (λ (r : Stepped ℕ). r.next) (steps s (after text s k))

@@ -96,12 +96,12 @@ unfoldable pub binary_written_five : Result BinaryOffset (Refusal ℕ) → Resul
 binary_written_five (Ok n) = Ok n
 binary_written_five (Err e) = refused_by (as_five e.number) e.place
 
-unfoldable pub found_five : Found → Found
+unfoldable pub found_five : Found ℕ → Found ℕ
 found_five (F.Item o n d k h) = F.Item o n d k h
 found_five (F.Refused m p) = F.Refused (as_five m) p
 found_five F.End = F.End
 
-unfoldable pub stepped_five : Stepped → Stepped
+unfoldable pub stepped_five : Stepped ℕ → Stepped ℕ
 stepped_five r = record { next = r.next; found = found_five r.found }
 
 -- ---- words of statements

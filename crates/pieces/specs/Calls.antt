@@ -10,14 +10,14 @@ use Rattle.pieces.specs.declared.Phase.{Phase}
 use Rattle.pieces.specs.declared.Phase.TheVariants as P
 use Rattle.pieces.specs.declared.Progress.{Progress}
 use Rattle.pieces.specs.declared.Pieces.{Pieces}
-use Rattle.pieces.specs.declared.Given.{Given}
-use Rattle.pieces.specs.declared.Given.TheVariants as G
 use Rattle.pieces.specs.declared.Fed.{Fed}
-use Rattle.pieces.specs.declared.Closing.{Closing}
-use Rattle.pieces.specs.declared.Closing.TheVariants as C
 use Rattle.pieces.specs.declared.Closed.{Closed}
 use Rattle.pieces.specs.Headers.{endless}
 use Rattle.pieces.specs.Feeding.{fed, items_out, refusals_out, taken, remainder_out}
+use Rattle.std.specs.Prelude.{Ok, Err, Result}
+use Rattle.format.specs.declared.Refusal.{Refusal}
+use Rattle.format.specs.Refusals.{refused_by}
+use Rattle.pieces.specs.declared.Rows.{Rows}
 
 -- ---- 13: the conditions
 
@@ -67,32 +67,32 @@ is_fit d st =
 -- ---- a piece: 13, 1, 3
 
 -- room, room': of the buffers for item rows and for refusal rows
-unfoldable pub feed_answer : Domain → Pieces → List ℕ → ℕ → ℕ → Given
+unfoldable pub feed_answer : Domain → Pieces → List ℕ → ℕ → ℕ → Result Rows (Refusal ℕ)
 feed_answer d st piece room room' =
     pick (is_fit d st)
-    (pick (ltb d.limit (taken d st + length piece)) (G.Refused 1 0)
-    (pick (ltb room (9 * length (items_out d st piece))) (G.Refused 3 0)
-    (pick (ltb room' (9 * length (refusals_out d st piece))) (G.Refused 3 0)
-    (G.Taken (9 * length (items_out d st piece)) (9 * length (refusals_out d st piece))))))
-    (G.Refused 13 0)
+    (pick (ltb d.limit (taken d st + length piece)) (refused_by 1 0)
+    (pick (ltb room (9 * length (items_out d st piece))) (refused_by 3 0)
+    (pick (ltb room' (9 * length (refusals_out d st piece))) (refused_by 3 0)
+    (Ok (record { items = 9 * length (items_out d st piece); refusals = 9 * length (refusals_out d st piece) })))))
+    (refused_by 13 0)
 
-unfoldable pub feed_state : Given → Domain → Pieces → List ℕ → Pieces
-feed_state (G.Taken n m) d st piece = fed d st piece
-feed_state (G.Refused n p) d st piece = st
+unfoldable pub feed_state : Result Rows (Refusal ℕ) → Domain → Pieces → List ℕ → Pieces
+feed_state (Ok rows) d st piece = fed d st piece
+feed_state (Err e) d st piece = st
 
 unfoldable pub feed : Domain → Pieces → List ℕ → ℕ → ℕ → Fed
 feed d st piece room room' =
-    let g : Given = feed_answer d st piece room room' in
+    let g : Result Rows (Refusal ℕ) = feed_answer d st piece room room' in
     record { next = feed_state g d st piece; given = g }
 
 -- what the two buffers hold afterwards
-unfoldable pub items_left : Given → Domain → Pieces → List ℕ → List ℕ → List ℕ
-items_left (G.Taken n m) d st piece out = concat row_bytes (items_out d st piece) ++ drop n out
-items_left (G.Refused n p) d st piece out = out
+unfoldable pub items_left : Result Rows (Refusal ℕ) → Domain → Pieces → List ℕ → List ℕ → List ℕ
+items_left (Ok rows) d st piece out = concat row_bytes (items_out d st piece) ++ drop rows.items out
+items_left (Err e) d st piece out = out
 
-unfoldable pub refusals_left : Given → Domain → Pieces → List ℕ → List ℕ → List ℕ
-refusals_left (G.Taken n m) d st piece out = concat refusal_bytes (refusals_out d st piece) ++ drop m out
-refusals_left (G.Refused n p) d st piece out = out
+unfoldable pub refusals_left : Result Rows (Refusal ℕ) → Domain → Pieces → List ℕ → List ℕ → List ℕ
+refusals_left (Ok rows) d st piece out = concat refusal_bytes (refusals_out d st piece) ++ drop rows.refusals out
+refusals_left (Err e) d st piece out = out
 
 -- ---- the end: 13, 3
 
@@ -114,19 +114,19 @@ ended_progress p = record {
 unfoldable pub ended : Pieces → Pieces
 ended st = record { unit = st.unit; progress = ended_progress st.progress; held = st.held; count = st.count }
 
-unfoldable pub end_answer : Domain → Pieces → ℕ → Closing
+unfoldable pub end_answer : Domain → Pieces → ℕ → Result ℕ (Refusal ℕ)
 end_answer d st room =
     pick (is_fit d st)
-    (pick (ltb room (5 * length (remainder_out d st))) (C.Refused 3 0) (C.Written (5 * length (remainder_out d st))))
-    (C.Refused 13 0)
+    (pick (ltb room (5 * length (remainder_out d st))) (refused_by 3 0) (Ok (5 * length (remainder_out d st))))
+    (refused_by 13 0)
 
-unfoldable pub end_state : Closing → Pieces → Pieces
-end_state (C.Written n) st = ended st
-end_state (C.Refused n p) st = st
+unfoldable pub end_state : Result ℕ (Refusal ℕ) → Pieces → Pieces
+end_state (Ok n) st = ended st
+end_state (Err e) st = st
 
 unfoldable pub finish : Domain → Pieces → ℕ → Closed
-finish d st room = let c : Closing = end_answer d st room in record { next = end_state c st; closing = c }
+finish d st room = let c : Result ℕ (Refusal ℕ) = end_answer d st room in record { next = end_state c st; closing = c }
 
-unfoldable pub remainder_left : Closing → Domain → Pieces → List ℕ → List ℕ
-remainder_left (C.Written n) d st out = concat remainder_bytes (remainder_out d st) ++ drop n out
-remainder_left (C.Refused n p) d st out = out
+unfoldable pub remainder_left : Result ℕ (Refusal ℕ) → Domain → Pieces → List ℕ → List ℕ
+remainder_left (Ok n) d st out = concat remainder_bytes (remainder_out d st) ++ drop n out
+remainder_left (Err e) d st out = out

@@ -2,6 +2,7 @@
 // no code here.
 #![tactic(auto)]
 
+use format::Refusal;
 use walk_state::Walk;
 
 // Whether items are framed, or the remainder has begun, or the end was told.
@@ -43,30 +44,23 @@ pub struct Pieces {
     pub count: usize,
 }
 
-// What a piece gives: the lengths written of item rows and of refusal rows, or a number, whose place is 0.
+// The lengths written of item rows and of refusal rows.
 #[derive(Clone, Copy)]
-pub enum Given {
-    Taken { items: usize, refusals: usize },
-    Refused { number: u8, place: usize },
+pub struct Rows {
+    pub items: usize,
+    pub refusals: usize,
 }
 
-// The state behind a piece, with what it gave. At a refusal the state stays as it was.
+// The state behind a piece, with what it gave: rows, or a refusal, whose place is 0. At a refusal the state stays as it was.
 #[derive(Clone, Copy)]
 pub struct Fed {
     pub next: Pieces,
-    pub given: Given,
+    pub given: Result<Rows, Refusal<usize>>,
 }
 
-// What the end gives: the length written of the remainder's row, or a number, whose place is 0.
-#[derive(Clone, Copy)]
-pub enum Closing {
-    Written(usize),
-    Refused { number: u8, place: usize },
-}
-
-// The state behind the end, with what it gave.
+// The state behind the end, with what it gave: the length written of the remainder's row, or a refusal, whose place is 0.
 #[derive(Clone, Copy)]
 pub struct Closed {
     pub next: Pieces,
-    pub closing: Closing,
+    pub closing: Result<usize, Refusal<usize>>,
 }

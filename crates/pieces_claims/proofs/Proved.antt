@@ -12,10 +12,7 @@ use Rattle.format.specs.Report.{rows_in}
 use Rattle.laws.specs.Domains.{Reader, text-reader, binary-reader}
 use Rattle.walk_state.specs.Walking.{all_below}
 use Rattle.pieces.specs.declared.Pieces.{Pieces}
-use Rattle.pieces.specs.declared.Given.{Given}
-use Rattle.pieces.specs.declared.Given.TheVariants as G
 use Rattle.pieces.specs.declared.Fed.{Fed}
-use Rattle.pieces.specs.declared.Closing.TheVariants as C
 use Rattle.pieces.specs.Feeding.{begin, start, fed, items_out, refusals_out, taken, remainder_out}
 use Rattle.pieces.specs.Calls.{is_open, most_units, progress_fits, place_fits, is_fit, feed_answer, feed_state, feed, ended, end_answer, end_state, finish}
 use Rattle.pieces_fit.specs.Sound.{begin-sound}
@@ -24,6 +21,10 @@ use Rattle.pieces_claims.specs.Words.{joined, fed_all, ended_in, Sized}
 use Rattle.pieces_claims.specs.Claims.{StreamClaims, StateClaims, FormClaims, PieceClaims}
 use Rattle.pieces_claims.proofs.Joining.{up_to, all-state, items-joint, refusals-joint, remainder-joint, refusals-given, taken-all}
 use Rattle.pieces_claims.proofs.Timing.{in-time}
+use Rattle.std.specs.Prelude.{Ok, Result}
+use Rattle.format.specs.declared.Refusal.{Refusal}
+use Rattle.format.specs.Refusals.{refused_by}
+use Rattle.pieces.specs.declared.Rows.{Rows}
 
 -- ---- from the start
 
@@ -61,30 +62,30 @@ module _ (d : Domain) (R : Reader d) (small : d.unit ≤ 4) (st : Pieces) where
   fit-facts : Sized st → is_fit d st ≡ true → Facts d st
   fit-facts z e = facts d R st z.ends e
 
-  gives-thirteen : (piece : List ℕ) (r r' : ℕ) → is_fit d st ≡ false → feed d st piece r r' ≡ record { next = st; given = G.Refused 13 0 }
+  gives-thirteen : (piece : List ℕ) (r r' : ℕ) → is_fit d st ≡ false → feed d st piece r r' ≡ record { next = st; given = refused_by 13 0 }
   unfolding feed feed_answer feed_state
   gives-thirteen piece r r' e = rw e
 
   gives_one : (piece : List ℕ) (r r' : ℕ) → is_fit d st ≡ true → d.limit < taken d st + length piece
-      → feed d st piece r r' ≡ record { next = st; given = G.Refused 1 0 }
+      → feed d st piece r r' ≡ record { next = st; given = refused_by 1 0 }
   unfolding feed feed_answer feed_state
   gives_one piece r r' e l = rw (e, lt-ltb d.limit (taken d st + length piece) l)
 
   gives-three : (piece : List ℕ) (r r' : ℕ) → is_fit d st ≡ true → taken d st + length piece ≤ d.limit
       → (r < 9 * length (items_out d st piece)) ⊎ (r' < 9 * length (refusals_out d st piece))
-      → feed d st piece r r' ≡ record { next = st; given = G.Refused 3 0 }
+      → feed d st piece r r' ≡ record { next = st; given = refused_by 3 0 }
   unfolding feed feed_answer feed_state
   gives-three piece r r' e l h =
       rw (e, le-ltb d.limit (taken d st + length piece) l)
       (⊎_elim (λ a. rw (lt-ltb r (9 * length (items_out d st piece)) a))
       (λ b. rw (lt-ltb r' (9 * length (refusals_out d st piece)) b)
-      (pick-by (λ (g : Given). ◌≡◌ {A = Fed} (record { next = feed_state g d st piece; given = g }) (record { next = st; given = G.Refused 3 0 }))
-      (ltb r (9 * length (items_out d st piece))) (G.Refused 3 0) (G.Refused 3 0) (λ _. refl) (λ _. refl))) h)
+      (pick-by (λ (g : Result Rows (Refusal ℕ)). ◌≡◌ {A = Fed} (record { next = feed_state g d st piece; given = g }) (record { next = st; given = refused_by 3 0 }))
+      (ltb r (9 * length (items_out d st piece))) (refused_by 3 0) (refused_by 3 0) (λ _. refl) (λ _. refl))) h)
 
   gives-rows : (piece : List ℕ) (r r' : ℕ) → is_fit d st ≡ true → taken d st + length piece ≤ d.limit
       → 9 * length (items_out d st piece) ≤ r → 9 * length (refusals_out d st piece) ≤ r'
       → feed d st piece r r'
-      ≡ record { next = fed d st piece; given = G.Taken (9 * length (items_out d st piece)) (9 * length (refusals_out d st piece)) }
+      ≡ record { next = fed d st piece; given = Ok (record { items = 9 * length (items_out d st piece); refusals = 9 * length (refusals_out d st piece) }) }
   unfolding feed feed_answer feed_state
   gives-rows piece r r' e l a b =
       rw (
@@ -94,20 +95,20 @@ module _ (d : Domain) (R : Reader d) (small : d.unit ≤ 4) (st : Pieces) where
         le-ltb r' (9 * length (refusals_out d st piece)) b,
       )
 
-  refused-stays : (piece : List ℕ) (r r' n p : ℕ) → (feed d st piece r r').given ≡ G.Refused n p → (feed d st piece r r').next ≡ st
+  refused-stays : (piece : List ℕ) (r r' n p : ℕ) → (feed d st piece r r').given ≡ refused_by n p → (feed d st piece r r').next ≡ st
   unfolding feed feed_state
-  refused-stays piece r r' n p e = ap (λ (g : Given). feed_state g d st piece) e
+  refused-stays piece r r' n p e = ap (λ (g : Result Rows (Refusal ℕ)). feed_state g d st piece) e
 
-  end_refused : (r : ℕ) → is_fit d st ≡ true → r < 5 * length (remainder_out d st) → finish d st r ≡ record { next = st; closing = C.Refused 3 0 }
+  end_refused : (r : ℕ) → is_fit d st ≡ true → r < 5 * length (remainder_out d st) → finish d st r ≡ record { next = st; closing = refused_by 3 0 }
   unfolding finish end_answer end_state
   end_refused r e a = rw (e, lt-ltb r (5 * length (remainder_out d st)) a)
 
   end-told : (r : ℕ) → is_fit d st ≡ true → 5 * length (remainder_out d st) ≤ r
-      → finish d st r ≡ record { next = ended st; closing = C.Written (5 * length (remainder_out d st)) }
+      → finish d st r ≡ record { next = ended st; closing = Ok (5 * length (remainder_out d st)) }
   unfolding finish end_answer end_state
   end-told r e a = rw (e, le-ltb r (5 * length (remainder_out d st)) a)
 
-  end-unfit : (r : ℕ) → is_fit d st ≡ false → finish d st r ≡ record { next = st; closing = C.Refused 13 0 }
+  end-unfit : (r : ℕ) → is_fit d st ≡ false → finish d st r ≡ record { next = st; closing = refused_by 13 0 }
   unfolding finish end_answer end_state
   end-unfit r e = rw e
 

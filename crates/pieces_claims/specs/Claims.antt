@@ -4,11 +4,11 @@ use Rattle.std.specs.Prelude.{ℕ, ◌+◌, ◌*◌, ◌≤◌, ◌<◌, ◌≡�
 use Rattle.format.specs.Units.{Domain, text, binary}
 use Rattle.format.specs.Report.{rows_in, refusals_in, remainder_in, refusals_of}
 use Rattle.pieces.specs.declared.Pieces.{Pieces}
-use Rattle.pieces.specs.declared.Given.TheVariants as G
-use Rattle.pieces.specs.declared.Closing.TheVariants as C
 use Rattle.pieces.specs.Feeding.{start, fed, items_out, refusals_out, taken, remainder_out}
 use Rattle.pieces.specs.Calls.{is_fit, feed, ended, finish}
 use Rattle.pieces_claims.specs.Words.{joined, fed_all, all_items, all_refusals, ended_in, Sized}
+use Rattle.std.specs.Prelude.{Ok}
+use Rattle.format.specs.Refusals.{refused_by}
 
 -- ---- of every list of pieces, in order, from the start
 
@@ -43,27 +43,27 @@ pub record StateClaims (d : Domain) (st : Pieces) : Type 0 where
   pub empty-state : Sized st → is_fit d st ≡ true → fed d st [] ≡ st
   pub empty-items : Sized st → is_fit d st ≡ true → items_out d st [] ≡ []
   -- "Refusals come in the order 13, 1, 3; a refused call takes nothing in"
-  pub thirteen : (piece : List ℕ) (r r' : ℕ) → is_fit d st ≡ false → feed d st piece r r' ≡ record { next = st; given = G.Refused 13 0 }
+  pub thirteen : (piece : List ℕ) (r r' : ℕ) → is_fit d st ≡ false → feed d st piece r r' ≡ record { next = st; given = refused_by 13 0 }
   -- "Refusal 1 now comes to the piece that passes the limit"
   pub one : (piece : List ℕ) (r r' : ℕ) → is_fit d st ≡ true → d.limit < taken d st + length piece
-      → feed d st piece r r' ≡ record { next = st; given = G.Refused 1 0 }
+      → feed d st piece r r' ≡ record { next = st; given = refused_by 1 0 }
   -- "Refusal 3 is given exactly when the rows that a piece, or the end, completes don't fit." 9 bytes an item, 9 a refusal, 5 the remainder
   pub three : (piece : List ℕ) (r r' : ℕ) → is_fit d st ≡ true → taken d st + length piece ≤ d.limit
       → (r < 9 * length (items_out d st piece)) ⊎ (r' < 9 * length (refusals_out d st piece))
-      → feed d st piece r r' ≡ record { next = st; given = G.Refused 3 0 }
+      → feed d st piece r r' ≡ record { next = st; given = refused_by 3 0 }
   pub takes : (piece : List ℕ) (r r' : ℕ) → is_fit d st ≡ true → taken d st + length piece ≤ d.limit
       → 9 * length (items_out d st piece) ≤ r → 9 * length (refusals_out d st piece) ≤ r'
       → feed d st piece r r'
-      ≡ record { next = fed d st piece; given = G.Taken (9 * length (items_out d st piece)) (9 * length (refusals_out d st piece)) }
+      ≡ record { next = fed d st piece; given = Ok (record { items = 9 * length (items_out d st piece); refusals = 9 * length (refusals_out d st piece) }) }
   -- a refused call made again, with whatever room, gives what it would have given at first
-  pub again : (piece : List ℕ) (r r' s s' n p : ℕ) → (feed d st piece r r').given ≡ G.Refused n p
+  pub again : (piece : List ℕ) (r r' s s' n p : ℕ) → (feed d st piece r r').given ≡ refused_by n p
       → feed d (feed d st piece r r').next piece s s' ≡ feed d st piece s s'
-  pub end-thirteen : (r : ℕ) → is_fit d st ≡ false → finish d st r ≡ record { next = st; closing = C.Refused 13 0 }
+  pub end-thirteen : (r : ℕ) → is_fit d st ≡ false → finish d st r ≡ record { next = st; closing = refused_by 13 0 }
   pub end-three : (r : ℕ) → is_fit d st ≡ true → r < 5 * length (remainder_out d st)
-      → finish d st r ≡ record { next = st; closing = C.Refused 3 0 }
+      → finish d st r ≡ record { next = st; closing = refused_by 3 0 }
   -- "the remainder's when the end is told"
   pub end-tells : (r : ℕ) → is_fit d st ≡ true → 5 * length (remainder_out d st) ≤ r
-      → finish d st r ≡ record { next = ended st; closing = C.Written (5 * length (remainder_out d st)) }
+      → finish d st r ≡ record { next = ended st; closing = Ok (5 * length (remainder_out d st)) }
   -- "13 is given exactly to a piece or end after the end"
   pub after-the-end : is_fit d (ended st) ≡ false
 

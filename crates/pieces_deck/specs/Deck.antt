@@ -10,12 +10,12 @@ use Rattle.walk_state.specs.Walking as W
 use Rattle.pieces.specs.declared.Phase.TheVariants as P
 use Rattle.pieces.specs.declared.Progress.{Progress}
 use Rattle.pieces.specs.declared.Pieces.{Pieces}
-use Rattle.pieces.specs.declared.Given.TheVariants as G
-use Rattle.pieces.specs.declared.Closing.TheVariants as C
 use Rattle.pieces.specs.Headers.{room_of, all_known, is_long, asks7, framed_by, verdict_of, group_number, head_number, lead_of, opens_text, value_number}
 use Rattle.pieces.specs.Steps.{none4, clear, end_of, settled, headed, at_first, at_second, valued, step_by, unit_step, is_whole_by, is_whole, rows_from, told}
 use Rattle.pieces.specs.Feeding.{after, rows_after, begin, start, fed, items_out, refusals_out, number_at, remainder_out}
 use Rattle.pieces.specs.Calls.{is_open, most_units, progress_fits, place_fits, is_fit, feed_answer, items_left, refusals_left, ended, end_answer, remainder_left}
+use Rattle.std.specs.Prelude.{Ok}
+use Rattle.format.specs.Refusals.{refused_by}
 
 infixr 5 ◌&◌
 -- ---- a stream in pieces, and what is expected of it
@@ -143,21 +143,21 @@ nines n = replicate n 9
 
 pub record Calls : Type 0 where
   -- "Refusal 3 is given exactly when the rows that a piece, or the end, completes don't fit."
-  pub one-item : (feed_answer text (start text) maab 9 0 ≡ G.Taken 9 0) × (feed_answer text (start text) maab 8 0 ≡ G.Refused 3 0)
-  pub one-refusal : (feed_answer text (start text) mqaa 9 9 ≡ G.Taken 9 9) × (feed_answer text (start text) mqaa 9 8 ≡ G.Refused 3 0)
-  pub no_row : feed_answer text (start text) (77 ∷ []) 0 0 ≡ G.Taken 0 0
-  pub a-remainder : (end_answer text (fed text (start text) (77 ∷ [])) 5 ≡ C.Written 5) × (end_answer text (fed text (start text) (77 ∷ [])) 4 ≡ C.Refused 3 0)
-  pub none_left : end_answer text (start text) 0 ≡ C.Written 0
+  pub one-item : (feed_answer text (start text) maab 9 0 ≡ Ok (record { items = 9; refusals = 0 })) × (feed_answer text (start text) maab 8 0 ≡ refused_by 3 0)
+  pub one-refusal : (feed_answer text (start text) mqaa 9 9 ≡ Ok (record { items = 9; refusals = 9 })) × (feed_answer text (start text) mqaa 9 8 ≡ refused_by 3 0)
+  pub no_row : feed_answer text (start text) (77 ∷ []) 0 0 ≡ Ok (record { items = 0; refusals = 0 })
+  pub a-remainder : (end_answer text (fed text (start text) (77 ∷ [])) 5 ≡ Ok 5) × (end_answer text (fed text (start text) (77 ∷ [])) 4 ≡ refused_by 3 0)
+  pub none_left : end_answer text (start text) 0 ≡ Ok 0
   -- what the buffers hold: rows from the start on, and what stood behind them
-  pub written : items_left (G.Taken 9 0) text (start text) maab (nines 10) ≡ 0 ∷ 0 ∷ 0 ∷ 0 ∷ 0 ∷ 0 ∷ 0 ∷ 4 ∷ 0 ∷ 9 ∷ []
-  pub told-refused : refusals_left (G.Taken 9 9) text (start text) mqaa (nines 10) ≡ 0 ∷ 0 ∷ 0 ∷ 0 ∷ 8 ∷ 0 ∷ 0 ∷ 0 ∷ 0 ∷ 9 ∷ []
-  pub left_over : remainder_left (C.Written 5) text (fed text (start text) (77 ∷ [])) (nines 6) ≡ 0 ∷ 0 ∷ 0 ∷ 0 ∷ 4 ∷ 9 ∷ []
-  pub untouched : (items_left (G.Refused 3 0) text (start text) maab (nines 8) ≡ nines 8) × (refusals_left (G.Refused 3 0) text (start text) mqaa (nines 8) ≡ nines 8)
+  pub written : items_left (Ok (record { items = 9; refusals = 0 })) text (start text) maab (nines 10) ≡ 0 ∷ 0 ∷ 0 ∷ 0 ∷ 0 ∷ 0 ∷ 0 ∷ 4 ∷ 0 ∷ 9 ∷ []
+  pub told-refused : refusals_left (Ok (record { items = 9; refusals = 9 })) text (start text) mqaa (nines 10) ≡ 0 ∷ 0 ∷ 0 ∷ 0 ∷ 8 ∷ 0 ∷ 0 ∷ 0 ∷ 0 ∷ 9 ∷ []
+  pub left_over : remainder_left (Ok 5) text (fed text (start text) (77 ∷ [])) (nines 6) ≡ 0 ∷ 0 ∷ 0 ∷ 0 ∷ 4 ∷ 9 ∷ []
+  pub untouched : (items_left (refused_by 3 0) text (start text) maab (nines 8) ≡ nines 8) × (refusals_left (refused_by 3 0) text (start text) mqaa (nines 8) ≡ nines 8)
   -- "Refusal 1 now comes to the piece that passes the limit", before 3
-  pub past-limit : (feed_answer text full (77 ∷ []) 0 0 ≡ G.Refused 1 0) × (feed_answer text full [] 0 0 ≡ G.Taken 0 0)
+  pub past-limit : (feed_answer text full (77 ∷ []) 0 0 ≡ refused_by 1 0) × (feed_answer text full [] 0 0 ≡ Ok (record { items = 0; refusals = 0 }))
   -- "13 is given exactly to a piece or end after the end", before 1 and 3, and to a state of the other form
-  pub after-end : (feed_answer text (ended full) maab 0 0 ≡ G.Refused 13 0) × (end_answer text (ended (start text)) 0 ≡ C.Refused 13 0)
-  pub other-form : (feed_answer binary (start text) maab 0 0 ≡ G.Refused 13 0) × (end_answer text (start binary) 0 ≡ C.Refused 13 0)
+  pub after-end : (feed_answer text (ended full) maab 0 0 ≡ refused_by 13 0) × (end_answer text (ended (start text)) 0 ≡ refused_by 13 0)
+  pub other-form : (feed_answer binary (start text) maab 0 0 ≡ refused_by 13 0) × (end_answer text (start binary) 0 ≡ refused_by 13 0)
 
 pub calls-hold : Calls
 unfolding seen is_open most_units progress_fits place_fits is_fit feed_answer items_left refusals_left ended end_answer remainder_left full all_below slot_fits W.is_fit

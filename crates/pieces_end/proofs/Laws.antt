@@ -20,8 +20,6 @@ use Rattle.laws.specs.Domains.{reader}
 use Rattle.filling.specs.Stores.{be4-long}
 use Rattle.report_rows.specs.Stores.{put, put-fits}
 use Rattle.pieces.specs.declared.Pieces.{Pieces}
-use Rattle.pieces.specs.declared.Closing.{Closing}
-use Rattle.pieces.specs.declared.Closing.TheVariants as C
 use Rattle.pieces.specs.declared.Closed.{Closed}
 use Rattle.pieces.specs.Feeding.{taken, number_at, remainder_out}
 use Rattle.pieces.specs.Calls.{most_units, is_fit, ended, end_answer, end_state, finish, remainder_left}

@@ -11,8 +11,8 @@ ghost use Rattle.pieces.specs.Feeding.{number_at};
 ghost use Rattle.pieces.specs.Calls.{ended_progress, finish, remainder_left};
 ghost use Rattle.pieces_end.specs.Ends.{kept, told};
 
-use format::Form;
-use pieces::{Closed, Closing, Phase, Pieces, Progress};
+use format::{Form, Refusal};
+use pieces::{Closed, Phase, Pieces, Progress};
 
 // ---- what the call answers
 
@@ -22,7 +22,7 @@ fn kept(st: Pieces, number: u8) -> Closed
 {
     Closed {
         next: st,
-        closing: Closing::Refused { number, place: 0 },
+        closing: Err(Refusal { number, place: 0 }),
     }
 }
 
@@ -61,7 +61,7 @@ fn told(st: Pieces, n: usize) -> Closed
     };
     Closed {
         next,
-        closing: Closing::Written(n),
+        closing: Ok(n),
     }
 }
 

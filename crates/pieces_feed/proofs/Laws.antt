@@ -22,8 +22,6 @@ use Rattle.laws.specs.Domains.{reader}
 use Rattle.filling.specs.Stores.{concat-long, row-long, refusal-long}
 use Rattle.pieces.specs.declared.Progress.{Progress}
 use Rattle.pieces.specs.declared.Pieces.{Pieces}
-use Rattle.pieces.specs.declared.Given.{Given}
-use Rattle.pieces.specs.declared.Given.TheVariants as G
 use Rattle.pieces.specs.declared.Fed.{Fed}
 use Rattle.pieces.specs.Steps.{unit_step, is_whole, rows_from}
 use Rattle.pieces.specs.Feeding.{after, rows_after, held_and, fed, items_out, refusals_out, taken}
@@ -32,6 +30,10 @@ use Rattle.pieces_fit.specs.Fit.{Facts, facts}
 use Rattle.pieces_taken.specs.declared.Ahead.{Ahead}
 use Rattle.pieces_taken.specs.Taking.{Took}
 use Rattle.pieces_feed.specs.Feeds.{kept, Enters, Room, Gives}
+use Rattle.std.specs.Prelude.{Ok, Result}
+use Rattle.format.specs.Refusals.{refused_by}
+use Rattle.format.specs.declared.Refusal.{Refusal}
+use Rattle.pieces.specs.declared.Rows.{Rows}
 
 -- ---- the tests
 
@@ -105,12 +107,12 @@ module _ (form : Form) (st : Pieces) (piece : List ℕ) (four : length st.held �
 -- ---- the answers
 
 module _ (d : Domain) (st : Pieces) (piece : List ℕ) (room more : ℕ) where
-  pub answer-unfit : is_fit d st ≡ false → feed_answer d st piece room more ≡ G.Refused 13 0
+  pub answer-unfit : is_fit d st ≡ false → feed_answer d st piece room more ≡ refused_by 13 0
   unfolding feed_answer
   answer-unfit e = rw e
 
   module _ (fit : is_fit d st ≡ true) where
-    pub answer-long : leb (taken d st + length piece) d.limit ≡ false → feed_answer d st piece room more ≡ G.Refused 1 0
+    pub answer-long : leb (taken d st + length piece) d.limit ≡ false → feed_answer d st piece room more ≡ refused_by 1 0
     unfolding feed_answer
     answer-long e = rw (fit, lt-ltb d.limit (taken d st + length piece) (leb-false _ _ e))
 
@@ -121,23 +123,23 @@ module _ (d : Domain) (st : Pieces) (piece : List ℕ) (room more : ℕ) where
       abbrev m : ℕ
       m = 9 * length (refusals_out d st piece)
 
-      pub answer-little : pick (leb n room) (leb m more) false ≡ false → feed_answer d st piece room more ≡ G.Refused 3 0
+      pub answer-little : pick (leb n room) (leb m more) false ≡ false → feed_answer d st piece room more ≡ refused_by 3 0
       unfolding feed_answer
       answer-little e = rw (fit, le-ltb d.limit (taken d st + length piece) short) (⊎_elim few many (lt-or-ge room n))
         where
-          few : room < n → pick (ltb room n) (G.Refused 3 0) (pick (ltb more m) (G.Refused 3 0) (G.Taken n m)) ≡ G.Refused 3 0
+          few : room < n → ◌≡◌ {A = Result Rows (Refusal ℕ)} (pick (ltb room n) (refused_by 3 0) (pick (ltb more m) (refused_by 3 0) (Ok (record { items = n; refusals = m })))) (refused_by 3 0)
           few l = rw (lt-ltb room n l)
 
-          many : n ≤ room → pick (ltb room n) (G.Refused 3 0) (pick (ltb more m) (G.Refused 3 0) (G.Taken n m)) ≡ G.Refused 3 0
+          many : n ≤ room → ◌≡◌ {A = Result Rows (Refusal ℕ)} (pick (ltb room n) (refused_by 3 0) (pick (ltb more m) (refused_by 3 0) (Ok (record { items = n; refusals = m })))) (refused_by 3 0)
           many l = let z : leb m more ≡ false = rw (le-leb n room l) at e in rw (le-ltb room n l, lt-ltb more m (leb-false m more z))
 
-      pub answer-taken : n ≤ room → m ≤ more → feed_answer d st piece room more ≡ G.Taken n m
+      pub answer-taken : n ≤ room → m ≤ more → feed_answer d st piece room more ≡ Ok (record { items = n; refusals = m })
       unfolding feed_answer
       answer-taken a b = rw (fit, le-ltb d.limit (taken d st + length piece) short, le-ltb room n a, le-ltb more m b)
 
 -- refused: all stays
 pub gives-kept : (d : Domain) (st : Pieces) (piece items refusals : List ℕ) (number : ℕ) (r : Fed)
-    → feed_answer d st piece (length items) (length refusals) ≡ G.Refused number 0 → r ≡ kept st number → Gives d st piece items items refusals refusals r
+    → feed_answer d st piece (length items) (length refusals) ≡ refused_by number 0 → r ≡ kept st number → Gives d st piece items items refusals refusals r
 unfolding feed feed_state items_left refusals_left
 gives-kept d st piece items refusals number r e f = (f ∙ rw e, (rw f, rw f))
 
@@ -148,7 +150,7 @@ stored out bytes n e l =
 
 pub gives-taken : (form : Form) (st : Pieces) (piece items items' refusals refusals' : List ℕ) (a : Ahead) → Enters form st piece
     → Room form st piece items refusals → Took (domain form) st piece items items' refusals refusals' a
-    → Gives (domain form) st piece items items' refusals refusals' (record { next = a.next; given = G.Taken (9 * a.items) (9 * a.refusals) })
+    → Gives (domain form) st piece items items' refusals refusals' (record { next = a.next; given = Ok (record { items = 9 * a.items; refusals = 9 * a.refusals }) })
 unfolding feed feed_state items_left refusals_left
 gives-taken form st piece items items' refusals refusals' a en ro t =
     let d : Domain = domain form in

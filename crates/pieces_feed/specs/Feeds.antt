@@ -3,14 +3,14 @@ use Rattle.std.specs.Prelude.{ℕ, ◌+◌, ◌*◌, ◌≤◌, ◌≡◌, true,
 use Rattle.format.specs.declared.Form.{Form}
 use Rattle.format.specs.Units.{Domain, domain}
 use Rattle.pieces.specs.declared.Pieces.{Pieces}
-use Rattle.pieces.specs.declared.Given.TheVariants as G
 use Rattle.pieces.specs.declared.Fed.{Fed}
 use Rattle.pieces.specs.Feeding.{items_out, refusals_out, taken}
 use Rattle.pieces.specs.Calls.{is_fit, feed, items_left, refusals_left}
+use Rattle.format.specs.Refusals.{refused_by}
 
 -- refused: the state stays
 abbrev pub kept : Pieces → ℕ → Fed
-kept st number = record { next = st; given = G.Refused number 0 }
+kept st number = record { next = st; given = refused_by number 0 }
 
 -- neither 13 nor 1, and what is held
 pub record Enters (form : Form) (st : Pieces) (piece : List ℕ) : Type 0 where

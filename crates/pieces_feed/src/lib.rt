@@ -9,8 +9,8 @@ ghost use Rattle.pieces.specs.Feeding.{items_out, refusals_out, taken};
 ghost use Rattle.pieces.specs.Calls.{feed, items_left, refusals_left};
 ghost use Rattle.pieces_feed.specs.Feeds.{kept, Enters, Room, Gives};
 
-use format::Form;
-use pieces::{Fed, Given, Pieces};
+use format::{Form, Refusal};
+use pieces::{Fed, Pieces, Rows};
 
 // Refused: nothing is taken in.
 fn kept(st: Pieces, number: u8) -> Fed
@@ -18,7 +18,7 @@ fn kept(st: Pieces, number: u8) -> Fed
 {
     Fed {
         next: st,
-        given: Given::Refused { number, place: 0 },
+        given: Err(Refusal { number, place: 0 }),
     }
 }
 
@@ -71,10 +71,10 @@ fn enter(form: Form, st: Pieces, piece: &[u8], items: &mut [u8], refusals: &mut 
     let m = a.refusals;
     Fed {
         next,
-        given: Given::Taken {
+        given: Ok(Rows {
             items: 9 * n,
             refusals: 9 * m,
-        },
+        }),
     }
 }
 

@@ -2,13 +2,13 @@
 use Rattle.std.specs.Prelude.{List, ℕ}
 use Rattle.std.specs.Borrow.{Bor}
 use Rattle.walk_state.specs.declared.Walk.{Walk}
-use Rattle.walk_state.specs.declared.TextStep.{TextStep}
-use Rattle.walk_state.specs.declared.BinaryStep.{BinaryStep}
+use Rattle.walk_state.specs.declared.Stepped.{Stepped}
 use Rattle.walk_state.specs.Walking.{start, text_step, binary_step}
 use Rattle.reader_place.specs.Place.{text_behind, binary_behind}
 use Rattle.reader.specs.declared.Reader.{Reader}
-use Rattle.reader.specs.declared.TextTaken.{TextTaken}
-use Rattle.reader.specs.declared.BinaryTaken.{BinaryTaken}
+use Rattle.reader.specs.declared.Taken.{Taken}
+use Rattle.format.specs.declared.TextOffset.{TextOffset}
+use Rattle.format.specs.declared.BinaryOffset.{BinaryOffset}
 
 abbrev pub opened : Bor (List ℕ) → Reader
 opened src = record { src = src; walk = start }
@@ -19,12 +19,12 @@ resumed_at r w = record { src = r.src; walk = w }
 
 -- ---- what a step found, and the reader at its place behind it
 
-unfoldable pub text_taken : Reader → TextTaken
+unfoldable pub text_taken : Reader → Taken TextOffset
 text_taken r =
-    let s : TextStep = text_step r.src.now r.walk in
+    let s : Stepped TextOffset = text_step r.src.now r.walk in
     record { reader = resumed_at r (text_behind s.found r.walk s.next); found = s.found }
 
-unfoldable pub binary_taken : Reader → BinaryTaken
+unfoldable pub binary_taken : Reader → Taken BinaryOffset
 binary_taken r =
-    let s : BinaryStep = binary_step r.src.now r.walk in
+    let s : Stepped BinaryOffset = binary_step r.src.now r.walk in
     record { reader = resumed_at r (binary_behind s.found r.walk s.next); found = s.found }

@@ -6,7 +6,8 @@
 ghost use Rattle.std.specs.Prelude.{◌≡◌};
 ghost use Rattle.reader.specs.Reading.{opened, resumed_at, text_taken, binary_taken};
 
-use walk_state::{BinaryItem, TextItem, Walk};
+use format::{BinaryOffset, TextOffset};
+use walk_state::{Found, Walk};
 
 #[derive(Clone, Copy)]
 pub struct Reader<'a> {
@@ -14,18 +15,11 @@ pub struct Reader<'a> {
     pub walk: Walk,
 }
 
-// What a step over a text found, and the reader behind it.
+// What a step found, in a form's own offsets, and the reader behind it.
 #[derive(Clone, Copy)]
-pub struct TextTaken<'a> {
+pub struct Taken<'a, P> {
     pub reader: Reader<'a>,
-    pub found: TextItem,
-}
-
-// The same of a binary.
-#[derive(Clone, Copy)]
-pub struct BinaryTaken<'a> {
-    pub reader: Reader<'a>,
-    pub found: BinaryItem,
+    pub found: Found<P>,
 }
 
 impl<'a> Reader<'a> {
@@ -62,11 +56,11 @@ impl<'a> Reader<'a> {
     }
 
     // The next item of a text, the first refusal or the end.
-    pub fn next_text(self) -> TextTaken<'a>
+    pub fn next_text(self) -> Taken<'a, TextOffset>
         ensures { result ≡ text_taken self.entry }
     {
         let stepped = walk::step_text(self.walk, self.src);
-        TextTaken {
+        Taken {
             reader: Reader {
                 src: self.src,
                 walk: stepped.next,
@@ -76,11 +70,11 @@ impl<'a> Reader<'a> {
     }
 
     // The same of a binary.
-    pub fn next_binary(self) -> BinaryTaken<'a>
+    pub fn next_binary(self) -> Taken<'a, BinaryOffset>
         ensures { result ≡ binary_taken self.entry }
     {
         let stepped = walk::step_binary(self.walk, self.src);
-        BinaryTaken {
+        Taken {
             reader: Reader {
                 src: self.src,
                 walk: stepped.next,

@@ -10,7 +10,7 @@ use Rattle.walk_claims.specs.Words.{Stops}
 use Rattle.walk_claims.proofs.Proved.{proved}
 use Rattle.reader_place.specs.Place.{text_behind, binary_behind}
 
-text-behind : (f : Found) (w next : Walk) → (Stops f → next ≡ w) → text_behind (text_item f) w next ≡ next
+text-behind : (f : Found ℕ) (w next : Walk) → (Stops f → next ≡ w) → text_behind (text_item f) w next ≡ next
 unfolding text_item text_behind
 text-behind (F.Item o n d k h) w next e = refl
 text-behind (F.Refused m p) w next e = sym (e tt)
@@ -20,7 +20,7 @@ pub text-stands : (xs : List ℕ) (w : Walk) → text_behind (text_step xs w).fo
 unfolding text_step
 text-stands xs w = text-behind (step_in text xs w).found w (step_in text xs w).next ((proved.of-text xs).stays w)
 
-binary-behind : (f : Found) (w next : Walk) → (Stops f → next ≡ w) → binary_behind (binary_item f) w next ≡ next
+binary-behind : (f : Found ℕ) (w next : Walk) → (Stops f → next ≡ w) → binary_behind (binary_item f) w next ≡ next
 unfolding binary_item binary_behind
 binary-behind (F.Item o n d k h) w next e = refl
 binary-behind (F.Refused m p) w next e = sym (e tt)

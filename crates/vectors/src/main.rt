@@ -19,11 +19,11 @@ ghost use Rattle.std.specs.Prelude.{◌≡◌, ◌≤◌, length};
 ghost use Rattle.exports_values.specs.Lent.{state_size};
 
 use exports_values::{INDEXED, INFO, MARK, STATE};
-use instalments::{BinaryPause, TextPause};
+use format::Refusal;
+use instalments::Pause;
 use recorded::number;
 use std::io::Stdout;
-use walk_state::{BinaryItem, TextItem, Walk};
-use walk_tally::{BinaryEnd, TextEnd};
+use walk_state::{Found, Walk};
 
 fn show(stdout: Stdout, call: u8, number: u8, value: usize, out: &[u8]) {
     recorded::show_answer(stdout, call, number, value);
@@ -230,7 +230,7 @@ fn read_step_text(stdout: Stdout, stream: &[u8], before: Walk) {
     let found = step.found;
     let state = exports_state::state_of(step.next);
     match found {
-        TextItem::Item {
+        Found::Item {
             offset,
             size,
             depth,
@@ -240,10 +240,8 @@ fn read_step_text(stdout: Stdout, stream: &[u8], before: Walk) {
             let item = exports_item::item_of(offset.0, size.0, depth, kind, head);
             show_step(stdout, 11, 0, 0, state, item);
         }
-        TextItem::Refused { number, place } => show_step(
-            stdout, 11, number, place.0, state, [170; 6],
-        ),
-        TextItem::End => show_step(stdout, 11, 255, 0, state, [170; 6]),
+        Found::Refused { number, place } => show_step(stdout, 11, number, place.0, state, [170; 6]),
+        Found::End => show_step(stdout, 11, 255, 0, state, [170; 6]),
     }
 }
 
@@ -253,7 +251,7 @@ fn read_step_binary(stdout: Stdout, stream: &[u8], before: Walk) {
     let found = step.found;
     let state = exports_state::state_of(step.next);
     match found {
-        BinaryItem::Item {
+        Found::Item {
             offset,
             size,
             depth,
@@ -263,10 +261,8 @@ fn read_step_binary(stdout: Stdout, stream: &[u8], before: Walk) {
             let item = exports_item::item_of(offset.0, size.0, depth, kind, head);
             show_step(stdout, 12, 0, 0, state, item);
         }
-        BinaryItem::Refused { number, place } => show_step(
-            stdout, 12, number, place.0, state, [170; 6],
-        ),
-        BinaryItem::End => show_step(stdout, 12, 255, 0, state, [170; 6]),
+        Found::Refused { number, place } => show_step(stdout, 12, number, place.0, state, [170; 6]),
+        Found::End => show_step(stdout, 12, 255, 0, state, [170; 6]),
     }
 }
 
@@ -283,8 +279,8 @@ fn rest(stdout: Stdout, call: u8, stream: &[u8], before: Walk) {
         let items = tally.items;
         let end = tally.end;
         match end {
-            TextEnd::Refused { number, place } => show_count(stdout, 11, number, place.0, items),
-            TextEnd::End => show_count(stdout, 11, 255, 0, items),
+            Some(Refusal { number, place }) => show_count(stdout, 11, number, place.0, items),
+            None => show_count(stdout, 11, 255, 0, items),
         }
         return;
     }
@@ -292,8 +288,8 @@ fn rest(stdout: Stdout, call: u8, stream: &[u8], before: Walk) {
     let items = tally.items;
     let end = tally.end;
     match end {
-        BinaryEnd::Refused { number, place } => show_count(stdout, 12, number, place.0, items),
-        BinaryEnd::End => show_count(stdout, 12, 255, 0, items),
+        Some(Refusal { number, place }) => show_count(stdout, 12, number, place.0, items),
+        None => show_count(stdout, 12, 255, 0, items),
     }
 }
 
@@ -374,11 +370,9 @@ fn walk_on_text(stdout: Stdout, stream: &[u8], before: Walk, budget: usize) {
     let items = walked.items;
     let state = exports_state::state_of(walked.next);
     match pause {
-        TextPause::Spent => show_slice(stdout, 15, 0, 0, items, state),
-        TextPause::End => show_slice(stdout, 15, 255, 0, items, state),
-        TextPause::Refused { number, place } => show_slice(
-            stdout, 15, number, place.0, items, state,
-        ),
+        Pause::Spent => show_slice(stdout, 15, 0, 0, items, state),
+        Pause::End => show_slice(stdout, 15, 255, 0, items, state),
+        Pause::Refused { number, place } => show_slice(stdout, 15, number, place.0, items, state),
     }
 }
 
@@ -388,11 +382,9 @@ fn walk_on_binary(stdout: Stdout, stream: &[u8], before: Walk, budget: usize) {
     let items = walked.items;
     let state = exports_state::state_of(walked.next);
     match pause {
-        BinaryPause::Spent => show_slice(stdout, 16, 0, 0, items, state),
-        BinaryPause::End => show_slice(stdout, 16, 255, 0, items, state),
-        BinaryPause::Refused { number, place } => show_slice(
-            stdout, 16, number, place.0, items, state,
-        ),
+        Pause::Spent => show_slice(stdout, 16, 0, 0, items, state),
+        Pause::End => show_slice(stdout, 16, 255, 0, items, state),
+        Pause::Refused { number, place } => show_slice(stdout, 16, number, place.0, items, state),
     }
 }
 

@@ -163,7 +163,7 @@ module _ (w : Walk) (s : List ℕ) (n : ℕ) (tail : Bool) (order : w.at ≤ sto
 -- ---- the same in a form
 
 -- a step that is the same
-by-same : {before after : List ℕ} {r : Moved} {t u : Stepped} → Steps before after r t → t ≡ u → Steps before after r u
+by-same : {before after : List ℕ} {r : Moved} {t u : Stepped ℕ} → Steps before after r t → t ≡ u → Steps before after r u
 by-same s e = rw (← e) s
 
 -- a stream of either form within its limit
@@ -216,13 +216,13 @@ ends form xs n s p H tail e q = rw q (by-same (record { moves = stays s p; found
 
 -- ---- in elements
 
-item_in : (u : ℕ) (f : Found) → is_item (found_in u f) ≡ is_item f
+item_in : (u : ℕ) (f : Found ℕ) → is_item (found_in u f) ≡ is_item f
 unfolding found_in
 item_in u (F.Item o n d k h) = refl
 item_in u (F.Refused m p) = refl
 item_in u F.End = refl
 
-pub scaled : (u : ℕ) {before after : List ℕ} {r : Moved} {t : Stepped} → Steps before after r t → {f : Found} → f ≡ found_in u r.found
+pub scaled : (u : ℕ) {before after : List ℕ} {r : Moved} {t : Stepped ℕ} → Steps before after r t → {f : Found ℕ} → f ≡ found_in u r.found
     → Steps before after (record { place = r.place; found = f }) (in_elements u t)
 scaled u {r = r} t {f} ef =
     record { moves = t.moves; found = ef ∙ ap (found_in u) t.found; kept = λ e. t.kept (sym (item_in u r.found) ∙ ap is_item (sym ef) ∙ e) }
@@ -258,6 +258,6 @@ both_ways false e f = let z : ◌≡◌ {A = ℕ} 0 1 = cc in absurd (omega arit
 
 -- ---- by value
 
-pub by_value : {before after : List ℕ} {r : Moved} {t : Stepped} → length after ≡ max_depth → Steps before after r t
+pub by_value : {before after : List ℕ} {r : Moved} {t : Stepped ℕ} → length after ≡ max_depth → Steps before after r t
     → record { next = record { ends = after; depth = r.place.depth; at = r.place.at; first = r.place.first; indexed = r.place.indexed }; found = r.found } ≡ t
 by_value {r = r} l s = rw (← (own-moved l s.moves), ← s.found)

@@ -26,25 +26,25 @@ abbrev pub place_of : Walk → Place
 place_of w = record { depth = w.depth; at = w.at; first = w.first; indexed = w.indexed }
 
 -- the next item, framed and judged by its own checks, or its refusal, at which the state stays as it was
-unfoldable pub found_by : Walk → Framed → Stepped
+unfoldable pub found_by : Walk → Framed → Stepped ℕ
 found_by w (Unframed m p) = record { next = w; found = F.Refused m (4 * w.at + p) }
 found_by w (Item k h n) = record { next = next_of w k h n; found = F.Item w.at n w.depth k h }
 
 -- a step over a part, from the position to where the innermost group ends
-unfoldable pub part_step : Walk → List ℕ → Stepped
+unfoldable pub part_step : Walk → List ℕ → Stepped ℕ
 part_step w s = found_by w (next_own w.indexed (is_asked (place_of w)) s (max_depth - w.depth))
 
 -- a step's find in elements, u to the unit
-abbrev pub in_elements : ℕ → Stepped → Stepped
+abbrev pub in_elements : ℕ → Stepped ℕ → Stepped ℕ
 in_elements u t = record { next = t.next; found = found_in u t.found }
 
-abbrev pub is_item : Found → Bool
+abbrev pub is_item : Found ℕ → Bool
 is_item (F.Item o n d k h) = true
 is_item (F.Refused m p) = false
 is_item F.End = false
 
 -- a step in lent slots: what it leaves there, where it leads and what it finds; with no item they stay as they were
-pub record Steps (before after : List ℕ) (r : Moved) (t : Stepped) : Type 0 where
+pub record Steps (before after : List ℕ) (r : Moved) (t : Stepped ℕ) : Type 0 where
   pub moves : Moves before after r.place t.next
   pub found : r.found ≡ t.found
   pub kept : is_item r.found ≡ false → after ≡ before
@@ -84,7 +84,7 @@ pub record Near (form : Form) (xs : List ℕ) (n : ℕ) (w : Walk) : Type 0 wher
   pub order : w.at ≤ stop_of w n
   pub room : stop_of w n ≤ n
 
-abbrev pub InReach : Found → Type 0
+abbrev pub InReach : Found ℕ → Type 0
 InReach (F.Item o n d k h) = (o ≤ reach) × (n ≤ reach)
 InReach (F.Refused m p) = Unit {0}
 InReach F.End = Unit {0}

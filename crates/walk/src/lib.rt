@@ -13,15 +13,15 @@ ghost use Rattle.walk_state.specs.Walking.{step_fit, found_in, step_in, text_ste
 ghost use Rattle.walk_state.specs.Lent.{walk_at};
 ghost use Rattle.walk.specs.Stepping.{is_asked, found_by, in_elements, Steps, reach, Ready, Spans, Near, Fits, InReach};
 
-use format::{Form, Framed};
+use format::{BinaryOffset, Form, Framed, TextOffset};
 use judging::MAX_DEPTH;
-use walk_state::{BinaryStep, Found, Place, Stepped, TextStep, Walk};
+use walk_state::{Found, Place, Stepped, Walk};
 
 // Where a step in lent slots leads, and what it finds.
 #[derive(Clone, Copy)]
 pub struct Moved {
     pub place: Place,
-    pub found: Found,
+    pub found: Found<usize>,
 }
 
 // ---- the next item
@@ -150,7 +150,7 @@ fn place_in(form: Form, place: usize) -> usize
     }
 }
 
-fn found_in(form: Form, found: Found) -> Found
+fn found_in(form: Form, found: Found<usize>) -> Found<usize>
     requires { InReach found }
     ensures { result ≡ found_in (domain form).unit found }
 {
@@ -235,7 +235,7 @@ pub fn move_fit(slots: &mut [usize], p: Place, form: Form, s: &[u8]) -> Moved
 }
 
 // The same with the state by value.
-pub fn step_in(w: Walk, form: Form, s: &[u8]) -> Stepped
+pub fn step_in(w: Walk, form: Form, s: &[u8]) -> Stepped<usize>
     ensures { result ≡ step_in (domain form) s.now w }
 {
     let mut ends = w.ends;
@@ -257,26 +257,26 @@ pub fn step_in(w: Walk, form: Form, s: &[u8]) -> Stepped
 // ---- in a form's own offsets
 
 // A step over a text.
-pub fn step_text(w: Walk, s: &[u8]) -> TextStep
+pub fn step_text(w: Walk, s: &[u8]) -> Stepped<TextOffset>
     ensures { result ≡ text_step s.now w }
 {
     let r = step_in(w, Form::Text, s);
     let next = r.next;
     let found = r.found;
-    TextStep {
+    Stepped {
         next,
         found: walk_forms::text_item(found),
     }
 }
 
 // A step over a binary.
-pub fn step_binary(w: Walk, s: &[u8]) -> BinaryStep
+pub fn step_binary(w: Walk, s: &[u8]) -> Stepped<BinaryOffset>
     ensures { result ≡ binary_step s.now w }
 {
     let r = step_in(w, Form::Binary, s);
     let next = r.next;
     let found = r.found;
-    BinaryStep {
+    Stepped {
         next,
         found: walk_forms::binary_item(found),
     }

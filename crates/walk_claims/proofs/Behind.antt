@@ -58,7 +58,7 @@ module _ (d : Domain) (R : Reader d) (w : Walk) where
   next-behind (Indexed c) h m = over-behind (Indexed c) h m refl refl refl
   next-behind (Group letter) h m = group-behind letter h m
 
-  abbrev Yielded : Found → Walk → Type 0
+  abbrev Yielded : Found ℕ → Walk → Type 0
   Yielded (F.Item o n e k h) next = Behind d w o n e k h next
   Yielded (F.Refused m p) next = Unit {0}
   Yielded F.End next = Unit {0}
@@ -66,7 +66,7 @@ module _ (d : Domain) (R : Reader d) (w : Walk) where
   pub behind : (xs : List ℕ) (o n e h : ℕ) (k : Kind) → (step_in d xs w).found ≡ F.Item o n e k h → Behind d w o n e k h (step_in d xs w).next
   unfolding found_in
   behind xs o n e h k q =
-      subst (λ (f : Found). Yielded f (step_in d xs w).next) q
+      subst (λ (f : Found ℕ). Yielded f (step_in d xs w).next) q
       (in-by d xs w (λ r. Yielded r.found r.next) (λ _. tt) (λ _ _. tt)
       (λ _ _. step_by (d.sextets xs) (units_in d xs) (tail_of d xs) w (λ r. Yielded (found_in d.unit r.found) r.next)
       (λ _ _. tt) (λ _ _. tt) (λ m p _ _. tt) (λ k' h' m q' p _ _ _. tt)

@@ -108,10 +108,10 @@ module _ (d : Domain) (R : Reader d) (xs : List ℕ) where
   pending w = left s (units_in d xs) (tail_of d xs) Verdict firsts w
 
   -- a step that stops tells it, and any other leaves it
-  abbrev Told : Walk → Stepped → Type 0
+  abbrev Told : Walk → Stepped ℕ → Type 0
   Told w r = (Stops r.found → r.found ≡ found_of (pending w)) × (pending r.next ≡ pending w)
 
-  told : (w next : Walk) (f : Found) → Tells s (units_in d xs) (tail_of d xs) Verdict firsts w (record { next = next; found = f })
+  told : (w next : Walk) (f : Found ℕ) → Tells s (units_in d xs) (tail_of d xs) Verdict firsts w (record { next = next; found = f })
       → (Stops (found_in d.unit f) → next ≡ w) → Told w (in_elements d.unit (record { next = next; found = f }))
   unfolding found_in found_of placed firsts
   told w next (F.Item o m zero k h) t stay = (λ z. absurd z, sym t)

@@ -26,7 +26,7 @@ use Rattle.laws.specs.Levels.{part}
 use Rattle.walk_claims.proofs.Steps.{asked, step_by}
 
 -- a step's answer in both forms
-abbrev InRatio : Found → Type 0
+abbrev InRatio : Found ℕ → Type 0
 InRatio f = FoundRatio (found_in 4 f) (found_in 3 f)
 
 at_unit : (m p : ℕ) → p % 4 ≡ 0 → InRatio (F.Refused m p)
@@ -57,7 +57,7 @@ module _ (s : List ℕ) (low : Below 64 s) (n : ℕ) (tail : Bool) (w : Walk) wh
 
   step-ratio : InRatio (step s n tail w).found
   unfolding step found_in
-  step-ratio = pick-by (λ (r : Stepped). InRatio r.found) (is_fit w n) _ _ (λ _. fit-ratio) (λ _. at_unit 13 0 refl)
+  step-ratio = pick-by (λ (r : Stepped ℕ). InRatio r.found) (is_fit w n) _ _ (λ _. fit-ratio) (λ _. at_unit 13 0 refl)
 
 pub same_step : (t b : List ℕ) → Same t b → length t ≤ text.limit → length b ≤ binary.limit → (w : Walk)
     → SameStep (step_in text t w) (step_in binary b w)

@@ -96,7 +96,7 @@ closed-says (suc k) w (l ∷ ls) e s =
 -- ---- a step
 
 module _ (d : Domain) (xs : List ℕ) (w : Walk) (letters : List ℕ) (s : Says w letters) where
-  abbrev SaysNext : Stepped → Type 0
+  abbrev SaysNext : Stepped ℕ → Type 0
   SaysNext r = Says r.next (still_open r.next.depth (letter_of r.found ++ letters))
 
   abbrev ahead : List ℕ

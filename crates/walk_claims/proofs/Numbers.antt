@@ -125,7 +125,7 @@ kind-own Genus h l s = tt
 -- ---- a step
 
 -- 1 is given for a long stream, 13 for a state that is not fit, and no other number is either
-abbrev Numbered : Domain → List ℕ → Walk → Found → Type 0
+abbrev Numbered : Domain → List ℕ → Walk → Found ℕ → Type 0
 Numbered d xs w (F.Item o n e k h) = Unit {0}
 Numbered d xs w (F.Refused m p) = (m ≡ 1 → d.limit < length xs) × (m ≡ 13 → (length xs ≤ d.limit) × (is_fit w (units_in d xs) ≡ false))
 Numbered d xs w F.End = Unit {0}
@@ -145,7 +145,7 @@ module _ (d : Domain) (xs : List ℕ) (w : Walk) where
       (λ k h m q p _ _ e. own-numbered q (subst Judging e (kind-own k h _ _)))
       (λ k h m _ _ _. tt))
 
-  numbered-at : (f : Found) (m p : ℕ) → f ≡ F.Refused m p → Numbered d xs w f → Numbered d xs w (F.Refused m p)
+  numbered-at : (f : Found ℕ) (m p : ℕ) → f ≡ F.Refused m p → Numbered d xs w f → Numbered d xs w (F.Refused m p)
   numbered-at f m p e n = subst (Numbered d xs w) e n
 
   pub only-long : (p : ℕ) → (step_in d xs w).found ≡ F.Refused 1 p → d.limit < length xs

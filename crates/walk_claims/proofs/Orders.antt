@@ -105,7 +105,7 @@ module _ (d : Domain) (R : Reader d) (xs : List ℕ) (w : Walk) where
   abbrev own_here : List Rule
   own_here = C.own_rules (max_depth - w.depth) (C.item_kind w.indexed ahead) (C.item_head w.indexed ahead) (own_of d xs w (C.item_size w.indexed ahead))
 
-  data Stepping : Found → Type 0 where
+  data Stepping : Found ℕ → Type 0 where
     yields : {o n e h : ℕ} {k : Kind} → None (step_rules d xs w) → Stepping (F.Item o n e k h)
     stops : {m p : ℕ} → First (step_rules d xs w) m → Stepping (F.Refused m p)
     ends : length xs ≤ d.limit → is_fit w (units_in d xs) ≡ true → w.at ≡ units_in d xs → tail_of d xs ≡ false → Stepping F.End

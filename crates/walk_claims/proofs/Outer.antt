@@ -160,10 +160,10 @@ module _ (d : Domain) (R : Reader d) (xs : List ℕ) where
   coming w = left s (units_in d xs) (tail_of d xs) (List Span) spans w
 
   -- a step that stops has none left, and any other yields the first of them
-  abbrev Told : Walk → Stepped → Type 0
+  abbrev Told : Walk → Stepped ℕ → Type 0
   Told w r = (Stops r.found → coming w ≡ []) × (outer r.found ++ coming r.next ≡ coming w)
 
-  told : (w next : Walk) (f : Found) → Tells s (units_in d xs) (tail_of d xs) (List Span) spans w (record { next = next; found = f })
+  told : (w next : Walk) (f : Found ℕ) → Tells s (units_in d xs) (tail_of d xs) (List Span) spans w (record { next = next; found = f })
       → (Stops (found_in d.unit f) → next ≡ w) → Told w (in_elements d.unit (record { next = next; found = f }))
   unfolding found_in outer spans
   told w next (F.Item o m zero k h) t stay = (λ z. absurd z, sym t)

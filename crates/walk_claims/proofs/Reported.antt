@@ -14,7 +14,7 @@ use Rattle.walk_claims.specs.Words.{Span, span_of, up_to, up_to_refusal, found_o
 
 -- ---- the last answer
 
-last-by : (v w : Verdict) (P : Found → Type 0) → P (found_of w) → LastBy v (found_of (and_then v w)) (P (found_of (and_then v w)))
+last-by : (v w : Verdict) (P : Found ℕ → Type 0) → P (found_of w) → LastBy v (found_of (and_then v w)) (P (found_of (and_then v w)))
 unfolding and_then found_of
 last-by Accepted w P h = h
 last-by (Refused n p) w P h = refl

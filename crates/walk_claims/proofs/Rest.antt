@@ -110,10 +110,10 @@ module _ (s : List ℕ) (n : ℕ) (tail : Bool) (X : Type 0) (T : Telling s n ta
   emitted (suc d) at m x = x
 
   -- what a step's answer tells
-  abbrev pub Tells : Walk → Stepped → Type 0
+  abbrev pub Tells : Walk → Stepped ℕ → Type 0
   Tells w r = by r.found
     where
-      by : Found → Type 0
+      by : Found ℕ → Type 0
       by (F.Item o m d k h) = left w ≡ emitted d o m (left r.next)
       by (F.Refused m p) = left w ≡ T.stop m p
       by F.End = left w ≡ T.end

@@ -56,7 +56,7 @@ next-at w k h m some le =
     next-by w h m (λ v. w.at < v.at) k (rw closed_at (omega arith)) (λ letter _. rw closed_at (omega arith))
 
 -- never back, and on where an item is yielded
-pub record Moves (w : Walk) (r : Stepped) : Type 0 where
+pub record Moves (w : Walk) (r : Stepped ℕ) : Type 0 where
   pub never_back : w.at ≤ r.next.at
   pub on : Yields r.found → w.at < r.next.at
 
@@ -118,7 +118,7 @@ at-end-stops d xs w h =
     (λ _ _. tt) (λ _ _. tt) (λ m p _ _. tt) (λ k h m q p _ _ _. tt)
     (λ k h m ne _ _. absurd (ne z)))
 
-pub one_of : (f : Found) → Yields f ⊎ Stops f
+pub one_of : (f : Found ℕ) → Yields f ⊎ Stops f
 one_of (F.Item o n d k h) = inl tt
 one_of (F.Refused m p) = inr tt
 one_of F.End = inr tt
@@ -153,15 +153,15 @@ module _ (d : Domain) (xs : List ℕ) where
 
 module _ (d : Domain) (R : Reader d) (xs : List ℕ) (short : length xs ≤ d.limit) (X : Type 0)
     (T : Telling (d.sextets xs) (units_in d xs) (tail_of d xs) X) where
-  pub tells-after : (P : Walk → Stepped → Type 0)
-      → ((w next : Walk) (f : Found) → Tells (d.sextets xs) (units_in d xs) (tail_of d xs) X T w (record { next = next; found = f })
+  pub tells-after : (P : Walk → Stepped ℕ → Type 0)
+      → ((w next : Walk) (f : Found ℕ) → Tells (d.sextets xs) (units_in d xs) (tail_of d xs) X T w (record { next = next; found = f })
       → (Stops (found_in d.unit f) → next ≡ w) → P w (in_elements d.unit (record { next = next; found = f })))
       → (k : ℕ) → P (after d xs k) (step_in d xs (after d xs k))
   tells-after P told k =
       let w : Walk = after d xs k in
-      let r : Stepped = step_fit (d.sextets xs) (units_in d xs) (tail_of d xs) w in
+      let r : Stepped ℕ = step_fit (d.sextets xs) (units_in d xs) (tail_of d xs) w in
       let z : step_in d xs w ≡ in_elements d.unit r = fit-step d xs w short (after-fit d R xs k) in
       subst (P w) (sym z)
       (told w r.next r.found
       (step-tells (d.sextets xs) (units_in d xs) (tail_of d xs) X T w (long d R xs) (after-fits d R xs k))
-      (subst (λ (q : Stepped). Stops q.found → q.next ≡ w) z (stays d xs w)))
+      (subst (λ (q : Stepped ℕ). Stops q.found → q.next ≡ w) z (stays d xs w)))

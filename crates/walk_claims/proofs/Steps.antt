@@ -44,7 +44,7 @@ module _ (s : List ℕ) (n : ℕ) (tail : Bool) (w : Walk) where
   abbrev pub judged_here : Kind → ℕ → ℕ → Verdict
   judged_here k h m = judge_kind k h (part s w.at (w.at + m)) (own_check (max_depth - w.depth))
 
-  pub step_by {ℓ} : (P : Stepped → Type ℓ)
+  pub step_by {ℓ} : (P : Stepped ℕ → Type ℓ)
       → (w.at ≡ n → tail ≡ true → P (record { next = w; found = F.Refused 4 (4 * n) }))
       → (w.at ≡ n → tail ≡ false → P (record { next = w; found = F.End }))
       → ((m p : ℕ) → (w.at ≡ n → ⊥) → framed_here ≡ Unframed m p → P (record { next = w; found = F.Refused m (4 * w.at + p) }))
@@ -104,15 +104,15 @@ module _ (w : Walk) (h m : ℕ) where
 -- ---- text and binary
 
 -- a step counted in elements, u to the unit
-abbrev pub in_elements : ℕ → Stepped → Stepped
+abbrev pub in_elements : ℕ → Stepped ℕ → Stepped ℕ
 in_elements u r = record { next = r.next; found = found_in u r.found }
 
 module _ (d : Domain) (xs : List ℕ) (w : Walk) where
   -- a step of a fit state in this stream
-  abbrev pub fit_step : Stepped
+  abbrev pub fit_step : Stepped ℕ
   fit_step = in_elements d.unit (step_fit (d.sextets xs) (units_in d xs) (tail_of d xs) w)
 
-  pub in-by {ℓ} : (P : Stepped → Type ℓ)
+  pub in-by {ℓ} : (P : Stepped ℕ → Type ℓ)
       → (d.limit < length xs → P (record { next = w; found = F.Refused 1 0 }))
       → (length xs ≤ d.limit → is_fit w (units_in d xs) ≡ false → P (record { next = w; found = F.Refused 13 0 }))
       → (length xs ≤ d.limit → is_fit w (units_in d xs) ≡ true → P fit_step)

@@ -20,8 +20,8 @@ of-form Binary xs = proved.of-binary xs
 module _ (d : Domain) (xs : List ℕ) (C : StreamClaims d xs) where
   pub yields-fit : (w : Walk) → Yields (step_in d xs w).found → is_fit w (units_in d xs) ≡ true
   yields-fit w y =
-      ⊎_elim (λ over. absurd (subst (λ (r : Stepped). Yields r.found) (C.one w over) y))
-      (λ short. ⊎_elim (λ e. e) (λ e. absurd (subst (λ (r : Stepped). Yields r.found) (C.thirteen w short e) y))
+      ⊎_elim (λ over. absurd (subst (λ (r : Stepped ℕ). Yields r.found) (C.one w over) y))
+      (λ short. ⊎_elim (λ e. e) (λ e. absurd (subst (λ (r : Stepped ℕ). Yields r.found) (C.thirteen w short e) y))
       (whether (is_fit w (units_in d xs))))
       (lt-or-ge d.limit (length xs))
 

@@ -86,27 +86,27 @@ after d xs zero = start
 after d xs (suc k) = (step_in d xs (after d xs k)).next
 
 -- what the step after those finds
-abbrev pub found_at : Domain → List ℕ → ℕ → Found
+abbrev pub found_at : Domain → List ℕ → ℕ → Found ℕ
 found_at d xs k = (step_in d xs (after d xs k)).found
 
 -- an item, or else a refusal or the end
-abbrev pub Yields : Found → Type 0
+abbrev pub Yields : Found ℕ → Type 0
 Yields (F.Item o n d k h) = Unit {0}
 Yields (F.Refused m p) = ⊥
 Yields F.End = ⊥
 
-abbrev pub Stops : Found → Type 0
+abbrev pub Stops : Found ℕ → Type 0
 Stops (F.Item o n d k h) = ⊥
 Stops (F.Refused m p) = Unit {0}
 Stops F.End = Unit {0}
 
 -- its number and place as 01 and the calls for C have them: 0 for an item, 255 for the end, or the refusal's
-unfoldable pub found_number : Found → ℕ
+unfoldable pub found_number : Found ℕ → ℕ
 found_number (F.Item o n d k h) = 0
 found_number (F.Refused number place) = number
 found_number F.End = 255
 
-unfoldable pub found_place : Found → ℕ
+unfoldable pub found_place : Found ℕ → ℕ
 found_place (F.Item o n d k h) = o
 found_place (F.Refused number place) = place
 found_place F.End = 0
@@ -143,7 +143,7 @@ pub record Behind (d : Domain) (w : Walk) (o n e : ℕ) (k : Kind) (h : ℕ) (ne
 -- ---- the open groups
 
 -- the letter of a group that a step yields
-unfoldable pub letter_of : Found → List ℕ
+unfoldable pub letter_of : Found ℕ → List ℕ
 letter_of (F.Item o n e (Fixed c) h) = []
 letter_of (F.Item o n e (Variable t l c) h) = []
 letter_of (F.Item o n e Genus h) = []
@@ -172,7 +172,7 @@ pub record Span : Type 0 where
   pub offset : ℕ
   pub size : ℕ
 
-unfoldable pub outer : Found → List Span
+unfoldable pub outer : Found ℕ → List Span
 outer (F.Item o n zero k h) = record { offset = o; size = n } ∷ []
 outer (F.Item o n (suc d) k h) = []
 outer (F.Refused m p) = []
@@ -203,7 +203,7 @@ up_to_refusal d xs (r ∷ rs) = up_to r.verdict (is_opened (frame_ruled (d.sexte
 
 -- ---- where the walk stops
 
-unfoldable pub found_of : Verdict → Found
+unfoldable pub found_of : Verdict → Found ℕ
 found_of Accepted = F.End
 found_of (Refused n p) = F.Refused n p
 
@@ -217,12 +217,12 @@ abbrev pub first_refusal : Domain → List ℕ → Verdict
 first_refusal d xs = first_of d 0 (cut (frame_in d) xs)
 
 -- a refused item's number and place, or what holds behind an accepted one
-abbrev pub LastBy : Verdict → Found → Type 0 → Type 0
+abbrev pub LastBy : Verdict → Found ℕ → Type 0 → Type 0
 LastBy Accepted f behind = behind
 LastBy (Refused n p) f behind = f ≡ F.Refused n p
 
 -- by the report: the first refused item's number and place, else the remainder's number at or behind its offset, else the end
-abbrev pub Last : List ItemRow → List RemainderRow → Found → Type 0
+abbrev pub Last : List ItemRow → List RemainderRow → Found ℕ → Type 0
 Last [] [] f = f ≡ F.End
 Last [] (t ∷ ts) f = (p : ℕ) × (f ≡ F.Refused t.number (t.offset + p))
 Last (r ∷ rs) ts f = LastBy r.verdict f (Last rs ts f)
@@ -230,7 +230,7 @@ Last (r ∷ rs) ts f = LastBy r.verdict f (Last rs ts f)
 -- ---- text and binary
 
 -- the same depth, kind and header, or the same number; offsets, sizes and places in the ratio four to three
-abbrev pub FoundRatio : Found → Found → Type 0
+abbrev pub FoundRatio : Found ℕ → Found ℕ → Type 0
 FoundRatio (F.Item o n d k h) (F.Item o' n' d' k' h') = Ratio o o' × Ratio n n' × (d ≡ d') × (k ≡ k') × (h ≡ h')
 FoundRatio (F.Refused m p) (F.Refused m' p') = (m ≡ m') × Ratio p p'
 FoundRatio F.End F.End = Unit {0}
@@ -242,6 +242,6 @@ FoundRatio F.End (F.Item o n d k h) = ⊥
 FoundRatio F.End (F.Refused m p) = ⊥
 
 -- a step of one state in a text and in a binary: the same next state
-pub record SameStep (t b : Stepped) : Type 0 where
+pub record SameStep (t b : Stepped ℕ) : Type 0 where
   pub next : t.next ≡ b.next
   pub found : FoundRatio t.found b.found

@@ -34,7 +34,7 @@ unfolding rest_in
 begin form xs w full = record { full = full; below = omega arith; whole = rw (sub-zero, zero-add) }
 
 -- a turn, whose step is t
-module _ (form : Form) (xs : List ℕ) (w₀ w : Walk) (n : ℕ) (g : Going form xs w₀ w n) (t : Stepped)
+module _ (form : Form) (xs : List ℕ) (w₀ w : Walk) (n : ℕ) (g : Going form xs w₀ w n) (t : Stepped ℕ)
     (e : t ≡ step_in (domain form) xs w) where
   abbrev d : Domain
   d = domain form
@@ -44,14 +44,14 @@ module _ (form : Form) (xs : List ℕ) (w₀ w : Walk) (n : ℕ) (g : Going form
 
   pub stop : Stops t.found → record { items = n; last = t.found } ≡ rest_in d xs w₀
   stop s =
-      let z : Stops (step_in d xs w).found = subst (λ (r : Stepped). Stops r.found) e s in
+      let z : Stops (step_in d xs w).found = subst (λ (r : Stepped ℕ). Stops r.found) e s in
       rw e
       (sym (g.whole ∙ ap (plus n) (run-stopped d xs (units_in d xs - n) w z)
       ∙ ap (λ (c : ℕ). record { items = c; last = (step_in d xs w).found }) (add-zero n)))
 
   module _ (y : Yields t.found) where
     yields : Yields (step_in d xs w).found
-    yields = subst (λ (r : Stepped). Yields r.found) e y
+    yields = subst (λ (r : Stepped ℕ). Yields r.found) e y
 
     before-end : w.at < units_in d xs
     before-end = yields_inside d xs C w g.full yields

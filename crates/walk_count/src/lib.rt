@@ -6,9 +6,9 @@ ghost use Rattle.format.specs.Units.{domain, text, binary};
 ghost use Rattle.walk_state.specs.Walking.{start};
 ghost use Rattle.walk_tally.specs.Counting.{rest_in, text_tally, binary_tally};
 
-use format::Form;
+use format::{BinaryOffset, Form, TextOffset};
 use walk_state::{Found, Walk};
-use walk_tally::{BinaryTally, Tally, TextTally};
+use walk_tally::{Counted, Tally};
 
 // The items that are left from a state on, and what stops the walk.
 pub fn rest_in(form: Form, s: &[u8], walk: Walk) -> Tally
@@ -45,19 +45,19 @@ pub fn rest_in(form: Form, s: &[u8], walk: Walk) -> Tally
 // ---- a text
 
 // The items of a text that are left from a state on, and how the walk ends.
-pub fn rest_text(s: &[u8], walk: Walk) -> TextTally
+pub fn rest_text(s: &[u8], walk: Walk) -> Counted<TextOffset>
     ensures { result ≡ text_tally (rest_in text s.now walk) }
 {
     let t = rest_in(Form::Text, s, walk);
     let last = t.last;
-    TextTally {
+    Counted {
         items: t.items,
         end: walk_tally::text_end(last),
     }
 }
 
 // All the items of a text.
-pub fn items_text(s: &[u8]) -> TextTally
+pub fn items_text(s: &[u8]) -> Counted<TextOffset>
     ensures { result ≡ text_tally (rest_in text s.now start) }
 {
     rest_text(s, Walk::new())
@@ -66,19 +66,19 @@ pub fn items_text(s: &[u8]) -> TextTally
 // ---- a binary
 
 // The same of a binary.
-pub fn rest_binary(s: &[u8], walk: Walk) -> BinaryTally
+pub fn rest_binary(s: &[u8], walk: Walk) -> Counted<BinaryOffset>
     ensures { result ≡ binary_tally (rest_in binary s.now walk) }
 {
     let t = rest_in(Form::Binary, s, walk);
     let last = t.last;
-    BinaryTally {
+    Counted {
         items: t.items,
         end: walk_tally::binary_end(last),
     }
 }
 
 // All the items of a binary.
-pub fn items_binary(s: &[u8]) -> BinaryTally
+pub fn items_binary(s: &[u8]) -> Counted<BinaryOffset>
     ensures { result ≡ binary_tally (rest_in binary s.now start) }
 {
     rest_binary(s, Walk::new())

@@ -124,13 +124,13 @@ steps =
 
 -- ---- what it means
 
-abbrev expected : Expected → Walk → Stepped
+abbrev expected : Expected → Walk → Stepped ℕ
 expected (yields o n e k h next) w = record { next = next; found = F.Item o n e k h }
 expected (refuses m p) w = record { next = w; found = F.Refused m p }
 expected ends w = record { next = w; found = F.End }
 
 -- what the definition gives; to compute it is to open all of it
-unfoldable pub stepped : Domain → List ℕ → Walk → Stepped
+unfoldable pub stepped : Domain → List ℕ → Walk → Stepped ℕ
 unfolding given start all_below slot_fits is_fit closed moved_to opened past next_of stop_of judged framed_by frame_at step_fit step found_in step_in
 stepped d xs w = step_in d xs w
 

@@ -5,9 +5,9 @@ ghost use Rattle.std.specs.Prelude.{◌≡◌};
 ghost use Rattle.walk_state.specs.Walking.{text_item, binary_item};
 
 use format::{BinaryOffset, TextOffset};
-use walk_state::{BinaryItem, Found, TextItem};
+use walk_state::Found;
 
-pub fn text_item(found: Found) -> TextItem
+pub fn text_item(found: Found<usize>) -> Found<TextOffset>
     ensures { result ≡ text_item found }
 {
     match found {
@@ -17,22 +17,22 @@ pub fn text_item(found: Found) -> TextItem
             depth,
             kind,
             head,
-        } => TextItem::Item {
+        } => Found::Item {
             offset: TextOffset(offset),
             size: TextOffset(size),
             depth,
             kind,
             head,
         },
-        Found::Refused { number, place } => TextItem::Refused {
+        Found::Refused { number, place } => Found::Refused {
             number,
             place: TextOffset(place),
         },
-        Found::End => TextItem::End,
+        Found::End => Found::End,
     }
 }
 
-pub fn binary_item(found: Found) -> BinaryItem
+pub fn binary_item(found: Found<usize>) -> Found<BinaryOffset>
     ensures { result ≡ binary_item found }
 {
     match found {
@@ -42,17 +42,17 @@ pub fn binary_item(found: Found) -> BinaryItem
             depth,
             kind,
             head,
-        } => BinaryItem::Item {
+        } => Found::Item {
             offset: BinaryOffset(offset),
             size: BinaryOffset(size),
             depth,
             kind,
             head,
         },
-        Found::Refused { number, place } => BinaryItem::Refused {
+        Found::Refused { number, place } => Found::Refused {
             number,
             place: BinaryOffset(place),
         },
-        Found::End => BinaryItem::End,
+        Found::End => Found::End,
     }
 }

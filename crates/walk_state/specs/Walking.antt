@@ -18,12 +18,8 @@ use Rattle.walk_state.specs.declared.Walk.{Walk}
 use Rattle.walk_state.specs.declared.Found.{Found}
 use Rattle.walk_state.specs.declared.Found.TheVariants as F
 use Rattle.walk_state.specs.declared.Stepped.{Stepped}
-use Rattle.walk_state.specs.declared.TextItem.{TextItem}
-use Rattle.walk_state.specs.declared.TextItem.TheVariants as T
-use Rattle.walk_state.specs.declared.TextStep.{TextStep}
-use Rattle.walk_state.specs.declared.BinaryItem.{BinaryItem}
-use Rattle.walk_state.specs.declared.BinaryItem.TheVariants as B
-use Rattle.walk_state.specs.declared.BinaryStep.{BinaryStep}
+use Rattle.format.specs.declared.TextOffset.{TextOffset}
+use Rattle.format.specs.declared.BinaryOffset.{BinaryOffset}
 
 -- none open, at the stream's start
 unfoldable pub start : Walk
@@ -95,12 +91,12 @@ unfoldable pub stop_of : Walk → ℕ → ℕ
 stop_of w n = pick (eqb w.depth 0) n (get_or w.ends (w.depth - 1) 0)
 
 -- "At a refusal or the end the state stays as it was."
-unfoldable pub judged : Walk → Kind → ℕ → ℕ → Verdict → Stepped
+unfoldable pub judged : Walk → Kind → ℕ → ℕ → Verdict → Stepped ℕ
 judged w k h n (Refused m p) = record { next = w; found = F.Refused m (4 * w.at + p) }
 judged w k h n Accepted = record { next = next_of w k h n; found = F.Item w.at n w.depth k h }
 
 -- of a group it judges only 11, and 18 by 02 h
-unfoldable pub framed_by : List ℕ → Walk → Framed → Stepped
+unfoldable pub framed_by : List ℕ → Walk → Framed → Stepped ℕ
 framed_by s w (Unframed m p) = record { next = w; found = F.Refused m (4 * w.at + p) }
 framed_by s w (Item k h n) = judged w k h n (judge_kind k h (slice (4 * w.at) (4 * (w.at + n)) s) (own_check (max_depth - w.depth)))
 
@@ -109,40 +105,40 @@ unfoldable pub frame_at : Walk → List ℕ → Framed
 frame_at w part = frame_next w.indexed (pick (eqb w.depth 0) true w.first) part
 
 -- s: the sextets of n whole units; tail: elements of a unit that is not whole stand behind them, which is 4 there
-unfoldable pub step_fit : List ℕ → ℕ → Bool → Walk → Stepped
+unfoldable pub step_fit : List ℕ → ℕ → Bool → Walk → Stepped ℕ
 step_fit s n tail w =
     pick (eqb w.at n) (record { next = w; found = pick tail (F.Refused 4 (4 * n)) F.End })
     (framed_by s w (frame_at w (slice (4 * w.at) (4 * stop_of w n) s)))
 
-unfoldable pub step : List ℕ → ℕ → Bool → Walk → Stepped
+unfoldable pub step : List ℕ → ℕ → Bool → Walk → Stepped ℕ
 step s n tail w = pick (is_fit w n) (step_fit s n tail w) (record { next = w; found = F.Refused 13 0 })
 
 -- ---- text and binary: 1 before 13
 
 -- offset, size and place in elements, u to the unit
-unfoldable pub found_in : ℕ → Found → Found
+unfoldable pub found_in : ℕ → Found ℕ → Found ℕ
 found_in u (F.Item o n d k h) = F.Item (o * u) (n * u) d k h
 found_in u (F.Refused m p) = F.Refused m (p / 4 * u + p % 4)
 found_in u F.End = F.End
 
-unfoldable pub step_in : Domain → List ℕ → Walk → Stepped
+unfoldable pub step_in : Domain → List ℕ → Walk → Stepped ℕ
 step_in d xs w =
     pick (ltb d.limit (length xs)) (record { next = w; found = F.Refused 1 0 })
-    (let r : Stepped = step (d.sextets xs) (length xs / d.unit) (ltb 0 (length xs % d.unit)) w in
+    (let r : Stepped ℕ = step (d.sextets xs) (length xs / d.unit) (ltb 0 (length xs % d.unit)) w in
     record { next = r.next; found = found_in d.unit r.found })
 
-unfoldable pub text_item : Found → TextItem
-text_item (F.Item o n d k h) = T.Item (text_offset o) (text_offset n) d k h
-text_item (F.Refused m p) = T.Refused m (text_offset p)
-text_item F.End = T.End
+unfoldable pub text_item : Found ℕ → Found TextOffset
+text_item (F.Item o n d k h) = F.Item (text_offset o) (text_offset n) d k h
+text_item (F.Refused m p) = F.Refused m (text_offset p)
+text_item F.End = F.End
 
-unfoldable pub text_step : List ℕ → Walk → TextStep
-text_step xs w = let r : Stepped = step_in text xs w in record { next = r.next; found = text_item r.found }
+unfoldable pub text_step : List ℕ → Walk → Stepped TextOffset
+text_step xs w = let r : Stepped ℕ = step_in text xs w in record { next = r.next; found = text_item r.found }
 
-unfoldable pub binary_item : Found → BinaryItem
-binary_item (F.Item o n d k h) = B.Item (binary_offset o) (binary_offset n) d k h
-binary_item (F.Refused m p) = B.Refused m (binary_offset p)
-binary_item F.End = B.End
+unfoldable pub binary_item : Found ℕ → Found BinaryOffset
+binary_item (F.Item o n d k h) = F.Item (binary_offset o) (binary_offset n) d k h
+binary_item (F.Refused m p) = F.Refused m (binary_offset p)
+binary_item F.End = F.End
 
-unfoldable pub binary_step : List ℕ → Walk → BinaryStep
-binary_step xs w = let r : Stepped = step_in binary xs w in record { next = r.next; found = binary_item r.found }
+unfoldable pub binary_step : List ℕ → Walk → Stepped BinaryOffset
+binary_step xs w = let r : Stepped ℕ = step_in binary xs w in record { next = r.next; found = binary_item r.found }

@@ -8,7 +8,7 @@ ghost use Rattle.walk_state.specs.Walking.{start};
 ghost use Rattle.walk_state.specs.Moving.{finished, entered, step_over};
 ghost use Rattle.walk_state.specs.Lent.{walk_at, still_at, Closes, Moves};
 
-use format::{BinaryOffset, Kind, TextOffset};
+use format::Kind;
 use nesting::MAX_DEPTH;
 
 // ends: the ends of the open groups, outermost first, unused slots 0; depth: how many are open; at: the position; first: whether
@@ -32,73 +32,27 @@ pub struct Place {
 }
 
 // What a step finds. The code is the kind with the header's units, which tell small from large. Offset and size count units or, as
-// the definition says, elements of the stream.
+// the definition says, elements of the stream, or are a form's own offsets, which are never taken for the other's.
 #[derive(Clone, Copy)]
-pub enum Found {
+pub enum Found<P> {
     Item {
-        offset: usize,
-        size: usize,
+        offset: P,
+        size: P,
         depth: usize,
         kind: Kind,
         head: usize,
     },
     Refused {
         number: u8,
-        place: usize,
+        place: P,
     },
     End,
 }
 
 #[derive(Clone, Copy)]
-pub struct Stepped {
+pub struct Stepped<P> {
     pub next: Walk,
-    pub found: Found,
-}
-
-// The same in a text.
-#[derive(Clone, Copy)]
-pub enum TextItem {
-    Item {
-        offset: TextOffset,
-        size: TextOffset,
-        depth: usize,
-        kind: Kind,
-        head: usize,
-    },
-    Refused {
-        number: u8,
-        place: TextOffset,
-    },
-    End,
-}
-
-#[derive(Clone, Copy)]
-pub struct TextStep {
-    pub next: Walk,
-    pub found: TextItem,
-}
-
-// The same in a binary.
-#[derive(Clone, Copy)]
-pub enum BinaryItem {
-    Item {
-        offset: BinaryOffset,
-        size: BinaryOffset,
-        depth: usize,
-        kind: Kind,
-        head: usize,
-    },
-    Refused {
-        number: u8,
-        place: BinaryOffset,
-    },
-    End,
-}
-
-#[derive(Clone, Copy)]
-pub struct BinaryStep {
-    pub next: Walk,
-    pub found: BinaryItem,
+    pub found: Found<P>,
 }
 
 // ---- the next state, in lent slots

@@ -16,11 +16,10 @@ use Rattle.walk_claims.specs.Claims.{StreamClaims}
 use Rattle.walk_claims.proofs.Runs.{one_of}
 use Rattle.walk_claims.proofs.Proved as W
 use Rattle.walk_tally.specs.declared.Tally.{Tally}
-use Rattle.walk_tally.specs.declared.TextEnd.TheVariants as T
-use Rattle.walk_tally.specs.declared.BinaryEnd.TheVariants as B
 use Rattle.walk_tally.specs.Counting.{none, plus, run_in, rest_in, text_end, binary_end}
 use Rattle.walk_tally.proofs.Runs.{run-stopped, run-yields, run-stops}
 use Rattle.walk_tally.specs.Claims.{CountClaims, RestClaims, CountingClaims}
+use Rattle.std.specs.Prelude.{None}
 
 module _ (d : Domain) (xs : List ℕ) where
   -- k steps at most, from the state behind j
@@ -77,13 +76,13 @@ module _ (d : Domain) (xs : List ℕ) where
   unfolding rest_in
   rest-claims C = record { stops = λ w full. run-stops d xs C (units_in d xs) w full (omega arith) }
 
-text-end : (f : Found) → Stops f → text_end f ≡ T.End → f ≡ F.End
+text-end : (f : Found ℕ) → Stops f → text_end f ≡ None → f ≡ F.End
 unfolding text_end
 text-end (F.Item o n d k h) s e = absurd s
 text-end (F.Refused m p) s e = let z : ◌≡◌ {A = ℕ} 0 1 = cc in absurd (omega arith)
 text-end F.End s e = refl
 
-binary-end : (f : Found) → Stops f → binary_end f ≡ B.End → f ≡ F.End
+binary-end : (f : Found ℕ) → Stops f → binary_end f ≡ None → f ≡ F.End
 unfolding binary_end
 binary-end (F.Item o n d k h) s e = absurd s
 binary-end (F.Refused m p) s e = let z : ◌≡◌ {A = ℕ} 0 1 = cc in absurd (omega arith)

@@ -19,12 +19,12 @@ use Rattle.walk_claims.proofs.Yielding.{yields-fit, yields-full}
 use Rattle.walk_tally.specs.declared.Tally.{Tally}
 use Rattle.walk_tally.specs.Counting.{none, plus, on_item, run_in}
 
-on-stop : (f : Found) (t : Tally) → Stops f → on_item f t ≡ none f
+on-stop : (f : Found ℕ) (t : Tally) → Stops f → on_item f t ≡ none f
 on-stop (F.Item o n d k h) t s = absurd s
 on-stop (F.Refused m p) t s = refl
 on-stop F.End t s = refl
 
-on-yield : (f : Found) (t : Tally) → Yields f → on_item f t ≡ plus 1 t
+on-yield : (f : Found ℕ) (t : Tally) → Yields f → on_item f t ≡ plus 1 t
 on-yield (F.Item o n d k h) t y = refl
 on-yield (F.Refused m p) t y = absurd y
 on-yield F.End t y = absurd y

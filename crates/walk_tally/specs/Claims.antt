@@ -7,9 +7,8 @@ use Rattle.walk_state.specs.declared.Walk.{Walk}
 use Rattle.walk_state.specs.declared.Found.TheVariants as F
 use Rattle.walk_state.specs.Walking.{start}
 use Rattle.walk_claims.specs.Words.{units_in, found_at, Yields, Stops}
-use Rattle.walk_tally.specs.declared.TextEnd.TheVariants as T
-use Rattle.walk_tally.specs.declared.BinaryEnd.TheVariants as B
 use Rattle.walk_tally.specs.Counting.{rest_in, text_tally, binary_tally}
+use Rattle.std.specs.Prelude.{None}
 
 -- ---- of the walk of a stream, counted from the start
 
@@ -37,7 +36,7 @@ pub record CountingClaims : Type 0 where
   pub text-rest : (xs : List ℕ) → RestClaims text xs
   pub binary-rest : (xs : List ℕ) → RestClaims binary xs
   -- "or the end": where the rest of a walk is told to have ended, it has
-  pub text-end : (xs : List ℕ) (w : Walk) → length w.ends ≡ max_depth → (text_tally (rest_in text xs w)).end ≡ T.End
+  pub text-end : (xs : List ℕ) (w : Walk) → length w.ends ≡ max_depth → (text_tally (rest_in text xs w)).end ≡ None
       → (rest_in text xs w).last ≡ F.End
-  pub binary-end : (xs : List ℕ) (w : Walk) → length w.ends ≡ max_depth → (binary_tally (rest_in binary xs w)).end ≡ B.End
+  pub binary-end : (xs : List ℕ) (w : Walk) → length w.ends ≡ max_depth → (binary_tally (rest_in binary xs w)).end ≡ None
       → (rest_in binary xs w).last ≡ F.End

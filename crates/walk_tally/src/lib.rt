@@ -5,77 +5,47 @@
 ghost use Rattle.std.specs.Prelude.{◌≡◌};
 ghost use Rattle.walk_tally.specs.Counting.{text_end, binary_end};
 
-use format::{BinaryOffset, TextOffset};
+use format::{BinaryOffset, Refusal, TextOffset};
 use walk_state::Found;
 
 // last: what the step behind the items finds, which is none.
 #[derive(Clone, Copy)]
 pub struct Tally {
     pub items: usize,
-    pub last: Found,
+    pub last: Found<usize>,
 }
 
-// How a walk over a text ended.
+// The same in a form's own offsets. end: the refusal that stopped the walk; none where the stream ended.
 #[derive(Clone, Copy)]
-pub enum TextEnd {
-    End,
-    Refused { number: u8, place: TextOffset },
-}
-
-#[derive(Clone, Copy)]
-pub struct TextTally {
+pub struct Counted<P> {
     pub items: usize,
-    pub end: TextEnd,
+    pub end: Option<Refusal<P>>,
 }
 
-// No walk stops at an item.
-pub fn text_end(last: Found) -> TextEnd
+// How a walk over a text ended. No walk stops at an item.
+pub fn text_end(last: Found<usize>) -> Option<Refusal<TextOffset>>
     ensures { result ≡ text_end last }
 {
     match last {
-        Found::Item {
-            offset: _,
-            size: _,
-            depth: _,
-            kind: _,
-            head: _,
-        } => TextEnd::End,
+        Found::Item { .. } => None,
         Found::Refused { number, place } => {
             let at = TextOffset(place);
-            TextEnd::Refused { number, place: at }
+            Some(Refusal { number, place: at })
         }
-        Found::End => TextEnd::End,
+        Found::End => None,
     }
 }
 
-// How a walk over a binary ended.
-#[derive(Clone, Copy)]
-pub enum BinaryEnd {
-    End,
-    Refused { number: u8, place: BinaryOffset },
-}
-
-#[derive(Clone, Copy)]
-pub struct BinaryTally {
-    pub items: usize,
-    pub end: BinaryEnd,
-}
-
-pub fn binary_end(last: Found) -> BinaryEnd
+// The same of a binary.
+pub fn binary_end(last: Found<usize>) -> Option<Refusal<BinaryOffset>>
     ensures { result ≡ binary_end last }
 {
     match last {
-        Found::Item {
-            offset: _,
-            size: _,
-            depth: _,
-            kind: _,
-            head: _,
-        } => BinaryEnd::End,
+        Found::Item { .. } => None,
         Found::Refused { number, place } => {
-            let at = BinaryOffset(place);
-            BinaryEnd::Refused { number, place: at }
+            let place = BinaryOffset(place);
+            Some(Refusal { number, place })
         }
-        Found::End => BinaryEnd::End,
+        Found::End => None,
     }
 }
