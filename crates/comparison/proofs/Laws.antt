@@ -1,8 +1,8 @@
 -- Laws of the count of passes and of the call, one for each way through the code. Assumes nothing.
 use Prim.Native.Nat.{ℕ, zero, suc, ◌+◌, ◌-◌, ◌*◌, ◌≤◌, ◌<◌, min}
-use mathlib.Core.Path.{◌≡◌, refl, sym, ap, ◌∙◌, subst}
+use mathlib.Core.Path.{◌≡◌, refl, sym, ap, ◌∙◌}
 use mathlib.Core.List.{List}
-use mathlib.Core.Bool.{Bool, true, false, not}
+use mathlib.Core.Bool.{Bool, false}
 use mathlib.Core.Logic.{⊎_elim}
 use native.Mathlib.Omega.{arith}
 use lib.ListN.{length, get_or, drop}
@@ -10,9 +10,9 @@ use lib.Seq.{get_or-drop}
 use borrow.Author.Tests.{lt-ltb, le-ltb, eq-eqb, ne_eqb}
 use Rattle.base.specs.Pick.{pick}
 use Rattle.base.specs.Cases.{lt-or-ge}
-use Rattle.comparison.specs.declared.Compared.{Compared}
-use Rattle.expectation.specs.declared.Said.{Said}
-use Rattle.expectation.specs.declared.Said.TheVariants as S
+use Rattle.std.specs.Prelude.{None, Some, Option, eqb}
+use Rattle.std.specs.Option.{option_eq}
+use Rattle.expectation.specs.declared.Verdicts as V
 use Rattle.expectation.specs.Expectation.{Verdicts, malformed, verdicts, column}
 use Rattle.expectation.specs.Expectation.{expected, reported}
 use Rattle.comparison.specs.Comparing.{passed, failed, agree, counted, refused, compared_by, compared}
@@ -118,41 +118,30 @@ module _ (file rep : List ℕ) (n m b k : ℕ) (w : b ≡ min n m) (e : (k ≡ c
 
 -- ---- remainders, and the call
 
-pub not_left : (number : ℕ) (over : Bool) (last : ℕ) → not over ≡ agree (number_if false number) (number_if over last)
+-- two remainders are equal exactly where their numbers agree
+pub same_agree : (a b : Option ℕ) → option_eq eqb a b ≡ agree (number_if a) (number_if b)
 unfolding agree
-not_left number true last = refl
-not_left number false last = refl
+same_agree None None = refl
+same_agree None (Some n) = refl
+same_agree (Some m) None = refl
+same_agree (Some m) (Some n) = refl
 
 no-verdicts : (a : Verdicts) → compared_by a malformed ≡ refused
 unfolding compared_by
 no-verdicts malformed = refl
-no-verdicts (verdicts vs left) = refl
+no-verdicts (verdicts _ left) = refl
 
-module _ (file rep : List ℕ) (wanted : Said) (x : Says (expected file) file 1 0 wanted) where
-  pub no-file : wanted ≡ S.Malformed → (r : Compared) → r ≡ refused → r ≡ compared file rep
+module _ (file rep : List ℕ) where
+  pub no-file : Says (expected file) file 1 0 None → refused ≡ compared file rep
   unfolding compared compared_by
-  no-file q r e = let z : expected file ≡ malformed = subst (Says (expected file) file 1 0) q x in rw (e, z)
+  no-file e = rw e
 
-module _ (file rep : List ℕ) (found : Said) (y : Says (reported rep) rep 9 8 found) where
-  pub no-report : found ≡ S.Malformed → (r : Compared) → r ≡ refused → r ≡ compared file rep
+  pub no-report : Says (reported rep) rep 9 8 None → refused ≡ compared file rep
   unfolding compared
-  no-report q r e =
-      let z : reported rep ≡ malformed = subst (Says (reported rep) rep 9 8) q y in
-      rw (e, z) (sym (no-verdicts (expected file)))
+  no-report e = rw e (sym (no-verdicts (expected file)))
 
--- a file that says so much is so long
-pub long-enough : (told : Verdicts) (s : List ℕ) (width j : ℕ) (said : Said) → Says told s width j said
-    → (n number : ℕ) (left : Bool) → said ≡ S.Verdicts n left number → 4 + width * n ≤ length s
-long-enough told s width j said x n number left q =
-    let z : Says told s width j (S.Verdicts n left number) = subst (Says told s width j) q x in
-    z.0
-
-module _ (file rep : List ℕ) (wanted found : Said) (x : Says (expected file) file 1 0 wanted) (y : Says (reported rep) rep 9 8 found)
-    (n m number last : ℕ) (left over : Bool) (p : wanted ≡ S.Verdicts n left number) (q : found ≡ S.Verdicts m over last) where
-  pub both_say : (g : Bool) → g ≡ agree (number_if left number) (number_if over last) → (r : Compared)
-      → r ≡ counted (column 1 0 n (drop 4 file)) (column 9 8 m (drop 4 rep)) g → r ≡ compared file rep
+  pub both_say : (v w : V.Verdicts) → Says (expected file) file 1 0 (Some v) → Says (reported rep) rep 9 8 (Some w)
+      → (g : Bool) → g ≡ agree (number_if v.remainder) (number_if w.remainder)
+      → counted (column 1 0 v.items (drop 4 file)) (column 9 8 w.items (drop 4 rep)) g ≡ compared file rep
   unfolding compared compared_by
-  both_say g a r e =
-      let said : Says (expected file) file 1 0 (S.Verdicts n left number) = subst (Says (expected file) file 1 0) p x in
-      let told : Says (reported rep) rep 9 8 (S.Verdicts m over last) = subst (Says (reported rep) rep 9 8) q y in
-      rw (e, a, said.1, told.1)
+  both_say v w x y g a = rw (a, x.1, y.1)

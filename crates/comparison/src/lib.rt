@@ -8,8 +8,6 @@ ghost use Rattle.comparison.specs.Words.{count};
 ghost use Rattle.expectation.specs.Bytes.{number_if};
 ghost use Rattle.comparison.specs.Passing.{alike};
 
-use expectation::Said;
-
 // What a comparison answers: 0, or 20 and its place; of the verdicts expected those that passed, failed or were not reached; the items
 // beyond them; and whether the remainders agree.
 #[derive(Clone, Copy)]
@@ -37,16 +35,10 @@ fn passes(file: &[u8], report: &[u8], n: usize) -> usize
     k
 }
 
-fn agreed(left: bool, number: u8, over: bool, found: u8) -> bool
-    ensures { result ≡ agree (number_if left number) (number_if over found) }
+fn agreed(wanted: Option<u8>, found: Option<u8>) -> bool
+    ensures { result ≡ agree (number_if wanted) (number_if found) }
 {
-    if left {
-        if over {
-            return number == found;
-        }
-        return false;
-    }
-    !over
+    wanted == found
 }
 
 // Verdicts compared: so many expected and so many reported, and whether the remainders agree.
@@ -85,24 +77,12 @@ fn malformed() -> Compared
 pub fn compare(file: &[u8], report: &[u8]) -> Compared
     ensures { result ≡ compared file.now report.now }
 {
-    let wanted = expectation::of_file(file);
-    let found = expectation::of_report(report);
-    match wanted {
-        Said::Malformed => malformed(),
-        Said::Verdicts {
-            items,
-            left,
-            number,
-        } => match found {
-            Said::Malformed => malformed(),
-            Said::Verdicts {
-                items: there,
-                left: over,
-                number: last,
-            } => {
-                let agree = agreed(left, number, over, last);
-                counts(file, report, items, there, agree)
-            }
-        },
-    }
+    let Some(wanted) = expectation::of_file(file) else {
+        return malformed();
+    };
+    let Some(found) = expectation::of_report(report) else {
+        return malformed();
+    };
+    let agree = agreed(wanted.remainder, found.remainder);
+    counts(file, report, wanted.items, found.items, agree)
 }

@@ -10,9 +10,9 @@ ghost use Rattle.expectation.specs.Bytes.{At, EndAt, Says};
 
 // How many rows a section has, and where it ends.
 #[derive(Clone, Copy)]
-enum Laid {
-    Short,
-    Rows { count: usize, end: usize },
+struct Section {
+    count: usize,
+    end: usize,
 }
 
 // Four bytes as a number, most significant first.
@@ -29,97 +29,73 @@ fn count_at(s: &[u8], at: usize) -> usize
     quad(s[at], s[at + 1], s[at + 2], s[at + 3])
 }
 
-// The section from a position on, with rows of so many bytes.
-fn section_at(s: &[u8], from: usize, width: usize) -> Laid
+// The section from a position on, with rows of so many bytes; none where the bytes are too few.
+fn section_at(s: &[u8], from: usize, width: usize) -> Option<Section>
     requires { (from ≤ length s.now) × (width ≤ 9) }
     ensures { At s.now from width result }
 {
     let left = s.len() - from;
     if left < 4 {
-        return Laid::Short;
+        return None;
     }
     let count = count_at(s, from);
     let size = width * count;
     if left - 4 < size {
-        return Laid::Short;
+        return None;
     }
-    Laid::Rows {
+    Some(Section {
         count,
         end: from + 4 + size,
-    }
+    })
 }
 
 // ---- what a file says
 
-// How many verdicts, and whether there is a remainder and its number.
+// How many verdicts, and the number of a remainder, if there is one.
 #[derive(Clone, Copy)]
-pub enum Said {
-    Malformed,
-    Verdicts {
-        items: usize,
-        left: bool,
-        number: u8,
-    },
+pub struct Verdicts {
+    pub items: usize,
+    pub remainder: Option<u8>,
 }
 
 // The last section, of at most one row of so many bytes with the number last, which ends the file. items: the verdicts before it.
-fn last_section(s: &[u8], from: usize, width: usize, items: usize) -> Said
+fn last_section(s: &[u8], from: usize, width: usize, items: usize) -> Option<Verdicts>
     requires { (from ≤ length s.now) × (0 < width) × (width ≤ 9) }
     ensures { EndAt s.now from width items result }
 {
-    let laid = section_at(s, from, width);
-    match laid {
-        Laid::Short => Said::Malformed,
-        Laid::Rows { count, end } => {
-            if end != s.len() {
-                return Said::Malformed;
-            }
-            if 1 < count {
-                return Said::Malformed;
-            }
-            if count == 0 {
-                return Said::Verdicts {
-                    items,
-                    left: false,
-                    number: 0,
-                };
-            }
-            Said::Verdicts {
-                items,
-                left: true,
-                number: s[end - 1],
-            }
-        }
+    let Section { count, end } = section_at(s, from, width)?;
+    if end != s.len() {
+        return None;
     }
+    if 1 < count {
+        return None;
+    }
+    if count == 0 {
+        return Some(Verdicts {
+            items,
+            remainder: None,
+        });
+    }
+    Some(Verdicts {
+        items,
+        remainder: Some(s[end - 1]),
+    })
 }
 
-// An expectation file: verdicts of one byte, then a remainder's number.
-pub fn of_file(file: &[u8]) -> Said
+// An expectation file: verdicts of one byte, then a remainder's number. None where it is malformed.
+pub fn of_file(file: &[u8]) -> Option<Verdicts>
     ensures { Says (expected file.now) file.now 1 0 result }
 {
-    let laid = section_at(file, 0, 1);
-    match laid {
-        Laid::Short => Said::Malformed,
-        Laid::Rows { count, end } => last_section(file, end, 1, count),
-    }
+    let verdicts = section_at(file, 0, 1)?;
+    last_section(file, verdicts.end, 1, verdicts.count)
 }
 
-// A report: items of nine bytes with the verdict last, refusals of nine, a remainder of five with the number last.
-pub fn of_report(report: &[u8]) -> Said
+// A report: items of nine bytes with the verdict last, refusals of nine, a remainder of five with the number last. None where it is
+// malformed.
+pub fn of_report(report: &[u8]) -> Option<Verdicts>
     ensures { Says (reported report.now) report.now 9 8 result }
 {
-    let laid = section_at(report, 0, 9);
-    match laid {
-        Laid::Short => Said::Malformed,
-        Laid::Rows { count, end } => {
-            let refusals = section_at(report, end, 9);
-            match refusals {
-                Laid::Short => Said::Malformed,
-                Laid::Rows {
-                    count: _,
-                    end: behind,
-                } => last_section(report, behind, 5, count),
-            }
-        }
-    }
+    let items = section_at(report, 0, 9)?;
+    let refusals = section_at(report, items.end, 9)?;
+    last_section(report, refusals.end, 5, items.count)
 }

@@ -1,16 +1,18 @@
 -- Laws of the verdicts that are looked at in turn, and of the answer, one for each way through the code. Assumes nothing.
 use Prim.Native.Nat.{ℕ, suc, ◌+◌, ◌-◌, ◌*◌, ◌≤◌, ◌<◌}
-use mathlib.Core.Path.{◌≡◌, sym, ap, ◌∙◌, subst}
+use mathlib.Core.Path.{◌≡◌, refl, sym, ap, ◌∙◌}
 use mathlib.Core.List.{List}
 use mathlib.Core.Bool.{Bool, true, false}
 use native.Mathlib.Omega.{arith}
 use lib.ListN.{length, get_or, drop}
 use lib.Seq.{get_or-drop, drop-drop}
 use borrow.Author.Tests.{eq-eqb, ne_eqb}
-use Rattle.expectation.specs.declared.Said.{Said}
-use Rattle.expectation.specs.declared.Said.TheVariants as S
-use Rattle.expectation.specs.Bytes.{Says}
-use Rattle.expectation.specs.Expectation.{malformed, column, reported}
+use Rattle.std.specs.Prelude.{None, Some, Option}
+use Rattle.std.specs.Option.{is_some}
+use Rattle.base.specs.Pick.{pick}
+use Rattle.expectation.specs.declared.Verdicts as V
+use Rattle.expectation.specs.Bytes.{number_if, Says}
+use Rattle.expectation.specs.Expectation.{verdicts, column, reported}
 use Rattle.comparison.proofs.Counting.{column-length}
 use Rattle.passing.specs.Passing.{are_accepted, passed_of, passed_by, passed_in}
 use Rattle.passing.specs.Looked.{Looked}
@@ -67,27 +69,19 @@ module _ (rep : List ℕ) (n : ℕ) where
   unfolding passed_of
   by-verdicts h p q r e = rw (as_many, ne_eqb n 0 p, eq-eqb (length rep) (12 + 9 * n) (omega arith)) e
 
--- a report that says so much is so long
-pub long-enough : (rep : List ℕ) (said : Said) → Says (reported rep) rep 9 8 said → (n number : ℕ) (left : Bool)
-    → said ≡ S.Verdicts n left number → 4 + 9 * n ≤ length rep
-long-enough rep said x n number left q =
-    let z : Says (reported rep) rep 9 8 (S.Verdicts n left number) = subst (Says (reported rep) rep 9 8) q x in
-    z.0
+-- a remainder decides before the verdicts do
+by_remainder : (size : ℕ) (vs : List ℕ) (r : Option ℕ)
+    → record { number = 0; passed = pick (is_some r) false (passed_of size vs) } ≡ passed_by size (verdicts vs (number_if r))
+unfolding passed_by
+by_remainder size vs None = refl
+by_remainder size vs (Some n) = refl
 
-module _ (rep : List ℕ) (said : Said) (x : Says (reported rep) rep 9 8 said) where
-  pub no-report : said ≡ S.Malformed → record { number = 20; passed = false } ≡ passed_in rep
+module _ (rep : List ℕ) where
+  pub no-report : Says (reported rep) rep 9 8 None → record { number = 20; passed = false } ≡ passed_in rep
   unfolding passed_in passed_by
-  no-report q = let z : reported rep ≡ malformed = subst (Says (reported rep) rep 9 8) q x in rw z
+  no-report e = rw e
 
-  module _ (n number : ℕ) (left : Bool) (q : said ≡ S.Verdicts n left number) where
-    told : Says (reported rep) rep 9 8 (S.Verdicts n left number)
-    told = subst (Says (reported rep) rep 9 8) q x
-
-    pub left_over : left ≡ true → record { number = 0; passed = false } ≡ passed_in rep
-    unfolding passed_in passed_by
-    left_over e = rw (told.1, e)
-
-    pub nothing_left : left ≡ false → (r : Bool) → r ≡ passed_of (length rep) (column 9 8 n (drop 4 rep))
-        → record { number = 0; passed = r } ≡ passed_in rep
-    unfolding passed_in passed_by
-    nothing_left e r p = rw (told.1, e, p)
+  pub by-report : (v : V.Verdicts) → Says (reported rep) rep 9 8 (Some v) → (b : Bool) → b ≡ is_some v.remainder
+      → record { number = 0; passed = pick b false (passed_of (length rep) (column 9 8 v.items (drop 4 rep))) } ≡ passed_in rep
+  unfolding passed_in
+  by-report v told b e = rw (told.1, e) (by_remainder (length rep) (column 9 8 v.items (drop 4 rep)) v.remainder)

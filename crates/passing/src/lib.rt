@@ -5,8 +5,6 @@ ghost use Rattle.std.specs.Prelude.{◌≡◌, ◌+◌, ◌*◌, ◌≤◌, leng
 ghost use Rattle.expectation.specs.Expectation.{column};
 ghost use Rattle.passing.specs.Passing.{are_accepted, passed_of, passed_in};
 
-use expectation::Said;
-
 // 0, and whether it passed; or 20, and then it did not.
 #[derive(Clone, Copy)]
 pub struct Outcome {
@@ -45,25 +43,18 @@ fn is_passed(report: &[u8], n: usize) -> bool
 pub fn passed(report: &[u8]) -> Outcome
     ensures { result ≡ passed_in report.now }
 {
-    let said = expectation::of_report(report);
-    match said {
-        Said::Malformed => Outcome {
+    let Some(verdicts) = expectation::of_report(report) else {
+        return Outcome {
             number: 20,
             passed: false,
-        },
-        Said::Verdicts {
-            items,
-            left,
-            number: _,
-        } => {
-            if left {
-                return Outcome {
-                    number: 0,
-                    passed: false,
-                };
-            }
-            let passed = is_passed(report, items);
-            Outcome { number: 0, passed }
-        }
+        };
+    };
+    if verdicts.remainder.is_some() {
+        return Outcome {
+            number: 0,
+            passed: false,
+        };
     }
+    let passed = is_passed(report, verdicts.items);
+    Outcome { number: 0, passed }
 }

@@ -1,15 +1,13 @@
 -- `passed` meets its contract. Assumes nothing.
-use Rattle.passing.proofs.Laws.{long-enough, no-report, left_over, nothing_left}
+use mathlib.Core.Bool.{true, false}
+use Rattle.passing.proofs.Laws.{no-report, by-report}
 use Rattle.passing.proofs.passed.Goals as goal
 
-pub returns-then-left : goal.returns-then-left
-returns-then-left c = search left_over
+pub returns-in_default : goal.returns-in_default
+returns-in_default c = no-report _ c.in_default.ensures
 
-pub is_passed-passed-requires : goal.is_passed-passed-requires
-is_passed-passed-requires c = search long-enough
+pub returns-then-is_some : goal.returns-then-is_some
+returns-then-is_some c = by-report _ _ c.in-Some.ensures true c.if-is_some.ensures
 
-pub returns-in-Malformed : goal.returns-in-Malformed
-returns-in-Malformed c = search no-report
-
-pub returns-else-left : goal.returns-else-left
-returns-else-left c = search nothing_left
+pub returns : goal.returns
+returns c = rw c.is_passed-passed.ensures (by-report _ _ c.in-Some.ensures false c.if-is_some.ensures)
