@@ -6,35 +6,41 @@ ghost use Rattle.format.specs.Indexed.{row, named_index};
 ghost use Rattle.indexed_fit.specs.Digits.{Few};
 ghost use Rattle.indexed_code.specs.Plan.{plan_of};
 
-use format::{IndexCode, IndexRow};
-use indexed_name::Named;
+use format::{IndexCode, IndexRow, Refusal};
 
-// What is to be written, or a number. Its room is asked later, by who writes it.
-#[derive(Clone, Copy)]
-pub enum Planned {
-    Refused(u8),
-    Row(IndexRow),
-}
-
-fn plan_row(c: IndexRow, index: usize, ondex: usize, raw: usize) -> Planned
+fn plan_row(c: IndexRow, index: usize, ondex: usize, raw: usize) -> Result<IndexRow, Refusal<usize>>
     ensures { Few c → result ≡ plan_of (row c) index ondex raw }
 {
     if !indexed_fit::is_fit(c, index, ondex, raw) {
-        return Planned::Refused(12);
+        return Err(Refusal {
+            number: 12,
+            place: 0,
+        });
     }
     if !indexed_fit::ondex_right(c, ondex) {
-        return Planned::Refused(15);
+        return Err(Refusal {
+            number: 15,
+            place: 0,
+        });
     }
-    Planned::Row(c)
+    Ok(c)
 }
 
-// Of a raw value of so many bytes.
-pub fn plan(code: IndexCode, index: usize, ondex: usize, raw: usize) -> Planned
+// Of a raw value of so many bytes. Its room is asked later, by who writes it.
+pub fn plan(
+    code: IndexCode,
+    index: usize,
+    ondex: usize,
+    raw: usize,
+) -> Result<IndexRow, Refusal<usize>>
     ensures { result ≡ plan_of (named_index code) index ondex raw }
 {
     let named = indexed_name::name_of(code);
     match named {
-        Named::Unknown => Planned::Refused(6),
-        Named::Row(c) => plan_row(c, index, ondex, raw),
+        None => Err(Refusal {
+            number: 6,
+            place: 0,
+        }),
+        Some(c) => plan_row(c, index, ondex, raw),
     }
 }

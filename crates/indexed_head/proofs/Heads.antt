@@ -1,31 +1,29 @@
 -- The first bytes are format's, of every row of the table, and the raw value that the row holds ends the item: computed row by row.
 -- Assumes nothing.
-use Prim.Native.Nat.{ℕ, ◌+◌, ◌-◌, ◌*◌, ◌/◌, ◌%◌, ◌<◌, ◌≤◌}
+use Prim.Native.Nat.{ℕ, ◌-◌, ◌*◌, ◌/◌}
 use mathlib.Core.Path.{◌≡◌, refl, sym, ap, ◌∙◌}
 use mathlib.Core.List.{List, [], ◌∷◌, ◌++◌}
 use mathlib.Core.Bool.{Bool, true}
 use native.Mathlib.Nat.{div-one}
 use native.Mathlib.Omega.{arith}
 use borrow.Author.Tests.{eqb-true}
-use lib.Dec.{eqb, ltb}
+use lib.Dec.{eqb}
 use lib.ListN.{length, take, get_or}
-use Rattle.base.specs.Pick.{pick, pick-by}
+use Rattle.base.specs.Pick.{pick-by}
 use Rattle.base.specs.Lists.{list3}
 use Rattle.base.specs.Each.{each}
 use Rattle.format.specs.declared.IndexRow.{IndexRow}
 use Rattle.format.specs.declared.IndexCode.{IndexCode}
-use Rattle.format.specs.declared.Kind.TheVariants.{Indexed}
 use Rattle.format.specs.Units.{bytes_of}
 use Rattle.format.specs.Registry.{letter_indexed, zero_indexed, two_indexed, three_indexed, indexed_codes, index_head}
 use Rattle.format.specs.Judging.{ondex_right}
 use Rattle.format.specs.Values.{bytes_in, raw_start}
 use Rattle.format.specs.Writing.{Writing}
 use Rattle.format.specs.Indexed.{IndexNamed, none, row, is_code_of, named_index_among, named_index, indexed_raw_size, fits_indexed}
-use Rattle.format.specs.Indexed.{index_code, index_header, index_prefix, indexed_bytes, writing_indexed, written_indexed}
-use Rattle.laws.specs.Units.{bytes-size}
+use Rattle.format.specs.Indexed.{index_code, index_header, index_prefix, indexed_bytes, writing_indexed}
 use Rattle.writing_raw.specs.Item.{Sized, raw_item, room_for}
-use Rattle.indexed_code.specs.declared.Planned.{Planned}
-use Rattle.indexed_code.specs.declared.Planned.TheVariants as P
+use Rattle.std.specs.Prelude.{Ok, Err, Result}
+use Rattle.format.specs.declared.Refusal.{Refusal}
 use Rattle.indexed_code.specs.Plan.{plan_of}
 use Rattle.indexed_head.specs.Heads.{first_unit, second_unit, head_bytes}
 
@@ -104,9 +102,9 @@ pub record Ready (n : IndexNamed) (index ondex : ℕ) (raw : List ℕ) (c : Inde
   pub size : Sized (length raw) (c.size / 4)
   pub bytes : indexed_bytes n index ondex raw ≡ raw_item (c.size / 4) (head_bytes c index ondex) raw
 
-abbrev pub Told : IndexNamed → ℕ → ℕ → List ℕ → Planned → Type 0
-Told n index ondex raw (P.Refused m) = (u room : ℕ) → writing_indexed u n index ondex (length raw) room ≡ Writing.refused m 0
-Told n index ondex raw (P.Row c) = Ready n index ondex raw c
+abbrev pub Told : IndexNamed → ℕ → ℕ → List ℕ → Result IndexRow (Refusal ℕ) → Type 0
+Told n index ondex raw (Err e) = (u room : ℕ) → writing_indexed u n index ondex (length raw) room ≡ Writing.refused e.number e.place
+Told n index ondex raw (Ok c) = Ready n index ondex raw c
 
 -- 12 is asked of the raw length first
 fit-raw : (c : IndexRow) (index ondex raw : ℕ) → fits_indexed c index ondex raw ≡ true → raw ≡ indexed_raw_size c
@@ -134,6 +132,6 @@ told-by (row c) index ondex raw d =
     (λ f. pick-by (Told (row c) index ondex raw) (ondex_right c ondex) _ _ (λ o. row-ready c index ondex raw d f o) (λ o. λ u room. rw (f, o)))
     (λ f. λ u room. rw f)
 
-pub told : (code : IndexCode) (index ondex : ℕ) (raw : List ℕ) (p : Planned) → p ≡ plan_of (named_index code) index ondex (length raw)
+pub told : (code : IndexCode) (index ondex : ℕ) (raw : List ℕ) (p : Result IndexRow (Refusal ℕ)) → p ≡ plan_of (named_index code) index ondex (length raw)
     → Told (named_index code) index ondex raw p
 told code index ondex raw p e = rw e (told-by (named_index code) index ondex raw (divides code))

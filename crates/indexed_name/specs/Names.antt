@@ -1,18 +1,17 @@
 -- The indexed code that is named, by the table of sextets. Assumes nothing.
-use Rattle.std.specs.Prelude.{ℕ, eqb}
+use Rattle.std.specs.Prelude.{ℕ, eqb, None, Some, Option}
 use Rattle.base.specs.Pick.{pick}
+use Rattle.format.specs.declared.IndexRow.{IndexRow}
 use Rattle.format.specs.declared.Kind.{Kind}
 use Rattle.format.specs.declared.Kind.TheVariants.{Fixed, Variable, Group, Genus, Indexed}
 use Rattle.format.specs.declared.Opening.{Opening}
 use Rattle.format.specs.declared.Opening.TheVariants.{Unknown, Short, Long, LargeVariable, LargeGroup, Version}
 use Rattle.format.specs.Alphabet.{sextet_of}
 use Rattle.format.specs.Indexed.{IndexNamed, none, row}
-use Rattle.indexed_name.specs.declared.Named.{Named}
-use Rattle.indexed_name.specs.declared.Named.TheVariants as N
 
-unfoldable pub as_named : Named → IndexNamed
-as_named N.Unknown = none
-as_named (N.Row c) = row c
+unfoldable pub as_named : Option IndexRow → IndexNamed
+as_named None = none
+as_named (Some c) = row c
 
 -- ---- by sextets
 

@@ -7,13 +7,6 @@ ghost use Rattle.indexed_name.specs.Names.{as_named, selector_of, row_of, row_in
 
 use format::{IndexCode, IndexRow, Kind, Opening};
 
-// A code that is an indexed item's, or none.
-#[derive(Clone, Copy)]
-pub enum Named {
-    Unknown,
-    Row(IndexRow),
-}
-
 // A caller's selector as the table has it, 0 where the letter stands alone. `A`, whose sextet is 0 too, is no selector.
 fn selector_of(c: u8) -> u8
     ensures { result ≡ selector_of c }
@@ -25,39 +18,39 @@ fn selector_of(c: u8) -> u8
     if v == 0 { 64 } else { v }
 }
 
-fn row_of(kind: Kind) -> Named
+fn row_of(kind: Kind) -> Option<IndexRow>
     ensures { as_named result ≡ row_of kind }
 {
     match kind {
-        Kind::Fixed(_) => Named::Unknown,
+        Kind::Fixed(_) => None,
         Kind::Variable {
             letter: _,
             lead: _,
             count: _,
-        } => Named::Unknown,
-        Kind::Group { letter: _ } => Named::Unknown,
-        Kind::Genus => Named::Unknown,
-        Kind::Indexed(c) => Named::Row(c),
+        } => None,
+        Kind::Group { letter: _ } => None,
+        Kind::Genus => None,
+        Kind::Indexed(c) => Some(c),
     }
 }
 
-fn row_in(op: Opening) -> Named
+fn row_in(op: Opening) -> Option<IndexRow>
     ensures { as_named result ≡ row_in op }
 {
     match op {
-        Opening::Unknown => Named::Unknown,
+        Opening::Unknown => None,
         Opening::Short { kind, size: _ } => row_of(kind),
         Opening::Long { kind, size: _ } => row_of(kind),
-        Opening::LargeVariable { letter: _, lead: _ } => Named::Unknown,
+        Opening::LargeVariable { letter: _, lead: _ } => None,
         Opening::LargeGroup {
             letter: _,
             digit: _,
-        } => Named::Unknown,
-        Opening::Version => Named::Unknown,
+        } => None,
+        Opening::Version => None,
     }
 }
 
-pub fn name_of(code: IndexCode) -> Named
+pub fn name_of(code: IndexCode) -> Option<IndexRow>
     ensures { as_named result ≡ named_index code }
 {
     let selector = selector_of(code.selector);

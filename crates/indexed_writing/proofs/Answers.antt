@@ -18,20 +18,20 @@ use Rattle.format.specs.declared.TextOffset.{TextOffset}
 use Rattle.format.specs.declared.BinaryOffset.{BinaryOffset}
 
 module _ (code : IndexCode) (index ondex : ℕ) (raw d : List ℕ) where
-  pub binary-refused : (m : ℕ) → ((u room : ℕ) → writing_indexed u (named_index code) index ondex (length raw) room ≡ refused m 0)
-      → (refused_by m 0 ≡ write_indexed_binary code index ondex raw (length d)) × (d ≡ binary_indexed_left (refused_by m 0) code index ondex raw d)
+  pub binary-refused : (m p : ℕ) → ((u room : ℕ) → writing_indexed u (named_index code) index ondex (length raw) room ≡ refused m p)
+      → (refused_by m p ≡ write_indexed_binary code index ondex raw (length d)) × (d ≡ binary_indexed_left (refused_by m p) code index ondex raw d)
   unfolding write_indexed_binary binary_outcome binary_indexed_left
-  binary-refused m t = (rw (t 3 (length d)), refl)
+  binary-refused m p t = (rw (t 3 (length d)), refl)
 
   binary-left : (w : Writing) → binary_in w (written_indexed code index ondex raw) d ≡ binary_indexed_left (binary_outcome w) code index ondex raw d
   unfolding binary_outcome binary_indexed_left
   binary-left (refused m p) = refl
   binary-left (written k) = refl
 
-  pub text-refused : (m : ℕ) → ((u room : ℕ) → writing_indexed u (named_index code) index ondex (length raw) room ≡ refused m 0)
-      → (refused_by m 0 ≡ write_indexed_text code index ondex raw (length d)) × (d ≡ text_indexed_left (refused_by m 0) code index ondex raw d)
+  pub text-refused : (m p : ℕ) → ((u room : ℕ) → writing_indexed u (named_index code) index ondex (length raw) room ≡ refused m p)
+      → (refused_by m p ≡ write_indexed_text code index ondex raw (length d)) × (d ≡ text_indexed_left (refused_by m p) code index ondex raw d)
   unfolding write_indexed_text text_outcome text_indexed_left
-  text-refused m t = (rw (t 4 (length d)), refl)
+  text-refused m p t = (rw (t 4 (length d)), refl)
 
   text-left : (w : Writing) → text_in w (written_indexed code index ondex raw) d ≡ text_indexed_left (text_outcome w) code index ondex raw d
   unfolding text_outcome text_indexed_left

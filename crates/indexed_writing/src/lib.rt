@@ -9,7 +9,6 @@ ghost use Rattle.writing_raw.specs.Item.{Sized, raw_item, room_for, binary_in, t
 ghost use Rattle.indexed_head.specs.Heads.{head_bytes};
 
 use format::{BinaryOffset, IndexCode, IndexRow, Refusal, TextOffset};
-use indexed_code::Planned;
 
 // ---- an item of a row, where there is room: 3. Of a raw value that the row does not hold nothing is said.
 
@@ -56,11 +55,8 @@ pub fn write_indexed_binary(
     ensures value { result ≡ write_indexed_binary code index ondex raw.now (length out.old) }
     ensures out_after { out.new ≡ binary_indexed_left result code index ondex raw.now out.old }
 {
-    let plan = indexed_code::plan(code, index, ondex, raw.len());
-    match plan {
-        Planned::Refused(number) => Err(Refusal { number, place: 0 }),
-        Planned::Row(c) => binary_row(c, index, ondex, raw, out),
-    }
+    let c = indexed_code::plan(code, index, ondex, raw.len())?;
+    binary_row(c, index, ondex, raw, out)
 }
 
 // An indexed item as text, from the buffer's start: the text of the binary, with no buffer between.
@@ -74,12 +70,6 @@ pub fn write_indexed_text(
     ensures value { result ≡ write_indexed_text code index ondex raw.now (length out.old) }
     ensures out_after { out.new ≡ text_indexed_left result code index ondex raw.now out.old }
 {
-    let plan = indexed_code::plan(code, index, ondex, raw.len());
-    match plan {
-        Planned::Refused(refused) => Err(Refusal {
-            number: refused,
-            place: 0,
-        }),
-        Planned::Row(c) => text_row(c, index, ondex, raw, out),
-    }
+    let row = indexed_code::plan(code, index, ondex, raw.len())?;
+    text_row(row, index, ondex, raw, out)
 }

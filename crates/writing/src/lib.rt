@@ -44,8 +44,7 @@ pub fn plan_item(code: Code, tag: [u8; 11], tags: usize, raw: &[u8]) -> Plan
     ensures { result ≡ plan_of (named code) tag tags raw.now }
 {
     let n = writing_code::name_of(code);
-    let why = writing_order::refusal_of(n, tag, tags, raw);
-    if why.number != 0 {
+    if let Some(why) = writing_order::refusal_of(n, tag, tags, raw) {
         return Plan {
             planned: Planned::Refused(why.number, why.place),
             head: [0; 9],

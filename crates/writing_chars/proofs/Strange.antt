@@ -12,6 +12,7 @@ use Rattle.format.specs.Alphabet.{sextet_of, stranger_number}
 use Rattle.format.specs.Units.{text_sextets}
 use Rattle.format.specs.Conversion.{first_stranger, first_number}
 use Rattle.format.specs.Texts.{fills}
+use Rattle.std.specs.Prelude.{None}
 use Rattle.writing_refusal.specs.Refusals.{refusal, text_refusal}
 
 module _ (chars : List ℕ) (i : ℕ) (e : i ≡ first_stranger chars) where
@@ -23,7 +24,7 @@ module _ (chars : List ℕ) (i : ℕ) (e : i ≡ first_stranger chars) where
   unfolding text_refusal
   text-filled h b = rw (← e, le-ltb i (length chars) h, b)
 
-  pub text-none : length chars ≤ i → fills 1 (text_sextets chars) ≡ false → refusal 0 0 ≡ text_refusal chars
+  pub text-none : length chars ≤ i → fills 1 (text_sextets chars) ≡ false → None ≡ text_refusal chars
   unfolding text_refusal
   text-none h b = rw (← e, le-ltb i (length chars) h, b)
 

@@ -6,7 +6,7 @@ ghost use Rattle.format.specs.Units.{text_sextets};
 ghost use Rattle.format.specs.Texts.{fills};
 ghost use Rattle.writing_refusal.specs.Refusals.{text_refusal};
 
-use writing_refusal::Refusal;
+use format::Refusal;
 
 // A text's first character is `A`, which a reader could take for its fill.
 fn begins_filled(chars: &[u8]) -> bool
@@ -18,22 +18,19 @@ fn begins_filled(chars: &[u8]) -> bool
     alphabet::sextet(chars[0]) == 0
 }
 
-pub fn text_refusal(chars: &[u8]) -> Refusal
+pub fn text_refusal(chars: &[u8]) -> Option<Refusal<usize>>
     ensures { result ≡ text_refusal chars.now }
 {
     let at = alphabet_search::first_stranger(chars);
     if at < chars.len() {
         let number = alphabet_numbers::number_at(chars, at);
-        return Refusal { number, place: at };
+        return Some(Refusal { number, place: at });
     }
     if begins_filled(chars) {
-        return Refusal {
+        return Some(Refusal {
             number: 16,
             place: 0,
-        };
+        });
     }
-    Refusal {
-        number: 0,
-        place: 0,
-    }
+    None
 }

@@ -5,11 +5,11 @@ ghost use Rattle.std.specs.Prelude.{◌≡◌};
 ghost use Rattle.writing_code.specs.Names.{as_named};
 ghost use Rattle.writing_refusal.specs.Refusals.{chars_refusal, refusal_of};
 
+use format::Refusal;
 use writing_code::Named;
-use writing_refusal::Refusal;
 
 // Of a text its own characters, of every other code the tag's.
-fn chars_refusal(n: Named, tag: [u8; 11], tags: usize, raw: &[u8]) -> Refusal
+fn chars_refusal(n: Named, tag: [u8; 11], tags: usize, raw: &[u8]) -> Option<Refusal<usize>>
     ensures { result ≡ chars_refusal (as_named n) tag tags raw.now }
 {
     match n {
@@ -21,26 +21,26 @@ fn chars_refusal(n: Named, tag: [u8; 11], tags: usize, raw: &[u8]) -> Refusal
 }
 
 // In this order: 6, 12, 18, 5 or 19, 16.
-pub fn refusal_of(n: Named, tag: [u8; 11], tags: usize, raw: &[u8]) -> Refusal
+pub fn refusal_of(n: Named, tag: [u8; 11], tags: usize, raw: &[u8]) -> Option<Refusal<usize>>
     ensures { result ≡ refusal_of (as_named n) tag tags raw.now }
 {
     if !writing_code::is_named(n) {
-        return Refusal {
+        return Some(Refusal {
             number: 6,
             place: 0,
-        };
+        });
     }
     if !writing_code::is_fit(n, tags, raw.len()) {
-        return Refusal {
+        return Some(Refusal {
             number: 12,
             place: 0,
-        };
+        });
     }
     if !writing_short::is_short(n, raw.len()) {
-        return Refusal {
+        return Some(Refusal {
             number: 18,
             place: 0,
-        };
+        });
     }
     chars_refusal(n, tag, tags, raw)
 }

@@ -5,7 +5,7 @@ ghost use Rattle.std.specs.Prelude.{◌≡◌, take};
 ghost use Rattle.format.specs.Conversion.{first_stranger};
 ghost use Rattle.writing_refusal.specs.Refusals.{tag_refusal};
 
-use writing_refusal::Refusal;
+use format::Refusal;
 
 // The first of so many tag characters that is outside the alphabet. There are eleven.
 fn tag_stranger(tag: [u8; 11], tags: usize) -> usize
@@ -17,16 +17,13 @@ fn tag_stranger(tag: [u8; 11], tags: usize) -> usize
     alphabet_search::first_stranger(&tag[..tags])
 }
 
-pub fn tag_refusal(tag: [u8; 11], tags: usize) -> Refusal
+pub fn tag_refusal(tag: [u8; 11], tags: usize) -> Option<Refusal<usize>>
     ensures { result ≡ tag_refusal tag tags }
 {
     let bad = tag_stranger(tag, tags);
     if bad < tags {
         let number = alphabet_numbers::number_at(&tag, bad);
-        return Refusal { number, place: bad };
+        return Some(Refusal { number, place: bad });
     }
-    Refusal {
-        number: 0,
-        place: 0,
-    }
+    None
 }

@@ -4,12 +4,12 @@ use Rattle.indexed_name.proofs.Names.{few}
 use Rattle.indexed_code.proofs.Plans.{unknown-plan}
 use Rattle.indexed_code.proofs.plan.Goals as goal
 
-pub returns-in-Unknown : goal.returns-in-Unknown
+pub returns-in-None : goal.returns-in-None
 unfolding as_named
-returns-in-Unknown c = unknown-plan _ _ _ _ (rw c.in-Unknown.is at c.name_of-named.ensures)
+returns-in-None c = unknown-plan _ _ _ _ (rw c.in-None.is at c.name_of-named.ensures)
 
-pub returns-in-Row : goal.returns-in-Row
+pub returns-in-Some : goal.returns-in-Some
 unfolding as_named
-returns-in-Row c =
-    let name = rw c.in-Row.is at c.name_of-named.ensures in
+returns-in-Some c =
+    let name = rw c.in-Some.is at c.name_of-named.ensures in
     rw (← name) (c.plan_row.ensures (few _ _ name))

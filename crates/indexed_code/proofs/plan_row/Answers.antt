@@ -1,6 +1,5 @@
 -- `indexed_code::plan_row` meets its contract: 12, 15. Assumes nothing.
 use mathlib.Core.Path.{sym, ◌∙◌}
-use borrow.Author.Tests.{not-true, not-false}
 use Rattle.indexed_code.proofs.Plans.{unfit, not-current, fine}
 use Rattle.indexed_code.proofs.plan_row.Goals as goal
 

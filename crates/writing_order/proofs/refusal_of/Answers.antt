@@ -1,6 +1,5 @@
 -- `writing_order::refusal_of` meets its contract: the first test that fails. Assumes nothing.
 use Rattle.writing_order.proofs.Cases.{is-unknown, is-unfit, is-long, is-short}
-use borrow.Author.Tests.{not-true, not-false}
 use mathlib.Core.Path.{sym, ◌∙◌}
 use Rattle.writing_order.proofs.refusal_of.Goals as goal
 
