@@ -19,7 +19,7 @@ struct Section {
 fn quad(a: u8, b: u8, c: u8, d: u8) -> usize
     ensures { (result ≡ number_of 256 (a ∷ b ∷ c ∷ d ∷ [])) × (result < 4294967296) }
 {
-    ((usize::from(a) * 256 + usize::from(b)) * 256 + usize::from(c)) * 256 + usize::from(d)
+    u32::from_be_bytes([a, b, c, d]) as usize
 }
 
 fn count_at(s: &[u8], at: usize) -> usize

@@ -5,7 +5,6 @@ use Rattle.format.specs.declared.Code.{Code}
 use Rattle.format.specs.declared.IndexCode.{IndexCode}
 use Rattle.format.specs.declared.TextOffset.{TextOffset}
 use Rattle.format.specs.declared.BinaryOffset.{BinaryOffset}
-use Rattle.format.specs.declared.PrimitiveRead.{PrimitiveRead}
 use Rattle.format.specs.Units.{Domain, text, binary}
 use Rattle.format.specs.Offsets.{text_offset, binary_offset}
 use Rattle.format.specs.Conversion.{text_to_binary, to_binary_number, binary_left, binary_to_text, to_text_number, text_left}

@@ -23,7 +23,7 @@ fn walk_body(form: Form, letter: u8, body: &[u8]) -> Pause<usize>
     walked.pause
 }
 
-// letter: a character; len: the length of the body, which lies at the buffer's start.
+// letter: a character; len: the length of the body, which lies at the buffer's start. Size and place count the stream's elements.
 pub fn answer(form: Form, letter: u8, len: usize, buf: &[u8]) -> Result<usize, Refusal<usize>>
     ensures { result ≡ grouped form letter len buf.now }
 {

@@ -1,7 +1,7 @@
 // The index and the ondex of an indexed item, by its first sextets. What is said holds of rows whose digits lie there.
 #![tactic(auto)]
 
-ghost use Rattle.std.specs.Prelude.{◌≡◌, ◌<◌, ◌≤◌, take, drop};
+ghost use Rattle.std.specs.Prelude.{◌≡◌, ◌≤◌, take, drop};
 ghost use Rattle.base.specs.Digits.{number_of};
 ghost use Rattle.format.specs.Values.{index_of, ondex_of};
 ghost use Rattle.indexed_digits.specs.Placed.{Placed};

@@ -44,7 +44,7 @@ fn text_row(
 
 // ---- the calls: 6, 12, 15, 3
 
-// An indexed item as binary, from the buffer's start.
+// An indexed item as binary, from the buffer's start. A refusal's place is 0.
 pub fn write_indexed_binary(
     code: IndexCode,
     index: usize,

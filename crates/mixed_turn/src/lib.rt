@@ -18,7 +18,7 @@ pub enum Turn {
     Rest { number: u8 },
 }
 
-// Whether a report of n items has such places in a buffer of so many bytes: a byte of the stream, so many items stored, so many of them
+// Whether a report has such places in a buffer of so many bytes: a byte of the stream, so many items stored, so many of them
 // refused.
 fn is_place(s: &[u8], room: usize, here: Position) -> bool
     ensures { Places s.now room here.items here.at here.stored here.refused result }

@@ -8,6 +8,7 @@ ghost use Rattle.format.specs.Reading.{padded};
 ghost use Rattle.reading_tag.specs.Tags.{tag_from, Taggable};
 
 use format::{CodeRow, Kind};
+
 // Those from a place of the first sextets on, and then zeros.
 fn tag_from(cs: [u8; 12], start: usize, count: usize) -> [u8; 11]
     requires { (start + count ≤ 12) × (count ≤ 11) }

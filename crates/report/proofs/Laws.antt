@@ -18,8 +18,6 @@ use Rattle.laws.specs.Frames.{frames}
 use Rattle.claims.specs.Claims.{Demand3}
 use Rattle.claims.proofs.Demand3.{text-demand3, binary-demand3}
 use Rattle.claims.proofs.Room.{report-fits}
-use Rattle.format.specs.Alphabet.{sextet_table}
-use Rattle.runs.specs.Plain.{plain_table, class_table}
 use Rattle.runs.specs.Levels.{Clear, clear-less}
 use Rattle.runs_tables.specs.declared.Tables.{Tables}
 use Rattle.runs_tables.specs.Lent.{Lent}

@@ -134,7 +134,7 @@ fn report(form: Form, s: &[u8], out: &mut [u8]) -> Result<usize, Refusal<usize>>
     report_by(form, report_units::unit(form), &tables, s, out, known)
 }
 
-// The report of a text in a buffer: its length, or 1 or 3, which leave the buffer as it was.
+// The report of a text in a buffer: its length, or 1 or 3, placed at 0, which leave the buffer as it was.
 pub fn report_text(s: &[u8], out: &mut [u8]) -> Result<usize, Refusal<usize>>
     ensures value { result ≡ report_answer text s.now (length out.old) }
     ensures out_after { out.new ≡ report_left result text s.now out.old }

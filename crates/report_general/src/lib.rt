@@ -25,7 +25,7 @@ pub enum Turn {
     },
 }
 
-// Whether a report of n items has such places in a buffer of so many bytes: a unit of the stream, so many items stored, so many of them
+// Whether a report has such places in a buffer of so many bytes: a unit of the stream, so many items stored, so many of them
 // refused.
 pub fn is_place(form: Form, s: &[u8], room: usize, here: Position) -> bool
     ensures { Places form s.now room here.items here.at here.stored here.refused result }

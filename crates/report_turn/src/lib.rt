@@ -200,7 +200,7 @@ fn put_here(
     put_signed(form, u, tables, s, out, clean, here, g)
 }
 
-// What stands at a unit, where so many items of n are stored, and so many of them refused.
+// What stands at a unit, where so many items are stored, and so many of them refused.
 pub fn put_turn(
     form: Form,
     tables: &Tables,

@@ -32,10 +32,7 @@ fn put(out: &mut [u8], p: usize, v: usize)
     requires { p + 4 ≤ length out.old }
     ensures { out.new ≡ sets out.old p (be4 v) }
 {
-    out[p] = (v / 16777216 % 256) as u8;
-    out[p + 1] = (v / 65536 % 256) as u8;
-    out[p + 2] = (v / 256 % 256) as u8;
-    out[p + 3] = (v % 256) as u8;
+    out[p..p + 4].copy_from_slice(&v.to_be_bytes()[4..]);
 }
 
 // Two numbers and a byte: an item's row, or a remainder behind its count.

@@ -55,7 +55,7 @@ pub fn plan_item(code: Code, tag: [u8; 11], tags: usize, raw: &[u8]) -> Plan
     Plan { planned, head }
 }
 
-// A primitive as binary, from the buffer's start.
+// A primitive as binary, from the buffer's start. A refusal's place is, for 5 and 19, the index of the tag character or of the text's.
 pub fn write_binary(
     code: Code,
     tag: [u8; 11],

@@ -2,7 +2,7 @@
 // ask. A text's characters stand where the raw value does.
 #![tactic(auto)]
 
-ghost use Rattle.std.specs.Prelude.{◌≡◌, ◌<◌};
+ghost use Rattle.std.specs.Prelude.{◌≡◌};
 ghost use Rattle.format.specs.Alphabet.{sextet_of};
 ghost use Rattle.format.specs.Writing.{named, named_fixed, named_variable, is_named, is_fit, raw_size, units_of};
 ghost use Rattle.writing_code.specs.Names.{as_named};
