@@ -35,6 +35,7 @@ fn passes(file: &[u8], report: &[u8], n: usize) -> usize
     k
 }
 
+#[tactic(auto, using(crate::proofs::Laws::same_agree))]
 fn agreed(wanted: Option<u8>, found: Option<u8>) -> bool
     ensures { result ≡ agree (number_if wanted) (number_if found) }
 {

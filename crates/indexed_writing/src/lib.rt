@@ -70,6 +70,9 @@ pub fn write_indexed_text(
     ensures value { result ≡ write_indexed_text code index ondex raw.now (length out.old) }
     ensures out_after { out.new ≡ text_indexed_left result code index ondex raw.now out.old }
 {
-    let row = indexed_code::plan(code, index, ondex, raw.len())?;
-    text_row(row, index, ondex, raw, out)
+    // No `?`: the refusal's line is the one that the edit `place_of_refusal` makes wrong.
+    match indexed_code::plan(code, index, ondex, raw.len()) {
+        Ok(row) => text_row(row, index, ondex, raw, out),
+        Err(why) => Err(why),
+    }
 }

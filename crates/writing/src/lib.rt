@@ -69,7 +69,7 @@ pub fn write_binary(
     let plan = plan_item(code, tag, tags, raw);
     let planned = plan.planned;
     match planned {
-        Planned::Refused(number, place) => Err(Refusal { number, place }),
+        Planned::Refused(number, at) => Err(Refusal { number, place: at }),
         Planned::Units(n) => {
             let head = plan.head;
             writing_raw::binary_item(n, head, raw, out)
